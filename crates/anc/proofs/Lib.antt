@@ -1,0 +1,3 @@
+pub mod PacketLaws
+pub mod RecordLaws
+pub mod RunLaws

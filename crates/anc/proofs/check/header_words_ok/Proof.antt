@@ -1,0 +1,74 @@
+-- `header_words_ok` tests DID, SDID and Data_Count.
+-- Each return knows the tests of the words before it.
+use borrow.Author.Needs.{needs}
+use mathlib.Core.Path.{_≡_}
+use mathlib.Core.Bool.{and-true}
+use borrow.Author.Tests.{not-true, not-false}
+use Rattle.wire.specs.Words.{isHeaderWord}
+use Rattle.anc.proofs.PacketLaws.{headers-test, fetched}
+use Rattle.anc.proofs.check.header_words_ok.Statement.{statement}
+use Rattle.anc.proofs.check.header_words_ok.Tie as tie
+
+fetch-requires : tie.Need-fetch-requires
+fetch-requires c κs = search needs
+
+is-header-word-requires : tie.Need-is-header-word-requires
+is-header-word-requires c κs = search needs
+
+returns : tie.Need-returns
+returns c =
+    let t = c .before .is-header-word in
+    rw (headers-test (c .before .before .before .before .args .octets .now), fetched _ _ _ (c .before .before .fetch .ensures) (t .ensures), not-true (t .result) (c .if1 .taken))
+
+fetch-requires-2 : tie.Need-fetch-requires-2
+fetch-requires-2 c κs = search needs
+
+is-header-word-requires-2 : tie.Need-is-header-word-requires-2
+is-header-word-requires-2 c κs = search needs
+
+returns-2 : tie.Need-returns-2
+returns-2 c =
+    let t = c .before .before .before .before .is-header-word in
+    let u = c .before .is-header-word2 in
+    rw (
+      headers-test (c .before .before .before .before .before .before .before .args .octets .now),
+      fetched _ _ _ (c .before .before .before .before .before .fetch .ensures) (t .ensures),
+      not-false (t .result) (c .before .before .before .if1 .left),
+      fetched _ _ _ (c .before .before .fetch2 .ensures) (u .ensures),
+      not-true (u .result) (c .if2 .taken),
+    )
+
+fetch-requires-3 : tie.Need-fetch-requires-3
+fetch-requires-3 c κs = search needs
+
+is-header-word-requires-3 : tie.Need-is-header-word-requires-3
+is-header-word-requires-3 c κs = search needs
+
+returns-3 : tie.Need-returns-3
+returns-3 c =
+    let t = c .before .before .before .before .before .before .is-header-word in
+    let u = c .before .before .before .is-header-word2 in
+    let v = c .is-header-word3 in
+    rw (
+      headers-test (c .before .before .before .before .before .before .before .before .before .args .octets .now),
+      fetched _ _ _ (c .before .before .before .before .before .before .before .fetch .ensures) (t .ensures),
+      not-false (t .result) (c .before .before .before .before .before .if1 .left),
+      fetched _ _ _ (c .before .before .before .before .fetch2 .ensures) (u .ensures),
+      not-false (u .result) (c .before .before .if2 .left),
+      fetched _ _ _ (c .before .fetch3 .ensures) (v .ensures),
+      and-true (v .result),
+    )
+
+pub header-words-ok-spec : {M : Type 1} → statement M
+header-words-ok-spec =
+    tie.close
+    (tie.spec
+    fetch-requires
+    is-header-word-requires
+    returns
+    fetch-requires-2
+    is-header-word-requires-2
+    returns-2
+    fetch-requires-3
+    is-header-word-requires-3
+    returns-3)

@@ -1,0 +1,98 @@
+-- `store_header` writes the cells before a record's words, and no other cell.
+-- The eight stores, one after the other, are one.
+use borrow.Author.Needs.{needs}
+use native.Mathlib.Omega.{arith}
+use lib.ListN.{length-set}
+use lib.Seq.{sets-eq}
+use Rattle.wire.specs.Header.{headerCells}
+use Rattle.anc.proofs.header.store_header.Statement.{statement}
+use Rattle.anc.proofs.header.store_header.Tie as tie
+
+flag-requires : tie.Need-flag-requires
+flag-requires c κs = search needs
+
+slice-write-cells : tie.Need-slice-write-cells
+slice-write-cells c = search needs
+
+number-requires : tie.Need-number-requires
+number-requires c κs = search needs
+
+slice-write-cells-2 : tie.Need-slice-write-cells-2
+slice-write-cells-2 c = simp length-set (omega arith)
+
+number-requires-2 : tie.Need-number-requires-2
+number-requires-2 c κs = search needs
+
+slice-write-cells-3 : tie.Need-slice-write-cells-3
+slice-write-cells-3 c = simp length-set (omega arith)
+
+flag-requires-2 : tie.Need-flag-requires-2
+flag-requires-2 c κs = search needs
+
+slice-write-cells-4 : tie.Need-slice-write-cells-4
+slice-write-cells-4 c = simp length-set (omega arith)
+
+wide-requires : tie.Need-wide-requires
+wide-requires c κs = search needs
+
+slice-write-cells-5 : tie.Need-slice-write-cells-5
+slice-write-cells-5 c = simp length-set (omega arith)
+
+wide-requires-2 : tie.Need-wide-requires-2
+wide-requires-2 c κs = search needs
+
+slice-write-cells-6 : tie.Need-slice-write-cells-6
+slice-write-cells-6 c = simp length-set (omega arith)
+
+wide-requires-3 : tie.Need-wide-requires-3
+wide-requires-3 c κs = search needs
+
+slice-write-cells-7 : tie.Need-slice-write-cells-7
+slice-write-cells-7 c = simp length-set (omega arith)
+
+wide-requires-4 : tie.Need-wide-requires-4
+wide-requires-4 c κs = search needs
+
+slice-write-cells-8 : tie.Need-slice-write-cells-8
+slice-write-cells-8 c = simp length-set (omega arith)
+
+same-length : tie.Need-same-length
+same-length c = simp length-set
+
+returns : tie.Need-returns
+returns c =
+    let a = c .before .before .before .before .before .before .before .before .before .before .before .args in
+    rw (
+      c .before .before .before .before .before .before .before .flag .ensures,
+      c .before .before .before .before .before .before .number .ensures,
+      c .before .before .before .before .before .number2 .ensures,
+      c .before .before .before .before .flag2 .ensures,
+      c .before .before .before .wide .ensures,
+      c .before .before .wide2 .ensures,
+      c .before .wide3 .ensures,
+      c .wide4 .ensures,
+    )
+    (sets-eq (headerCells (a .h)) (a .cells .now) 0 (omega arith))
+
+pub store-header-spec : {M : Type 1} → statement M
+store-header-spec =
+    tie.close
+    (tie.spec
+    flag-requires
+    slice-write-cells
+    number-requires
+    slice-write-cells-2
+    number-requires-2
+    slice-write-cells-3
+    flag-requires-2
+    slice-write-cells-4
+    wide-requires
+    slice-write-cells-5
+    wide-requires-2
+    slice-write-cells-6
+    wide-requires-3
+    slice-write-cells-7
+    wide-requires-4
+    slice-write-cells-8
+    same-length
+    returns)

@@ -1,0 +1,27 @@
+-- What the answers say in the papers' terms: the refusal, or what was found.
+use mathlib.Core.List.{List, []}
+use Prim.Native.Nat.{ℕ}
+use lib.ListN.{length}
+use Rattle.wire.specs.Result.{Result, refused, accepted}
+use Rattle.wire.specs.Layout.{rfc8331}
+use Rattle.wire.specs.Anc.{Record, runSize}
+use Rattle.wire.specs.Cells.{listOf}
+use Rattle.anc.specs.declared.check.Verdict.{Verdict}
+use Rattle.anc.specs.declared.check.Verdict.the-variants as verdict
+use Rattle.anc.specs.declared.check.Run.{Run}
+use Rattle.anc.specs.declared.check.Run.the-variants as run
+
+-- one packet: its Data_Count
+abbrev pub verdictOf : Result Record → Verdict
+verdictOf (refused x) = verdict.Refused x
+verdictOf (accepted r) = verdict.Accepted (record { 0 = length (r .words) })
+
+-- a run: the octets of its packets, and the cells of its records
+abbrev pub runOf : Result (List Record × List ℕ) → Run
+runOf (refused x) = run.Refused x
+runOf (accepted q) = run.Accepted (record { 0 = runSize rfc8331 (q .0) }) (length (listOf (q .0)))
+
+-- the cells of a run's records
+abbrev pub runCells : Result (List Record × List ℕ) → List ℕ
+runCells (refused x) = []
+runCells (accepted q) = listOf (q .0)

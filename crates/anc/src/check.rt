@@ -1,0 +1,143 @@
+// Packets checked, without writing anything (01, "Order of reading").
+ghost use mathlib.Core.Path.{_≡_};
+ghost use Prim.Native.Nat.{_+_, _*_, _<_, _≤_, _^_};
+ghost use lib.ListN.{length};
+ghost use Rattle.wire.specs.Anc.{alignmentOk, ancSize, checksumOk, dataCount, headersOk, readAnc, readRun};
+ghost use Rattle.wire.specs.Layout.{leastSize, rfc8331};
+ghost use Rattle.wire.specs.Words.{HeaderTable, isHeaderWord, wordBits};
+ghost use Rattle.anc.specs.Answers.{runOf, verdictOf};
+use wire::count::OctetCount;
+use wire::count::WordCount;
+use wire::header::Header;
+use wire::refusal::Refusal;
+use words::size::packet_size;
+use words::sum::checksum_word;
+use words::sum::sum_octets;
+use words::word::fetch;
+
+// What one packet is.
+pub enum Verdict {
+    Accepted(WordCount),
+    Refused(Refusal),
+}
+
+// What a run of packets is: the octets that it takes, and the cells that its records take.
+pub enum Run {
+    Accepted { octets: OctetCount, cells: usize },
+    Refused(Refusal),
+}
+
+fn is_header_word(w: u16, table: &[u16; 256]) -> bool
+    requires { ⌜ HeaderTable (now table) ⌝ }
+    ensures { λ r. ⌜ r ≡ isHeaderWord w ⌝ }
+{
+    let x = (w % 256) as usize;
+    w == table[x]
+}
+
+// DID, SDID and Data_Count.
+fn header_words_ok(octets: &[u8], table: &[u16; 256]) -> bool
+    requires { ⌜ HeaderTable (now table) × (leastSize rfc8331 ≤ length (now octets)) ⌝ }
+    ensures { λ r. ⌜ r ≡ headersOk rfc8331 (now (octets .entry)) ⌝ }
+{
+    if !is_header_word(fetch(octets, 32), table) {
+        return false;
+    }
+    if !is_header_word(fetch(octets, 42), table) {
+        return false;
+    }
+    is_header_word(fetch(octets, 52), table)
+}
+
+fn checksum_ok(octets: &[u8], words: WordCount) -> bool
+    requires { ⌜ (dataCount rfc8331 (now octets) ≡ words .0) × (ancSize rfc8331 (words .0) ≤ length (now octets)) ⌝ }
+    ensures { λ r. ⌜ r ≡ checksumOk rfc8331 (now (octets .entry)) ⌝ }
+{
+    let n = words.0 as usize;
+    let sum = sum_octets(octets, 32, 3 + n);
+    fetch(octets, 62 + 10 * n) == checksum_word(sum)
+}
+
+// Four octets as one number.
+fn quad(a: u8, b: u8, c: u8, d: u8) -> u32
+    ensures { λ r. ⌜ r ≡ ((a * 256 + b) * 256 + c) * 256 + d ⌝ }
+{
+    (((a as u32) * 256 + (b as u32)) * 256 + (c as u32)) * 256 + (d as u32)
+}
+
+// The alignment bits stand last in the packet's last four octets.
+fn alignment_ok(octets: &[u8], words: WordCount) -> bool
+    requires { ⌜ (dataCount rfc8331 (now octets) ≡ words .0) × (ancSize rfc8331 (words .0) ≤ length (now octets)) ⌝ }
+    ensures { λ r. ⌜ r ≡ alignmentOk rfc8331 (now (octets .entry)) ⌝ }
+{
+    let size = packet_size(words);
+    let n = words.0 as usize;
+    let i = size.0 - 4;
+    let unit: u32 = 1 << (8 * size.0 - (72 + 10 * n));
+    quad(octets[i], octets[i + 1], octets[i + 2], octets[i + 3]) % unit == 0
+}
+
+impl Verdict {
+    fn refuse(number: u8, index: usize) -> Verdict
+        ensures { λ r. ⌜ r ≡ Verdict.Refused (record { number = number; index = index }) ⌝ }
+    {
+        Verdict::Refused(Refusal { number, index })
+    }
+}
+
+// The packet at the front of the octets, the run's packet `index`.
+fn check_packet(octets: &[u8], index: usize, table: &[u16; 256]) -> Verdict
+    requires { ⌜ HeaderTable (now table) ⌝ }
+    ensures { λ r. ⌜ r ≡ verdictOf (readAnc rfc8331 index (now (octets .entry))) ⌝ }
+{
+    if octets.len() < 12 {
+        return Verdict::refuse(Refusal::ANC_CUT, index);
+    }
+    if !header_words_ok(octets, table) {
+        return Verdict::refuse(Refusal::HEADER_WORD_MALFORMED, index);
+    }
+    let words = WordCount((fetch(octets, 52) % 256) as u8);
+    let size = packet_size(words);
+    if octets.len() < size.0 {
+        return Verdict::refuse(Refusal::ANC_CUT, index);
+    }
+    if !checksum_ok(octets, words) {
+        return Verdict::refuse(Refusal::CHECKSUM_WRONG, index);
+    }
+    if !alignment_ok(octets, words) {
+        return Verdict::refuse(Refusal::ALIGNMENT_BIT_SET, index);
+    }
+    Verdict::Accepted(words)
+}
+
+// `count` packets at the front of the octets.
+pub fn check_run(octets: &[u8], count: u8) -> Run
+    ensures { λ r. ⌜ r ≡ runOf (readRun rfc8331 0 count (now (octets .entry))) ⌝ }
+{
+    let table = words::table::header_words();
+    let n = count as usize;
+    let mut rest = octets;
+    let mut used: usize = 0;
+    let mut cells: usize = 0;
+    let mut i: usize = 0;
+    while i < n {
+        let verdict = check_packet(rest, i, &table);
+        match verdict {
+            Verdict::Refused(refusal) => {
+                return Run::Refused(refusal);
+            }
+            Verdict::Accepted(words) => {
+                let size = packet_size(words);
+                let step = size.0;
+                rest = &rest[step..];
+                used += step;
+                cells += Header::CELLS + (words.0 as usize);
+            }
+        }
+        i += 1;
+    }
+    Run::Accepted {
+        octets: OctetCount(used),
+        cells,
+    }
+}

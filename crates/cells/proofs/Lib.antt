@@ -1,0 +1,4 @@
+pub mod FourOctets
+pub mod ListRun
+pub mod PacketBits
+pub mod RunLeft

@@ -1,0 +1,141 @@
+-- `check_list` answers how many records a list has and the octets of their packets, or the refusal.
+-- Invariant: what was counted, with what the cells that are left will add, is the answer; and the sums fit.
+use borrow.Author.Needs.{needs}
+use mathlib.Core.Path.{_≡_, ap, sym, _∙_, subst}
+use mathlib.Core.List.{List}
+use Prim.Native.Nat.{ℕ, _+_, _*_, _≤_}
+use native.Mathlib.Omega.{arith}
+use lib.ListN.{length, length-drop}
+use Rattle.wire.specs.Layout.{rfc8331}
+use Rattle.wire.specs.Anc.{ancSize}
+use Rattle.wire.specs.Cells.{headCells, cellCount, rest, cellChecks, recordsFrom, readList}
+use Rattle.wire.proofs.ListLaws.{part-all}
+use Rattle.wire.proofs.ResultLaws.{Passed}
+use Rattle.wire.proofs.SizeLaws.{size-cells}
+use Rattle.cells.specs.Answers.{listedOf}
+use Rattle.cells.proofs.ListRun.{Lies, lies, rest-is, taken, tally, tally-none, tally-next, tally-stops, tally-ends}
+use Rattle.cells.proofs.check.check_list.Statement.{statement}
+use Rattle.cells.proofs.check.check_list.Tie as tie
+
+abbrev Inv-loop : tie.InvT-loop
+Inv-loop cells rest₀ octets₀ count₀ rest octets count =
+    (count + length rest ≤ length cells) × (2 * octets + 3 * length rest ≤ 3 * length cells)
+    × (tally count octets (recordsFrom (length rest) count rest) ≡ listedOf (readList cells))
+
+abbrev μ-loop : tie.MeasureT-loop
+μ-loop cells rest₀ octets₀ count₀ rest octets count = length rest
+
+loop-holds : tie.Need-loop-holds Inv-loop μ-loop
+loop-holds c = (omega arith, omega arith, tally-none (readList (c .before .args .cells .now)))
+
+check-record-requires : tie.Need-check-record-requires Inv-loop μ-loop
+check-record-requires c κs = search needs
+
+enum-told : tie.Need-enum-told Inv-loop μ-loop
+enum-told c = search needs
+
+returns : tie.Need-returns Inv-loop μ-loop
+returns c =
+    let k = c .before .before in
+    let l = k .before .before .loop in
+    sym (tally-stops (l .count) (l .octets) (l .rest .now) (k .before .loop-test .taken) (sym (k .check-record .ensures) ∙ c .enum-told .given .1))
+    ∙ l .inv .2
+
+enum-known-front : tie.Need-enum-known-front Inv-loop μ-loop
+enum-known-front c = search needs
+
+-- the record at the front passes its checks, and lies in the cells
+front-passes : (c : tie.After-front Inv-loop μ-loop)
+    → let left = c .before .before .before .before .loop .rest .now in
+    Passed (cellChecks left) × Lies left × (c .front .given .0 .0 .0 ≡ cellCount left)
+front-passes c =
+    let p = taken _ (c .front .given .0 .0) (sym (c .before .before .check-record .ensures) ∙ c .front .given .1) in
+    (p .0, lies _ (p .0), p .1)
+
+packet-size-requires : tie.Need-packet-size-requires Inv-loop μ-loop
+packet-size-requires c κs = search needs
+
+cast-step : tie.Need-cast-step Inv-loop μ-loop
+cast-step c = search needs
+
+add-step : tie.Need-add-step Inv-loop μ-loop
+add-step c = omega (arith, front-passes (c .before .before .before))
+
+mul-rest : tie.Need-mul-rest Inv-loop μ-loop
+mul-rest c = omega (arith, front-passes (c .before .before .before))
+
+sub-rest : tie.Need-sub-rest Inv-loop μ-loop
+sub-rest c = omega (arith, front-passes (c .before .before .before))
+
+part-rest-start : tie.Need-part-rest-start Inv-loop μ-loop
+part-rest-start c = omega (arith, front-passes (c .before .before .before))
+
+part-rest-end : tie.Need-part-rest-end Inv-loop μ-loop
+part-rest-end c = search needs
+
+-- its packet's size, at most one and a half octets for each of its cells
+size-is : (c : tie.After-packet-size Inv-loop μ-loop)
+    → let left = c .before .before .before .before .before .before .loop .rest .now in
+    (c .packet-size .result .0 ≡ ancSize rfc8331 (cellCount left)) × (2 * c .packet-size .result .0 ≤ 3 * (headCells + cellCount left))
+size-is c =
+    let e = c .packet-size .ensures ∙ ap (ancSize rfc8331) (front-passes (c .before .before) .2) in
+    (e, rw e (size-cells rfc8331 _))
+
+add-octets : tie.Need-add-octets Inv-loop μ-loop
+add-octets c = omega (arith, front-passes (c .before .before .before .before .before), size-is (c .before .before .before))
+
+add-count : tie.Need-add-count Inv-loop μ-loop
+add-count c = search needs
+
+loop-less : tie.Need-loop-less Inv-loop μ-loop
+loop-less c =
+    let f = c .before .before .before .before .before in
+    let r = f .before .before .before .before .loop .rest .now in
+    let k = 8 + f .front .given .0 .0 .0 in
+    rw (part-all k r, length-drop k r) (omega arith)
+
+loop-again : tie.Need-loop-again Inv-loop μ-loop
+loop-again c =
+    let p = c .before .before .before in
+    let f = p .before .before in
+    let i = f .before .before .before in
+    let l = i .before .loop in
+    let r = l .rest .now in
+    let cells = i .before .before .before .args .cells .now in
+    let h = front-passes f in
+    let d = length-drop (headCells + cellCount r) r in
+    subst (λ (x : List ℕ). Inv-loop cells cells 0 0 x (l .octets + p .packet-size .result .0) (l .count + 1))
+    (sym (rest-is r (f .front .given .0 .0 .0) (h .2))) (
+      omega arith,
+      omega (arith, size-is p),
+      rw (size-is p .0) (sym (tally-next (l .count) (l .octets) r (i .loop-test .taken) (h .0)) ∙ l .inv .2),
+    )
+
+returns-2 : tie.Need-returns-2 Inv-loop μ-loop
+returns-2 c =
+    let l = c .before .loop in
+    sym (tally-ends (l .count) (l .octets) (l .rest .now) (c .loop-test .left)) ∙ l .inv .2
+
+pub check-list-spec : {M : Type 1} → statement M
+check-list-spec =
+    tie.close
+    (tie.spec
+    Inv-loop
+    μ-loop
+    loop-holds
+    check-record-requires
+    enum-told
+    returns
+    enum-known-front
+    packet-size-requires
+    cast-step
+    add-step
+    mul-rest
+    sub-rest
+    part-rest-start
+    part-rest-end
+    add-octets
+    add-count
+    loop-less
+    loop-again
+    returns-2)

@@ -1,0 +1,147 @@
+-- A list of cells is taken exactly when it is the cells of well-formed records.
+-- By the record at its front: its checks pass exactly where the cells of a well-formed record stand.
+use mathlib.Core.Path.{_≡_, refl, ap, ap₂, sym, _∙_, subst}
+use mathlib.Core.Bool.{true}
+use mathlib.Core.Logic.{_↔_}
+use mathlib.Core.List.{List, [], _∷_, _++_, nil≢cons, cons-eq-cons}
+use Prim.Native.Nat.{ℕ, zero, suc, _+_, _^_, _<_, _≤_}
+use native.Mathlib.Nat.{le-refl}
+use native.Mathlib.Omega.{arith}
+use lib.ListN.{length, take, drop, getD, length-append, length-drop, take-append-drop}
+use lib.Seq.{drop-cons, take-append-seam, drop-append-seam, length-take-le, drop-drop}
+use lib.Dec.{ltb}
+use borrow.Author.Tests.{leb-true, le-leb, ltb-true, lt-ltb}
+use Rattle.wire.specs.Bits.{Below}
+use Rattle.wire.specs.Words.{wordBits, headerNumbers}
+use Rattle.wire.specs.Layout.{rfc8331, sBits, streamBits}
+use Rattle.wire.specs.Result.{accepted}
+use Rattle.wire.specs.Anc.{Record, WellFormed, Each}
+use Rattle.wire.specs.Cells.{headCells, cellsOf, listOf, cellCount, cellRecord, allBelow, headInRange, cellChecks, rest, recordsFrom, readList}
+use Rattle.wire.proofs.ResultLaws.{Passed, accepted-inj, judge-accepts, judge-passes, then-accepts, and-true, and-both}
+
+-- the test of a bound is the bound
+pub below-iff : (b : ℕ) (xs : List ℕ) → (allBelow b xs ≡ true) ↔ Below b xs
+below-iff b [] = (λ e. tt, λ h. refl)
+below-iff b (x ∷ xs) =
+    let ih = below-iff b xs in
+    (λ e. let a = and-true _ _ e in (ltb-true x b (a .0), ih .0 (a .1)), λ h. and-both (lt-ltb x b (h .0)) (ih .1 (h .1)))
+
+eight-cells : (l : List ℕ) → headCells ≤ length l
+    → l ≡ getD l 0 0 ∷ getD l 1 0 ∷ getD l 2 0 ∷ getD l 3 0 ∷ getD l 4 0 ∷ getD l 5 0 ∷ getD l 6 0 ∷ cellCount l ∷ drop headCells l
+eight-cells l h =
+    let at : (k : ℕ) → k < length l → getD l k 0 ∷ drop (suc k) l ≡ drop k l = λ k lt. sym (drop-cons l k 0 lt) in
+    rw (
+      at 7 (omega arith),
+      at 6 (omega arith),
+      at 5 (omega arith),
+      at 4 (omega arith),
+      at 3 (omega arith),
+      at 2 (omega arith),
+      at 1 (omega arith),
+      at 0 (omega arith),
+    )
+
+-- cells that pass start with the cells of their record, which is well-formed
+pub front-passed : (l : List ℕ) → Passed (cellChecks l) → WellFormed rfc8331 (cellRecord l) × (l ≡ cellsOf (cellRecord l) ++ rest l)
+unfolding cellChecks cellRecord headInRange
+front-passed l p =
+    let n = cellCount l in
+    let h8 : headCells ≤ length l = leb-true headCells (length l) search in
+    let hn : headCells + n ≤ length l = leb-true (headCells + n) (length l) search in
+    let lw : length (take n (drop headCells l)) ≡ n = length-take-le n (drop headCells l) (rw (length-drop headCells l) (omega arith)) in
+    let a0 = and-true (ltb (getD l 0 0) (2 ^ 1)) _ (p .1 .0) in
+    let a1 = and-true (ltb (getD l 1 0) (2 ^ 11)) _ (a0 .1) in
+    let a2 = and-true (ltb (getD l 2 0) (2 ^ 12)) _ (a1 .1) in
+    let a3 = and-true (ltb (getD l 3 0) (2 ^ sBits rfc8331)) _ (a2 .1) in
+    let a4 = and-true (ltb (getD l 4 0) (2 ^ streamBits rfc8331)) _ (a3 .1) in
+    let a5 = and-true (ltb (getD l 5 0) headerNumbers) _ (a4 .1) in
+    let a6 = and-true (ltb (getD l 6 0) headerNumbers) (ltb n headerNumbers) (a5 .1) in (
+      record {
+        c = ltb-true _ _ (a0 .0);
+        line = ltb-true _ _ (a1 .0);
+        offset = ltb-true _ _ (a2 .0);
+        s = ltb-true _ _ (a3 .0);
+        stream = ltb-true _ _ (a4 .0);
+        did = ltb-true _ _ (a5 .0);
+        sdid = ltb-true _ _ (a6 .0);
+        count = rw lw (ltb-true _ _ (a6 .1));
+        words = below-iff (2 ^ wordBits) (take n (drop headCells l)) .0 search;
+      },
+      rw (lw, ← drop-drop n headCells l, take-append-drop n (drop headCells l)) (eight-cells l h8),
+    )
+
+-- and the cells of a well-formed record pass, with the record read back and what follows left
+pub front-reads : (r : Record) (t : List ℕ) → WellFormed rfc8331 r
+    → Passed (cellChecks (cellsOf r ++ t)) × (cellRecord (cellsOf r ++ t) ≡ r) × (rest (cellsOf r ++ t) ≡ t)
+unfolding cellChecks cellRecord headInRange
+front-reads r t h =
+    let n = length (r .words) in
+    let w : take n (r .words ++ t) ≡ r .words = take-append-seam (r .words) t in (
+      (
+        le-leb headCells (length (cellsOf r ++ t)) (omega arith),
+        (
+          and-both (lt-ltb _ _ (h .c))
+              (and-both (lt-ltb _ _ (h .line))
+              (and-both (lt-ltb _ _ (h .offset))
+              (and-both (lt-ltb _ _ (h .s))
+              (and-both (lt-ltb _ _ (h .stream)) (and-both (lt-ltb _ _ (h .did)) (and-both (lt-ltb _ _ (h .sdid)) (lt-ltb _ _ (h .count)))))))),
+          (
+            le-leb (headCells + n) (length (cellsOf r ++ t)) (omega (arith, length-append (r .words) t)),
+            (rw w (below-iff (2 ^ wordBits) (r .words) .1 (h .words)), tt),
+          ),
+        ),
+      ),
+      λ i. record { c = r .c; line = r .line; offset = r .offset; s = r .s; stream = r .stream; did = r .did; sdid = r .sdid; words = w i },
+      sym (drop-drop n headCells (cellsOf r ++ t)) ∙ drop-append-seam (r .words) t,
+    )
+
+-- with a bound that is large enough, cells are taken exactly when they are those of well-formed records
+pub records-iff : (bound i : ℕ) (l : List ℕ) → length l ≤ bound → (rs : List Record)
+    → (recordsFrom bound i l ≡ accepted rs) ↔ (Each (WellFormed rfc8331) rs × (l ≡ listOf rs))
+unfolding recordsFrom
+records-iff zero i [] h [] = (λ e. (tt, refl), λ p. refl)
+records-iff zero i [] h (r ∷ rs) = (λ e. absurd (nil≢cons (accepted-inj e)), λ p. absurd (nil≢cons (p .1)))
+records-iff zero i (x ∷ l) h rs = absurd (omega arith)
+records-iff (suc bound) i [] h [] = (λ e. (tt, refl), λ p. refl)
+records-iff (suc bound) i [] h (r ∷ rs) = (λ e. absurd (nil≢cons (accepted-inj e)), λ p. absurd (nil≢cons (p .1)))
+records-iff (suc bound) i (x ∷ l) h [] = (
+  λ e.
+      let a = judge-accepts i (cellChecks (x ∷ l)) _ [] e in
+      let b = then-accepts (recordsFrom bound (i + 1) (rest (x ∷ l))) _ [] (a .1) in
+      absurd (nil≢cons (sym (accepted-inj (b .2)))),
+  λ p. absurd (nil≢cons (sym (p .1))),
+)
+records-iff (suc bound) i (x ∷ l) h (r ∷ rs) =
+    let d : length (rest (x ∷ l)) ≤ bound = rw (length-drop (headCells + cellCount (x ∷ l)) (x ∷ l)) (omega arith) in
+    let ih = records-iff bound (i + 1) (rest (x ∷ l)) d rs in (
+      λ e.
+          let a = judge-accepts i (cellChecks (x ∷ l)) _ (r ∷ rs) e in
+          let b = then-accepts (recordsFrom bound (i + 1) (rest (x ∷ l))) _ (r ∷ rs) (a .1) in
+          let c = cons-eq-cons .0 (accepted-inj (b .2)) in
+          let f = front-passed (x ∷ l) (a .0) in
+          let more = ih .0 (b .1 ∙ ap accepted (c .1)) in
+          ((subst (WellFormed rfc8331) (c .0) (f .0), more .0), f .1 ∙ ap₂ (λ (y : Record) (t : List ℕ). cellsOf y ++ t) (c .0) (more .1)),
+      λ p.
+          let f = subst (λ (y : List ℕ). Passed (cellChecks y) × (cellRecord y ≡ r) × (rest y ≡ listOf rs)) (sym (p .1)) (front-reads r (listOf rs) (p .0 .0)) in
+          judge-passes i (cellChecks (x ∷ l)) _ (f .0) ∙ rw (ih .1 (p .0 .1, f .2), f .1),
+    )
+
+-- A LIST is taken exactly when it is the cells of well-formed records
+pub list-iff : (l : List ℕ) (rs : List Record) → (readList l ≡ accepted rs) ↔ (Each (WellFormed rfc8331) rs × (l ≡ listOf rs))
+list-iff l = records-iff (length l) 0 l (le-refl (length l))
+
+bounds-agree : (b c i : ℕ) (l : List ℕ) → length l ≤ b → length l ≤ c → recordsFrom b i l ≡ recordsFrom c i l
+unfolding recordsFrom
+bounds-agree zero zero i l h k = refl
+bounds-agree zero (suc c) i [] h k = refl
+bounds-agree zero (suc c) i (x ∷ l) h k = absurd (omega arith)
+bounds-agree (suc b) zero i [] h k = refl
+bounds-agree (suc b) zero i (x ∷ l) h k = absurd (omega arith)
+bounds-agree (suc b) (suc c) i [] h k = refl
+bounds-agree (suc b) (suc c) i (x ∷ l) h k =
+    let e = length-drop (headCells + cellCount (x ∷ l)) (x ∷ l) in
+    rw (bounds-agree b c (i + 1) (rest (x ∷ l)) (rw e (omega arith)) (rw e (omega arith)))
+
+-- any bound that is large enough gives the same
+pub records-bound : (b i : ℕ) (l : List ℕ) → length l ≤ b → recordsFrom b i l ≡ recordsFrom (length l) i l
+records-bound b i l h = bounds-agree b (length l) i l h (le-refl (length l))

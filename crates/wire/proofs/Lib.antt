@@ -1,0 +1,15 @@
+pub mod BitLaws
+pub mod Window
+pub mod ListLaws
+pub mod Store
+pub mod ResultLaws
+pub mod WordLaws
+pub mod SizeLaws
+pub mod PacketStore
+pub mod HeadLaws
+pub mod AncLaws
+pub mod CellLaws
+pub mod RoundTrip
+pub mod LocationLaws
+pub mod HeaderLaws
+pub mod Examples

@@ -1,0 +1,54 @@
+-- The size of an ANC data packet: whole octets, a multiple of the alignment, never under the least size.
+-- By cases on the layout, where its numbers are numerals; the rest is linear.
+use mathlib.Core.Path.{_≡_, ap, ap₂, _∙_}
+use mathlib.Core.Logic.{⊎-elim}
+use mathlib.Core.List.{List, [], _∷_, _++_}
+use Prim.Native.Nat.{ℕ, zero, suc, _+_, _-_, _*_, _/_, _%_, _<_, _≤_}
+use native.Mathlib.Nat.{eq-zero-or-pos, add-zero}
+use native.Mathlib.Omega.{arith}
+use lib.ListN.{length, length-append}
+use Rattle.wire.specs.Bits.{Fields, width, row}
+use Rattle.wire.specs.Words.{wordBits}
+use Rattle.wire.specs.Layout.{Layout, rfc8331, alignment, leastSize}
+use Rattle.wire.specs.Anc.{Record, checksum, headerFields, bodyFields, padding, ancFields, ancOctets, runOctets, bodyBits, ancSize}
+use Rattle.wire.specs.Cells.{headCells}
+use Rattle.wire.proofs.BitLaws.{width-append, width-row, length-pack}
+
+pub width-body : (L : Layout) (r : Record) → width (bodyFields L r) ≡ bodyBits L (length (r .words))
+width-body L r =
+    omega (arith, width-append (row wordBits (r .words)) ((wordBits, checksum r) ∷ []), width-row wordBits (r .words))
+
+-- body and alignment fill whole octets
+pub size-bits : (L : Layout) (n : ℕ) → bodyBits L n + padding (alignment L) (bodyBits L n) ≡ 8 * ancSize L n
+unfolding ancSize
+size-bits rfc8331 n = omega arith
+
+pub width-anc : (L : Layout) (r : Record) → width (ancFields L r) ≡ 8 * ancSize L (length (r .words))
+width-anc L r =
+    width-append (bodyFields L r) _
+    ∙ rw (width-body L r, add-zero (padding (alignment L) (bodyBits L (length (r .words))))) (size-bits L (length (r .words)))
+
+pub length-anc : (L : Layout) (r : Record) → length (ancOctets L r) ≡ ancSize L (length (r .words))
+length-anc L r = length-pack [] (ancFields L r) (ancSize L (length (r .words))) (width-anc L r)
+
+rounded-up : (b : ℕ) → (b + padding 32 b) / 8 ≡ 4 * ((b + 31) / 32)
+rounded-up b = ⊎-elim (λ (h : b % 32 ≡ 0). rw h (omega arith)) (λ (h : 0 < b % 32). omega arith) (eq-zero-or-pos (b % 32))
+
+-- "Size in octets: 4 x ceiling((72 + 10n) / 32)"
+pub size-rfc8331 : (n : ℕ) → ancSize rfc8331 n ≡ 4 * ((72 + 10 * n + 31) / 32)
+unfolding ancSize
+size-rfc8331 n = rounded-up (72 + 10 * n)
+
+pub least-size : (L : Layout) (n : ℕ) → leastSize L ≤ ancSize L n
+least-size rfc8331 n = rw (size-rfc8331 n) (omega arith)
+
+-- a record of n words takes headCells + n cells, and at most one and a half octets for each
+half-more : (n : ℕ) → 2 * (4 * ((72 + 10 * n + 31) / 32)) ≤ 24 + 3 * n
+half-more zero = omega arith
+half-more (suc zero) = omega arith
+half-more (suc (suc zero)) = omega arith
+half-more (suc (suc (suc zero))) = omega arith
+half-more (suc (suc (suc (suc n)))) = omega arith
+
+pub size-cells : (L : Layout) (n : ℕ) → 2 * ancSize L n ≤ 3 * (headCells + n)
+size-cells rfc8331 n = rw (size-rfc8331 n) (omega (arith, half-more n))

@@ -1,0 +1,80 @@
+-- Records in a lent list of sixteen-bit cells (01, "Records in a lent list").
+use mathlib.Core.Bool.{Bool, true, _&&_}
+use mathlib.Core.List.{List, [], _∷_, _++_}
+use Prim.Native.Nat.{ℕ, zero, suc, _+_, _^_}
+use lib.Dec.{leb, ltb}
+use lib.ListN.{length, take, drop, getD}
+use Rattle.wire.specs.Words.{wordBits, headerNumbers}
+use Rattle.wire.specs.Layout.{rfc8331, sBits, streamBits}
+use Rattle.wire.specs.Anc.{Record}
+use Rattle.wire.specs.Result.{Result, accepted, refuse, Checks, judge, _then_}
+
+-- cells before a record's words
+abbrev pub headCells : ℕ
+headCells = 8
+
+-- "A record is C, line, offset, S, StreamNum, DID, SDID, n, then n words"
+abbrev pub cellsOf : Record → List ℕ
+cellsOf r =
+    r .c ∷ r .line ∷ r .offset ∷ r .s ∷ r .stream ∷ r .did ∷ r .sdid ∷ length (r .words) ∷ r .words
+
+abbrev pub listOf : List Record → List ℕ
+listOf [] = []
+listOf (r ∷ rs) = cellsOf r ++ listOf rs
+
+-- Reading the record at the front of the cells `l`.
+abbrev pub cellCount : List ℕ → ℕ
+cellCount l = getD l 7 0
+
+unfoldable pub cellRecord : List ℕ → Record
+cellRecord l =
+    record {
+      c = getD l 0 0;
+      line = getD l 1 0;
+      offset = getD l 2 0;
+      s = getD l 3 0;
+      stream = getD l 4 0;
+      did = getD l 5 0;
+      sdid = getD l 6 0;
+      words = take (cellCount l) (drop headCells l);
+    }
+
+abbrev pub allBelow : ℕ → List ℕ → Bool
+allBelow b [] = true
+allBelow b (x ∷ xs) = ltb x b && allBelow b xs
+
+-- "20: list malformed: a cell too large for its field, .."
+unfoldable pub headInRange : List ℕ → Bool
+headInRange l =
+    ltb (getD l 0 0) (2 ^ 1)
+    && (ltb (getD l 1 0) (2 ^ 11)
+    && (ltb (getD l 2 0) (2 ^ 12)
+    && (ltb (getD l 3 0) (2 ^ sBits rfc8331)
+    && (ltb (getD l 4 0) (2 ^ streamBits rfc8331)
+    && (ltb (getD l 5 0) headerNumbers && (ltb (getD l 6 0) headerNumbers && ltb (cellCount l) headerNumbers))))))
+
+-- ".. a record cut"
+unfoldable pub cellChecks : List ℕ → Checks
+cellChecks l =
+    (leb headCells (length l), 20)
+    ∷ (headInRange l, 20)
+    ∷ (leb (headCells + cellCount l) (length l), 20)
+    ∷ (allBelow (2 ^ wordBits) (take (cellCount l) (drop headCells l)), 20)
+    ∷ []
+
+-- the cells behind the record at the front
+abbrev pub rest : List ℕ → List ℕ
+rest l = drop (headCells + cellCount l) l
+
+-- the records of the cells `l`, the first with index `i`; the first argument bounds how many there can be
+unfoldable pub recordsFrom : ℕ → ℕ → List ℕ → Result (List Record)
+recordsFrom zero i [] = accepted []
+recordsFrom zero i (x ∷ l) = refuse 20 i
+recordsFrom (suc bound) i [] = accepted []
+recordsFrom (suc bound) i (x ∷ l) =
+    judge i (cellChecks (x ∷ l))
+    (recordsFrom bound (i + 1) (rest (x ∷ l)) then λ rs. accepted (cellRecord (x ∷ l) ∷ rs))
+
+-- a list has at most as many records as cells
+abbrev pub readList : List ℕ → Result (List Record)
+readList l = recordsFrom (length l) 0 l

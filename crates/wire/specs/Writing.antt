@@ -1,0 +1,76 @@
+-- Writing an RTP packet (01, "Writing": 24, 20, 21, 22, 23; "Written packets have P, X and CC zero").
+use mathlib.Core.Bool.{not, _&&_}
+use mathlib.Core.List.{List, [], _∷_}
+use Prim.Native.Nat.{ℕ, _/_, _%_}
+use lib.Dec.{eqb, leb}
+use lib.ListN.{length}
+use Rattle.wire.specs.Layout.{Layout}
+use Rattle.wire.specs.Result.{Result, accepted, Checks, judge, _then_}
+use Rattle.wire.specs.Anc.{Record}
+use Rattle.wire.specs.Cells.{readList}
+use Rattle.wire.specs.Packet.{maxPacket, Packet, packetOctets, Content}
+
+-- records and cells that a packet may have, and that a field may have (01, refusals 21 and 35)
+abbrev pub maxRecords : ℕ
+maxRecords = 255
+
+abbrev pub maxCells : ℕ
+maxCells = 16384
+
+abbrev pub maxType : ℕ
+maxType = 127
+
+-- the packet with nothing but what the content says
+abbrev pub plain : Content → Packet
+plain k =
+    record {
+      p = 0;
+      x = 0;
+      marker = k .marker;
+      type = k .type;
+      sequence = k .number % 65536;
+      timestamp = k .timestamp;
+      source = k .source;
+      sources = [];
+      profile = 0;
+      extension = [];
+      extended = k .number / 65536;
+      f = k .f;
+      reserved = 0;
+      records = k .records;
+      padding = [];
+    }
+
+abbrev pub contentOctets : Layout → Content → List ℕ
+contentOctets L k = packetOctets L (plain k)
+
+-- the six values of `k`, and the records `rs`
+abbrev pub withRecords : Content → List Record → Content
+withRecords k rs =
+    record {
+      source = k .source;
+      type = k .type;
+      marker = k .marker;
+      number = k .number;
+      timestamp = k .timestamp;
+      f = k .f;
+      records = rs;
+    }
+
+-- 24: "payload type over 127, or F is 1 or over 3"
+abbrev pub headChecks : Content → Checks
+headChecks k = (leb (k .type) maxType && (leb (k .f) 3 && not (eqb (k .f) 1)), 24) ∷ []
+
+-- 21, 22, 23, for a list of so many cells and lent room for so many octets
+abbrev pub limitChecks : Layout → Content → (cells room : ℕ) → Checks
+limitChecks L k cells room =
+    (leb (length (k .records)) maxRecords && leb cells maxCells, 21)
+    ∷ (leb (length (contentOctets L k)) maxPacket, 22)
+    ∷ (leb (length (contentOctets L k)) room, 23)
+    ∷ []
+
+unfoldable pub writeContent : Layout → Content → List ℕ → ℕ → Result (List ℕ)
+writeContent L k cells room =
+    judge 0 (headChecks k)
+    (readList cells then
+    λ rs. judge 0 (limitChecks L (withRecords k rs) (length cells) room) (accepted (contentOctets L (withRecords k rs))))

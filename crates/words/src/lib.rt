@@ -1,0 +1,6 @@
+// The ten-bit words of ANC data packets. Every function here serves the crates above and states what it asks of them.
+pub mod row;
+pub mod size;
+pub mod sum;
+pub mod table;
+pub mod word;
