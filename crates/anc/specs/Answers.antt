@@ -2,6 +2,7 @@
 use mathlib.Core.List.{List, []}
 use Prim.Native.Nat.{ℕ}
 use lib.ListN.{length}
+use Rattle.wire.specs.declared.refusal.Refusal.{Refusal}
 use Rattle.wire.specs.Result.{Result, refused, accepted}
 use Rattle.wire.specs.Layout.{rfc8331}
 use Rattle.wire.specs.Anc.{Record, runSize}
@@ -20,6 +21,10 @@ verdictOf (accepted r) = verdict.Accepted (record { 0 = length (r .words) })
 abbrev pub runOf : Result (List Record × List ℕ) → Run
 runOf (refused x) = run.Refused x
 runOf (accepted q) = run.Accepted (record { 0 = runSize rfc8331 (q .0) }) (length (listOf (q .0)))
+
+abbrev pub runRefusal : Run → Refusal
+runRefusal (run.Refused x) = x
+runRefusal (run.Accepted o c) = record { number = 0; index = 0 }
 
 -- the cells of a run's records
 abbrev pub runCells : Result (List Record × List ℕ) → List ℕ

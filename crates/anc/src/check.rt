@@ -5,7 +5,7 @@ ghost use lib.ListN.{length};
 ghost use Rattle.wire.specs.Anc.{alignmentOk, ancSize, checksumOk, dataCount, headersOk, readAnc, readRun};
 ghost use Rattle.wire.specs.Layout.{leastSize, rfc8331};
 ghost use Rattle.wire.specs.Words.{HeaderTable, isHeaderWord, wordBits};
-ghost use Rattle.anc.specs.Answers.{runOf, verdictOf};
+ghost use Rattle.anc.specs.Answers.{runOf, runRefusal, verdictOf};
 use wire::count::OctetCount;
 use wire::count::WordCount;
 use wire::header::Header;
@@ -75,6 +75,24 @@ fn alignment_ok(octets: &[u8], words: WordCount) -> bool
     let i = size.0 - 4;
     let unit: u32 = 1 << (8 * size.0 - (72 + 10 * n));
     quad(octets[i], octets[i + 1], octets[i + 2], octets[i + 3]) % unit == 0
+}
+
+impl Run {
+    // The refusal of a run.
+    pub fn refusal(self) -> Refusal
+        ensures { λ r. ⌜ r ≡ runRefusal self ⌝ }
+    {
+        match self {
+            Run::Refused(refusal) => refusal,
+            Run::Accepted {
+                octets: _,
+                cells: _,
+            } => Refusal {
+                number: 0,
+                index: 0,
+            },
+        }
+    }
 }
 
 impl Verdict {

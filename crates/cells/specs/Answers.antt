@@ -3,6 +3,7 @@ use mathlib.Core.Bool.{cond}
 use mathlib.Core.List.{List, []}
 use Prim.Native.Nat.{ℕ}
 use lib.ListN.{length}
+use Rattle.wire.specs.declared.refusal.Refusal.{Refusal}
 use Rattle.wire.specs.Result.{Result, refused, accepted, judge}
 use Rattle.wire.specs.Layout.{rfc8331}
 use Rattle.wire.specs.Anc.{Record, runSize, runOctets}
@@ -24,6 +25,10 @@ frontOf l = frontFrom (judge 0 (cellChecks l) (accepted (cellRecord l)))
 abbrev pub listedOf : Result (List Record) → Listed
 listedOf (refused x) = listed.Refused x
 listedOf (accepted rs) = listed.Records (length rs) (record { 0 = runSize rfc8331 rs })
+
+abbrev pub listRefusal : Listed → Refusal
+listRefusal (listed.Refused x) = x
+listRefusal (listed.Records n o) = record { number = 0; index = 0 }
 
 -- the octets of a list's records
 abbrev pub listOctets : Result (List Record) → List ℕ

@@ -4,7 +4,7 @@ ghost use Prim.Native.Nat.{_^_, _≤_};
 ghost use lib.ListN.{length};
 ghost use Rattle.wire.specs.Cells.{allBelow, headCells, headInRange, readList};
 ghost use Rattle.wire.specs.Words.{wordBits};
-ghost use Rattle.cells.specs.Answers.{frontOf, listedOf};
+ghost use Rattle.cells.specs.Answers.{frontOf, listRefusal, listedOf};
 use wire::count::OctetCount;
 use wire::count::WordCount;
 use wire::header::Header;
@@ -21,6 +21,24 @@ pub enum Front {
 pub enum Listed {
     Records { count: usize, octets: OctetCount },
     Refused(Refusal),
+}
+
+impl Listed {
+    // The refusal of a list.
+    pub fn refusal(self) -> Refusal
+        ensures { λ r. ⌜ r ≡ listRefusal self ⌝ }
+    {
+        match self {
+            Listed::Refused(refusal) => refusal,
+            Listed::Records {
+                count: _,
+                octets: _,
+            } => Refusal {
+                number: 0,
+                index: 0,
+            },
+        }
+    }
 }
 
 // Each cell before the words fits its field.

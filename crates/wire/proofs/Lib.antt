@@ -7,9 +7,13 @@ pub mod WordLaws
 pub mod SizeLaws
 pub mod PacketStore
 pub mod HeadLaws
+pub mod FieldLaws
 pub mod AncLaws
 pub mod CellLaws
 pub mod RoundTrip
 pub mod LocationLaws
 pub mod HeaderLaws
 pub mod Examples
+pub mod PacketLaws
+pub mod Demand2
+pub mod PacketExamples

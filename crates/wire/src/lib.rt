@@ -2,4 +2,5 @@
 pub mod count;
 pub mod header;
 pub mod location;
+pub mod number;
 pub mod refusal;

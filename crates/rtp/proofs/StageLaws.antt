@@ -1,0 +1,132 @@
+-- A packet read stage by stage: the first stage that refuses decides, and where all pass the records are read.
+-- By the nesting of the stages' checks in the definition of the reader.
+use mathlib.Core.Path.{_≡_, refl, ap, ap₂, sym, _∙_, subst}
+use mathlib.Core.Bool.{Bool, true, false, cond}
+use mathlib.Core.List.{List, [], _∷_, _++_}
+use Prim.Native.Nat.{ℕ, _+_, _-_, _<_, _≤_}
+use native.Mathlib.Omega.{arith}
+use borrow.Author.Tests.{eq-eqb, ne-eqb}
+use lib.Dec.{eqb}
+use lib.ListN.{length, take, drop, length-append, length-drop}
+use lib.Seq.{length-take-le}
+use Rattle.wire.specs.declared.refusal.Refusal.{Refusal}
+use Rattle.wire.specs.declared.count.OctetCount.{OctetCount}
+use Rattle.wire.specs.Bits.{Below}
+use Rattle.wire.specs.Layout.{rfc8331}
+use Rattle.wire.specs.Result.{Result, refused, accepted, refuse, Checks, judge, _then_}
+use Rattle.wire.specs.Anc.{Record, readRun, runOctets, runSize}
+use Rattle.wire.specs.Cells.{listOf}
+use Rattle.wire.specs.Packet.{Content, content, packetRead, headerSize, payloadSize, lengthField, ancCount, runAt, headerChecks, paddingChecks, payloadChecks, readRecords, readPacket, readContent}
+use Rattle.wire.proofs.BitLaws.{below-take, below-drop}
+use Rattle.wire.proofs.ResultLaws.{Passed, judge-accepts, judge-passes, accepted-inj}
+use Rattle.wire.proofs.AncLaws.{run-iff, length-run}
+use Rattle.wire.proofs.PacketLaws.{Sizes, sizes}
+use Rattle.anc.specs.Answers.{runOf}
+use Rattle.anc.specs.declared.check.Run.the-variants as run
+use Rattle.rtp.specs.Answers.{stageOf, checkedOf, headAt, headOf}
+use Rattle.rtp.specs.declared.packet.Checked.the-variants as checked
+use Rattle.rtp.specs.declared.stage.Stage.the-variants as stage
+
+-- a stage that passed: its checks hold, and it found what it should
+pub stage-passed : (ts : Checks) (v n : ℕ) → stageOf (judge 0 ts (accepted v)) ≡ stage.Passed n → Passed ts × (v ≡ n)
+stage-passed ts v n h = go (judge 0 ts (accepted v)) refl h
+  where
+    go : (r : Result ℕ) → judge 0 ts (accepted v) ≡ r → stageOf r ≡ stage.Passed n → Passed ts × (v ≡ n)
+    go (refused x) e h = let z : _≡_ {A = ℕ} 0 1 = cc in absurd (omega arith)
+    go (accepted m) e h =
+        let p = judge-accepts 0 ts (accepted v) m e in
+        let k : m ≡ n = cc in
+        (p .0, accepted-inj (p .1) ∙ k)
+
+-- a stage that refused decides, whatever would follow
+pub stage-refused : {A : Type 0} (ts : Checks) (v : ℕ) (x : Refusal) (r : Result A) → stageOf (judge 0 ts (accepted v)) ≡ stage.Refused x → judge 0 ts r ≡ refused x
+stage-refused [] v x r h = let z : _≡_ {A = ℕ} 0 1 = cc in absurd (omega arith)
+stage-refused (t ∷ ts) v x r h = go (t .0) (stage-refused ts v x r) h
+  where
+    go : (b : Bool) → (stageOf (judge 0 ts (accepted v)) ≡ stage.Refused x → judge 0 ts r ≡ refused x)
+        → stageOf (cond b (judge 0 ts (accepted v)) (refuse (t .1) 0)) ≡ stage.Refused x → cond b (judge 0 ts r) (refuse (t .1) 0) ≡ refused x
+    go true ih h = ih h
+    go false ih h = let e : record { number = t .1; index = 0 } ≡ x = cc in ap refused e
+
+module _ (s : List ℕ) where
+  pub refused-header : (x : Refusal) → stageOf (judge 0 (headerChecks s) (accepted (headerSize s))) ≡ stage.Refused x → readContent rfc8331 s ≡ refused x
+  unfolding readContent readPacket
+  refused-header x h =
+      ap (λ k. k then λ k. accepted (content k)) (stage-refused (headerChecks s) (headerSize s) x _ h)
+
+  module _ (ph : Passed (headerChecks s)) where
+    pub refused-padding : (x : Refusal) → stageOf (judge 0 (paddingChecks rfc8331 s) (accepted (payloadSize s))) ≡ stage.Refused x → readContent rfc8331 s ≡ refused x
+    unfolding readContent readPacket
+    refused-padding x h =
+        ap (λ k. k then λ k. accepted (content k))
+        (judge-passes 0 (headerChecks s) _ ph ∙ stage-refused (paddingChecks rfc8331 s) (payloadSize s) x _ h)
+
+    module _ (pp : Passed (paddingChecks rfc8331 s)) where
+      pub refused-payload : (x : Refusal) → stageOf (judge 0 (payloadChecks rfc8331 s) (accepted (lengthField s))) ≡ stage.Refused x → readContent rfc8331 s ≡ refused x
+      unfolding readContent readPacket
+      refused-payload x h =
+          ap (λ k. k then λ k. accepted (content k))
+          (judge-passes 0 (headerChecks s) _ ph ∙ judge-passes 0 (paddingChecks rfc8331 s) _ pp ∙ stage-refused (payloadChecks rfc8331 s) (lengthField s) x _ h)
+
+      module _ (py : Passed (payloadChecks rfc8331 s)) where
+        -- the records, and what the packet says with them
+        past : readContent rfc8331 s ≡ ((readRecords rfc8331 s then λ rs. accepted (packetRead rfc8331 rs s)) then λ k. accepted (content k))
+        unfolding readContent readPacket
+        past =
+            ap (λ k. k then λ k. accepted (content k))
+            (judge-passes 0 (headerChecks s) _ ph ∙ judge-passes 0 (paddingChecks rfc8331 s) _ pp ∙ judge-passes 0 (payloadChecks rfc8331 s) _ py)
+
+        -- the octets of the ANC data packets
+        abbrev pub region : List ℕ
+        region = take (lengthField s) (drop (runAt rfc8331 s) s)
+
+        pub refused-run : (x : Refusal) → runOf (readRun rfc8331 0 (ancCount s) region) ≡ run.Refused x → readContent rfc8331 s ≡ refused x
+        unfolding readRecords
+        refused-run x h = past ∙ go (readRun rfc8331 0 (ancCount s) region) h
+          where
+            go : (v : Result (List Record × List ℕ)) → runOf v ≡ run.Refused x
+                → (((v then λ q. judge 0 ((eqb (length (q .1)) 0, 13) ∷ []) (accepted (q .0))) then λ rs. accepted (packetRead rfc8331 rs s)) then λ k. accepted (content k)) ≡ refused x
+            go (refused y) h = let e : y ≡ x = cc in ap refused e
+            go (accepted q) h = let z : _≡_ {A = ℕ} 0 1 = cc in absurd (omega arith)
+
+        module _ (below : Below 256 s) (used : OctetCount) (cells : ℕ) (h : runOf (readRun rfc8331 0 (ancCount s) region) ≡ run.Accepted used cells) where
+          record Ran : Type 0 where
+            rs : List Record
+            rest : List ℕ
+            ran : readRun rfc8331 0 (ancCount s) region ≡ accepted (rs, rest)
+            count : length rs ≡ ancCount s
+            size : cells ≡ length (listOf rs)
+            left : used .0 + length rest ≡ lengthField s
+
+          run-found : Ran
+          run-found = go (readRun rfc8331 0 (ancCount s) region) refl h
+            where
+              go : (v : Result (List Record × List ℕ)) → readRun rfc8331 0 (ancCount s) region ≡ v → runOf v ≡ run.Accepted used cells → Ran
+              go (refused y) e h = let z : _≡_ {A = ℕ} 0 1 = cc in absurd (omega arith)
+              go (accepted q) e h =
+                  let u : record { 0 = runSize rfc8331 (q .0) } ≡ used = cc in
+                  let k : runSize rfc8331 (q .0) ≡ used .0 = ap (λ (y : OctetCount). y .0) u in
+                  let b : Below 256 region = below-take 256 (lengthField s) (drop (runAt rfc8331 s) s) (below-drop 256 (runAt rfc8331 s) s below) in
+                  let i = run-iff rfc8331 0 (ancCount s) region b (q .0) (q .1) .0 e in
+                  let z : Sizes rfc8331 s = sizes rfc8331 s ph pp py in
+                  let l : length region ≡ lengthField s = length-take-le (lengthField s) (drop (runAt rfc8331 s) s) (rw (length-drop (runAt rfc8331 s) s) (omega (arith, z .whole))) in
+                  let m : length region ≡ runSize rfc8331 (q .0) + length (q .1) = ap length (i .2) ∙ length-append (runOctets rfc8331 (q .0)) (q .1) ∙ ap (λ (n : ℕ). n + length (q .1)) (length-run rfc8331 (q .0)) in
+                  record { rs = q .0; rest = q .1; ran = e; count = i .0; size = (cc); left = omega arith }
+
+          pub refused-left : used .0 < lengthField s → readContent rfc8331 s ≡ refuse 13 0
+          unfolding readRecords
+          refused-left l =
+              let r : Ran = run-found in
+              let t : eqb (length (r .rest)) 0 ≡ false = ne-eqb (length (r .rest)) 0 (λ (z : length (r .rest) ≡ 0). omega (arith, r .left)) in
+              past ∙ rw (r .ran, t)
+
+          -- the packet is accepted: what it says, as the code finds it
+          pub accepted-run : lengthField s ≤ used .0
+              → checkedOf s (readContent rfc8331 s) ≡ checked.Packet (record { summary = record { head = headAt s; records = ancCount s; cells = cells }; at = runAt rfc8331 s; length = lengthField s })
+          unfolding readRecords packetRead
+          accepted-run l =
+              let r : Ran = run-found in
+              let t : eqb (length (r .rest)) 0 ≡ true = eq-eqb (length (r .rest)) 0 (omega (arith, r .left)) in
+              let e : readContent rfc8331 s ≡ accepted (content (packetRead rfc8331 (r .rs) s)) = past ∙ rw (r .ran, t) in
+              ap (checkedOf s) e
+              ∙ λ i. checked.Packet (record { summary = record { head = headAt s; records = r .count i; cells = sym (r .size) i }; at = runAt rfc8331 s; length = lengthField s })

@@ -1,0 +1,67 @@
+-- `read` reads a packet into the lent cells, or gives the refusal and leaves them.
+-- By what the check found, and 14 last.
+use borrow.Author.Needs.{needs}
+use mathlib.Core.Path.{_≡_, refl, ap, sym, _∙_}
+use mathlib.Core.List.{List}
+use Prim.Native.Nat.{ℕ, _<_}
+use native.Mathlib.Omega.{arith}
+use lib.ListN.{length}
+use Rattle.wire.specs.Layout.{rfc8331}
+use Rattle.wire.specs.Result.{Result}
+use Rattle.wire.specs.Packet.{Content, readInto}
+use Rattle.rtp.specs.Answers.{checkedRefusal, readOf, cellsAfter}
+use Rattle.rtp.specs.declared.packet.Read.the-variants as read
+use Rattle.rtp.proofs.ReadLaws.{into-refused, into-short, into-fits}
+use Rattle.rtp.proofs.read.Statement.{statement}
+use Rattle.rtp.proofs.read.Tie as tie
+
+check-requires : tie.Need-check-requires
+check-requires c κs = search needs
+
+enum-known-checked : tie.Need-enum-known-checked
+enum-known-checked c = search needs
+
+enum-told : tie.Need-enum-told
+enum-told c = search needs
+
+refusal-requires : tie.Need-refusal-requires
+refusal-requires c κs = search needs
+
+returns : tie.Need-returns
+returns c =
+    let a = c .before .before .before .before .before .before .args in
+    let t = c .before .enum-told .given in
+    let e = into-refused (a .octets .now) (length (a .cells .now)) _ (sym (c .before .before .before .check .ensures) ∙ t .1) in
+    (ap read.Refused (c .refusal .ensures ∙ ap checkedRefusal (t .1)) ∙ ap readOf (sym e), ap (λ (r : Result Content). cellsAfter r (a .cells .now)) (sym e))
+
+returns-2 : tie.Need-returns-2
+returns-2 c =
+    let a = c .before .before .before .before .before .before .before .before .before .args in
+    let e = into-short (a .octets .now) _ (sym (c .before .before .before .before .before .before .check .ensures) ∙ c .before .before .before .before .checked .given .1) (length (a .cells .now)) (c .if1 .taken) in
+    (ap readOf (sym e), ap (λ (r : Result Content). cellsAfter r (a .cells .now)) (sym e))
+
+read-records-requires : tie.Need-read-records-requires
+read-records-requires c κs = (sym (c .before .before .before .before .before .before .before .check .ensures) ∙ c .before .before .before .before .before .checked .given .1, c .before .if1 .left)
+
+same-length : tie.Need-same-length
+same-length c = search needs
+
+returns-3 : tie.Need-returns-3
+returns-3 c =
+    let a = c .before .before .before .before .before .before .before .before .before .before .before .before .before .args in
+    let e = into-fits (a .octets .now) _ (sym (c .before .before .before .before .before .before .before .before .before .before .check .ensures) ∙ c .before .before .before .before .before .before .before .before .checked .given .1) (length (a .cells .now)) (c .before .before .before .before .if1 .left) in
+    (sym (ap readOf (e .0) ∙ e .1), c .before .before .read-records .ensures ∙ ap (λ (r : Result Content). cellsAfter r (a .cells .now)) (sym (e .0)))
+
+pub read-spec : {M : Type 1} → statement M
+read-spec =
+    tie.close
+    (tie.spec
+    check-requires
+    enum-known-checked
+    enum-told
+    refusal-requires
+    returns
+    returns-2
+    read-records-requires
+    same-length
+    returns-3)

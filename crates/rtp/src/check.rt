@@ -1,0 +1,100 @@
+// A packet checked, without writing anything.
+ghost use mathlib.Core.Path.{_≡_};
+ghost use Prim.Native.Nat.{_+_, _≤_};
+ghost use lib.ListN.{length};
+ghost use Rattle.wire.specs.Layout.{payloadHeaderSize, rfc8331};
+ghost use Rattle.wire.specs.Packet.{headerLeast, headerSize, readContent};
+ghost use Rattle.rtp.specs.Answers.{cellsAfter, checkedOf, headAt};
+use crate::octet::pair_at;
+use crate::octet::quad_at;
+use crate::octet::wide;
+use crate::packet::Checked;
+use crate::packet::Head;
+use crate::packet::Outline;
+use crate::packet::Summary;
+use crate::stage::Stage;
+use crate::stage::check_header;
+use crate::stage::check_padding;
+use crate::stage::check_payload;
+use anc::check::Run;
+use anc::check::check_run;
+use anc::read::read_run;
+use wire::number::PacketNumber;
+use wire::number::Timestamp;
+use wire::refusal::Refusal;
+
+// The six values of a packet whose payload header stands at `header`.
+fn head_at(octets: &[u8], header: usize) -> Head
+    requires { ⌜ (header ≡ headerSize (now octets)) × (headerLeast ≤ header) × (header + payloadHeaderSize rfc8331 ≤ length (now octets)) ⌝ }
+    ensures { λ r. ⌜ r ≡ headAt (now (octets .entry)) ⌝ }
+{
+    let second = wide(octets[1]);
+    let high = pair_at(octets, header);
+    let low = pair_at(octets, 2);
+    Head {
+        source: quad_at(octets, 8),
+        payload_type: (second % 128) as u8,
+        marker: second / 128 == 1,
+        number: PacketNumber((high * 65536 + low) as u32),
+        timestamp: Timestamp(quad_at(octets, 4)),
+        f: (wide(octets[header + 5]) / 64) as u8,
+    }
+}
+
+// Everything but 14.
+pub fn check(octets: &[u8]) -> Checked
+    ensures { λ r. ⌜ r ≡ checkedOf (now (octets .entry)) (readContent rfc8331 (now (octets .entry))) ⌝ }
+{
+    let stage = check_header(octets);
+    let Stage::Passed(header) = stage else {
+        return Checked::Refused(stage.refusal());
+    };
+    let stage = check_padding(octets, header);
+    let Stage::Passed(payload) = stage else {
+        return Checked::Refused(stage.refusal());
+    };
+    let stage = check_payload(octets, header, payload);
+    let Stage::Passed(length) = stage else {
+        return Checked::Refused(stage.refusal());
+    };
+    let at = header + 8;
+    let end = at + length;
+    let count = octets[header + 4];
+    let run = check_run(&octets[at..end], count);
+    let Run::Accepted {
+        octets: used,
+        cells,
+    } = run
+    else {
+        return Checked::Refused(run.refusal());
+    };
+    if used.0 < length {
+        return Checked::Refused(Refusal {
+            number: Refusal::OCTETS_LEFT,
+            index: 0,
+        });
+    }
+    let head = head_at(octets, header);
+    let summary = Summary {
+        head,
+        records: count,
+        cells,
+    };
+    Checked::Packet(Outline {
+        summary,
+        at,
+        length,
+    })
+}
+
+// Writes the cells of a packet that `check` accepted to the first cells.
+pub fn read_records(octets: &[u8], outline: Outline, cells: &mut [u16])
+    requires { ⌜ checkedOf (now octets) (readContent rfc8331 (now octets)) ≡ Checked.Packet outline ⌝ }
+    requires { ⌜ outline .summary .cells ≤ length (now cells) ⌝ }
+    ensures { λ r. ⌜ now (cells .exit) ≡ cellsAfter (readContent rfc8331 (now (octets .entry))) (now (cells .entry)) ⌝ }
+{
+    let summary = outline.summary;
+    let at = outline.at;
+    let end = at + outline.length;
+    read_run(&octets[at..end], summary.records, cells);
+}

@@ -1,0 +1,61 @@
+// What the reader returns and the writer takes (01, "Records in a lent list").
+ghost use mathlib.Core.Path.{_≡_};
+ghost use Rattle.rtp.specs.Answers.{checkedRefusal};
+use wire::count::OctetCount;
+use wire::number::PacketNumber;
+use wire::number::Timestamp;
+use wire::refusal::Refusal;
+
+// The six values that stand beside a packet's records.
+pub struct Head {
+    pub source: u32,
+    pub payload_type: u8,
+    pub marker: bool,
+    pub number: PacketNumber,
+    pub timestamp: Timestamp,
+    pub f: u8,
+}
+
+// What a packet says, with the number of its records and of their cells.
+pub struct Summary {
+    pub head: Head,
+    pub records: u8,
+    pub cells: usize,
+}
+
+pub enum Read {
+    Packet(Summary),
+    Refused(Refusal),
+}
+
+pub enum Written {
+    Octets(OctetCount),
+    Refused(Refusal),
+}
+
+// A packet that was checked: what it says, and the octets of its ANC data packets.
+pub struct Outline {
+    pub summary: Summary,
+    pub at: usize,
+    pub length: usize,
+}
+
+pub enum Checked {
+    Packet(Outline),
+    Refused(Refusal),
+}
+
+impl Checked {
+    // The refusal of a packet.
+    pub fn refusal(self) -> Refusal
+        ensures { λ r. ⌜ r ≡ checkedRefusal self ⌝ }
+    {
+        match self {
+            Checked::Refused(refusal) => refusal,
+            Checked::Packet(_) => Refusal {
+                number: 0,
+                index: 0,
+            },
+        }
+    }
+}

@@ -1,0 +1,132 @@
+// A packet measured and its headers written (01, "Writing").
+ghost use mathlib.Core.Path.{_≡_};
+ghost use mathlib.Core.Bool.{Bool};
+ghost use Prim.Native.Nat.{_+_, _<_, _≤_, _^_};
+ghost use lib.ListN.{length};
+ghost use Rattle.wire.specs.Bits.{bit, overwrite, pack};
+ghost use Rattle.wire.specs.Cells.{readList};
+ghost use Rattle.wire.specs.Layout.{rfc8331};
+ghost use Rattle.wire.specs.Writing.{maxType, writeContent};
+ghost use Rattle.rtp.specs.Answers.{contentOf, measureOf, measureRefusal};
+ghost use Rattle.rtp.specs.Front.{frontFields, headOk};
+use crate::octet::copy;
+use crate::packet::Head;
+use cells::check::Listed;
+use cells::check::check_list;
+use wire::refusal::Refusal;
+
+// A packet that fits: its records, and the octets of its ANC data packets.
+pub enum Measured {
+    Fits { count: u8, length: usize },
+    Refused(Refusal),
+}
+
+impl Measured {
+    fn refuse(number: u8) -> Measured
+        ensures { λ r. ⌜ r ≡ Measured.Refused (record { number = number; index = 0 }) ⌝ }
+    {
+        Measured::Refused(Refusal { number, index: 0 })
+    }
+
+    // The refusal of a packet to be written.
+    pub fn refusal(self) -> Refusal
+        ensures { λ r. ⌜ r ≡ measureRefusal self ⌝ }
+    {
+        match self {
+            Measured::Refused(refusal) => refusal,
+            Measured::Fits {
+                count: _,
+                length: _,
+            } => Refusal {
+                number: 0,
+                index: 0,
+            },
+        }
+    }
+}
+
+// 24.
+fn head_ok(head: Head) -> bool
+    ensures { λ r. ⌜ r ≡ headOk head ⌝ }
+{
+    (head.payload_type <= 127) & ((head.f <= 3) & (head.f != 1))
+}
+
+// 24, 20, 21, 22, 23.
+pub fn measure(head: Head, cells: &[u16], room: usize) -> Measured
+    ensures { λ r. ⌜ r ≡ measureOf (writeContent rfc8331 (contentOf head) (now (cells .entry)) room) (readList (now (cells .entry))) ⌝ }
+{
+    if !head_ok(head) {
+        return Measured::refuse(Refusal::HEAD_INVALID);
+    }
+    let listed = check_list(cells);
+    let Listed::Records { count, octets } = listed else {
+        return Measured::Refused(listed.refusal());
+    };
+    if count > 255 {
+        return Measured::refuse(Refusal::OVER_LIMIT);
+    }
+    if cells.len() > 16384 {
+        return Measured::refuse(Refusal::OVER_LIMIT);
+    }
+    let length = octets.0;
+    if 20 + length > 65535 {
+        return Measured::refuse(Refusal::PACKET_TOO_LONG);
+    }
+    if room < 20 + length {
+        return Measured::refuse(Refusal::ROOM_TOO_SMALL);
+    }
+    Measured::Fits {
+        count: count as u8,
+        length,
+    }
+}
+
+fn flag(b: bool) -> u8
+    ensures { λ r. ⌜ r ≡ bit b ⌝ }
+{
+    if b { 1 } else { 0 }
+}
+
+// The RTP header and the payload header.
+fn front(head: Head, count: u8, length: usize) -> [u8; 20]
+    requires { ⌜ (head .«payload_type» ≤ maxType) × (head .f ≤ 3) × (length < 2 ^ 16) ⌝ }
+    ensures { λ r. ⌜ r ≡ pack (frontFields head count length) ⌝ }
+{
+    let number = head.number;
+    let number = number.0;
+    let timestamp = head.timestamp;
+    let timestamp = timestamp.0;
+    let source = head.source;
+    [
+        128,
+        flag(head.marker) * 128 + head.payload_type,
+        (number / 256 % 256) as u8,
+        (number % 256) as u8,
+        (timestamp / 16777216) as u8,
+        (timestamp / 65536 % 256) as u8,
+        (timestamp / 256 % 256) as u8,
+        (timestamp % 256) as u8,
+        (source / 16777216) as u8,
+        (source / 65536 % 256) as u8,
+        (source / 256 % 256) as u8,
+        (source % 256) as u8,
+        (number / 16777216) as u8,
+        (number / 65536 % 256) as u8,
+        (length / 256) as u8,
+        (length % 256) as u8,
+        count,
+        head.f * 64,
+        0,
+        0,
+    ]
+}
+
+// Writes the RTP header and the payload header to the first octets.
+pub fn write_front(head: Head, count: u8, length: usize, octets: &mut [u8])
+    requires { ⌜ (head .«payload_type» ≤ maxType) × (head .f ≤ 3) × (length < 2 ^ 16) × (20 ≤ lib.ListN.length (now octets)) ⌝ }
+    ensures { λ r. ⌜ now (octets .exit) ≡ overwrite (pack (frontFields head count length)) (now (octets .entry)) ⌝ }
+{
+    let front = front(head, count, length);
+    copy(&front, octets);
+}

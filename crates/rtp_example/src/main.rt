@@ -1,0 +1,144 @@
+// Writes packets with the records A and B of 01, "Marked examples", reads them back and prints both ways: the octets in hex,
+// then what was read and its cells. The first four are the frames of 01, "`fieldlist`".
+use libc::STDOUT_FILENO;
+use rtp::packet::Head;
+use rtp::packet::Read;
+use rtp::packet::Written;
+use wire::number::PacketNumber;
+use wire::number::Timestamp;
+use wire::refusal::Refusal;
+
+fn print(text: &[u8]) {
+    io::write_all(STDOUT_FILENO, text);
+}
+
+fn number(label: &[u8], n: u64) {
+    print(label);
+    io::print_decimal(STDOUT_FILENO, n);
+}
+
+fn wide8(x: u8) -> u64 {
+    x as u64
+}
+
+fn wide16(x: u16) -> u64 {
+    x as u64
+}
+
+fn print_octets(octets: &[u8]) {
+    let mut k: usize = 0;
+    while k < octets.len() {
+        io::print_hex(STDOUT_FILENO, wide8(octets[k]), 2);
+        k += 1;
+    }
+    print(b"\n");
+}
+
+fn print_cells(cells: &[u16]) {
+    let mut k: usize = 0;
+    while k < cells.len() {
+        print(b" ");
+        io::print_hex(STDOUT_FILENO, wide16(cells[k]), 1);
+        k += 1;
+    }
+    print(b"\n");
+}
+
+fn print_refusal(refusal: Refusal) {
+    number(b"refused ", refusal.number as u64);
+    number(b" ", refusal.index as u64);
+    print(b"\n");
+}
+
+fn print_head(head: Head) {
+    let packet = head.number;
+    let time = head.timestamp;
+    number(b" source=", head.source as u64);
+    number(b" type=", head.payload_type as u64);
+    number(b" number=", packet.0 as u64);
+    number(b" ts=", time.0 as u64);
+    number(b" f=", head.f as u64);
+    if head.marker {
+        print(b" marked");
+    }
+}
+
+// Reads a packet and prints what it says.
+fn read_back(octets: &[u8]) {
+    let mut cells = [0u16; 32];
+    let read = rtp::read(octets, &mut cells);
+    match read {
+        Read::Refused(refusal) => print_refusal(refusal),
+        Read::Packet(summary) => {
+            number(b"records=", summary.records as u64);
+            let head = summary.head;
+            print_head(head);
+            let n = summary.cells;
+            if n <= 32 {
+                print_cells(&cells[..n]);
+            }
+        }
+    }
+}
+
+// Writes a packet, prints its octets and reads it back.
+fn there_and_back(head: Head, cells: &[u16]) {
+    let mut out = [0u8; 64];
+    let written = rtp::write(head, cells, &mut out);
+    match written {
+        Written::Refused(refusal) => print_refusal(refusal),
+        Written::Octets(size) => {
+            let n = size.0;
+            if n <= 64 {
+                print_octets(&out[..n]);
+                read_back(&out[..n]);
+            }
+        }
+    }
+}
+
+fn head(packet: u32, time: u32, f: u8) -> Head {
+    Head {
+        source: 1,
+        payload_type: 112,
+        marker: true,
+        number: PacketNumber(packet),
+        timestamp: Timestamp(time),
+        f,
+    }
+}
+
+fn main() {
+    let a = [0u16, 9, 0, 0, 0, 0x41, 5, 0];
+    there_and_back(head(7, 1000, 2), &a);
+    there_and_back(head(8, 2501, 3), &a);
+    there_and_back(head(8, 2501, 3), &a);
+    there_and_back(head(10, 5504, 3), &a);
+    let both = [
+        0u16,
+        9,
+        0,
+        0,
+        0,
+        0x41,
+        5,
+        0,
+        1,
+        0x7FF,
+        0xFFF,
+        1,
+        3,
+        0x61,
+        2,
+        2,
+        0x2AA,
+        0x155,
+    ];
+    there_and_back(head(0x10000, 0, 0), &both);
+    // No records: 20 octets.
+    there_and_back(head(0xFFFFFFFF, 0xFFFFFFFF, 0), &both[..0]);
+    // 24, 20 with the record's index, 23.
+    there_and_back(head(7, 1000, 1), &a);
+    there_and_back(head(7, 1000, 2), &both[..9]);
+    read_back(&b"too short"[..]);
+}
