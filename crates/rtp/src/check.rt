@@ -5,9 +5,6 @@ ghost use lib.ListN.{length};
 ghost use Rattle.wire.specs.Layout.{payloadHeaderSize, rfc8331};
 ghost use Rattle.wire.specs.Packet.{headerLeast, headerSize, readContent};
 ghost use Rattle.rtp.specs.Answers.{cellsAfter, checkedOf, headAt};
-use crate::octet::pair_at;
-use crate::octet::quad_at;
-use crate::octet::wide;
 use crate::packet::Checked;
 use crate::packet::Head;
 use crate::packet::Outline;
@@ -22,6 +19,9 @@ use anc::read::read_run;
 use wire::number::PacketNumber;
 use wire::number::Timestamp;
 use wire::refusal::Refusal;
+use words::octet::pair_at;
+use words::octet::quad_at;
+use words::octet::wide;
 
 // The six values of a packet whose payload header stands at `header`.
 fn head_at(octets: &[u8], header: usize) -> Head

@@ -9,7 +9,6 @@ ghost use Rattle.wire.specs.Writing.{writeContent};
 ghost use Rattle.rtp.specs.Answers.{cellsAfter, contentOf, octetsAfter, readOf, writtenOf};
 
 pub mod check;
-pub mod octet;
 pub mod packet;
 pub mod stage;
 pub mod writing;

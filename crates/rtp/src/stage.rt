@@ -6,9 +6,9 @@ ghost use Rattle.wire.specs.Layout.{payloadHeaderSize, rfc8331};
 ghost use Rattle.wire.specs.Packet.{headerChecks, headerLeast, headerSize, lengthField, paddingChecks, paddingCount, payloadChecks, payloadSize};
 ghost use Rattle.wire.specs.Result.{accepted, judge};
 ghost use Rattle.rtp.specs.Answers.{SizeFound, stageOf, stageRefusal};
-use crate::octet::pair_at;
-use crate::octet::wide;
 use wire::refusal::Refusal;
+use words::octet::pair_at;
+use words::octet::wide;
 
 // A stage passed, with the octets that it found, or the refusal.
 pub enum Stage {

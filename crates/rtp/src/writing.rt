@@ -9,11 +9,11 @@ ghost use Rattle.wire.specs.Layout.{rfc8331};
 ghost use Rattle.wire.specs.Writing.{maxType, writeContent};
 ghost use Rattle.rtp.specs.Answers.{contentOf, measureOf, measureRefusal};
 ghost use Rattle.rtp.specs.Front.{frontFields, headOk};
-use crate::octet::copy;
 use crate::packet::Head;
 use cells::check::Listed;
 use cells::check::check_list;
 use wire::refusal::Refusal;
+use words::octet::copy;
 
 // A packet that fits: its records, and the octets of its ANC data packets.
 pub enum Measured {

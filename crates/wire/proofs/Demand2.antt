@@ -242,7 +242,7 @@ module _ (L : Layout) (s : List ℕ) (below : Below 256 s) (k : Content) (e : re
       (λ t. rewritten-octets-iff .0 (accepted-inj (sym w ∙ t)), λ o. w ∙ ap accepted (rewritten-octets-iff .1 o))
 
 -- a run takes at most one and a half octets for each cell of its list
-run-cells : (L : Layout) (rs : List Record) → 2 * length (runOctets L rs) ≤ 3 * length (listOf rs)
+pub run-cells : (L : Layout) (rs : List Record) → 2 * length (runOctets L rs) ≤ 3 * length (listOf rs)
 run-cells L [] = le-refl 0
 run-cells L (r ∷ rs) =
     omega (arith, run-cells L rs, length-append (ancOctets L r) (runOctets L rs), length-anc L r, size-cells L (length (r .words)), length-append (r .words) (listOf rs))

@@ -1,0 +1,15 @@
+pub mod AdmitLaws
+pub mod ArriveLaws
+pub mod DecideLaws
+pub mod Demand3
+pub mod DistanceLaws
+pub mod FreshLaws
+pub mod JoinLaws
+pub mod MarkedExamples
+pub mod NumberLaws
+pub mod PlaceLaws
+pub mod RunExamples
+pub mod RunInvariant
+pub mod SignedLaws
+pub mod StepLaws
+pub mod WalkLaws

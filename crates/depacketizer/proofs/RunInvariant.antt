@@ -1,0 +1,220 @@
+-- What holds after each call of a run, and what an arrival that is refused leaves of it.
+-- The invariant: what is gathered, its cells, the counts and what was handed out are told by the fresh packets' indices.
+use mathlib.Core.Path.{_≡_, refl, _∙_, ap, ap₂, sym}
+use mathlib.Core.Bool.{Bool, true, false, cond, _&&_, _||_, or-true}
+use mathlib.Core.List.{List, [], _∷_, append-nil}
+use Prim.Native.Nat.{ℕ, suc, _+_, _-_, _^_, _%_, _≤_, _<_, min}
+use native.Mathlib.Nat.{not-suc-le-zero}
+use native.Mathlib.Omega.{arith}
+use lib.Dec.{eqb, leb}
+use lib.ListN.{length}
+use borrow.Author.Tests.{le-leb, lt-leb, leb-false}
+use Rattle.wire.specs.declared.refusal.Refusal.{Refusal}
+use Rattle.wire.specs.Anc.{Each}
+use Rattle.wire.specs.Packet.{Content}
+use Rattle.depacketizer.specs.declared.state.Depacketizer.{Depacketizer as State}
+use Rattle.depacketizer.specs.declared.state.Phase.{Phase}
+use Rattle.depacketizer.specs.declared.state.Phase.the-variants as phase
+use Rattle.depacketizer.specs.Step.{Gathered, lost, ready, filling, gatheredIn, gathered, phaseOf, recordsOf, cellsOf, fits, isFilling, isLost, sound, classify, distance, classStep, lateStep, packetStep, openState}
+use Rattle.depacketizer.specs.Stream.{Field, cellsIn, Sent, sent, Stream, contentAt, Within, Fits, WellFormedStream, Run, lent, done, allBelow, lowest}
+use Rattle.depacketizer.proofs.DistanceLaws.{class-late}
+use Rattle.depacketizer.proofs.WalkLaws.{packetAt, unbroken, handedBefore, NoneFrom}
+use Rattle.depacketizer.proofs.PlaceLaws.{upTo, leaving, Holds, part-at, field-at}
+use Rattle.depacketizer.proofs.JoinLaws.{leaving-fits}
+use Rattle.depacketizer.proofs.StepLaws.{unchanged}
+
+-- one past the last fresh packet
+abbrev pub top : List ℕ → ℕ
+top [] = 0
+top (m ∷ l) = suc m
+
+-- whether a packet was heard, and the last fresh one's number
+abbrev pub LastHeard : Stream → List ℕ → Bool → ℕ → Type 0
+LastHeard s [] heard last = heard ≡ false
+LastHeard s (m ∷ l) heard last = (heard ≡ true) × (last ≡ (s .start + m) % 2 ^ 32)
+
+-- what is gathered after the last fresh packet
+abbrev pub gatheredAfter : List Sent → List ℕ → Gathered
+gatheredAfter ps [] = lost
+gatheredAfter ps (m ∷ l) = cond (unbroken ps (m ∷ l) (suc m)) (leaving (packetAt ps m)) lost
+
+-- the cells of its field's parts up to it
+abbrev pub cellsAfter : List Sent → List ℕ → List ℕ
+cellsAfter ps [] = []
+cellsAfter ps (m ∷ l) = cellsIn (upTo (packetAt ps m))
+
+-- fresh and missing together
+abbrev pub Counted : List ℕ → ℕ → Type 0
+Counted [] a = a ≡ 0
+Counted (m ∷ l) a = a + lowest m l ≡ suc m
+
+-- after arrivals of the packets `js`, of them `l` fresh, each with the latest first
+pub record Invariant (s : Stream) (js l : List ℕ) (r : Run) : Type 0 where
+  pub sentBefore : top l ≤ length (sent (s .fields))
+  pub newer : (i : ℕ) → allBelow i js ≡ leb (top l) i
+  pub noneAbove : NoneFrom (top l) l
+  pub source : r .state .source ≡ s .source
+  pub type : r .state .«payload_type» ≡ s .type
+  pub heard : LastHeard s l (r .state .heard) (r .state .last .0)
+  pub records : r .state .records ≡ recordsOf (gathered (r .state))
+  pub cells : r .state .cells ≡ cellsOf (gathered (r .state))
+  pub gathers : gathered (r .state) ≡ gatheredAfter (sent (s .fields)) l
+  pub holds : Holds (s .fields) (gathered (r .state)) (r .store) (cellsAfter (sent (s .fields)) l)
+  pub handed : r .handed ≡ handedBefore (sent (s .fields)) l (top l)
+  pub fresh : r .state .fresh ≡ length l
+  pub missing : Counted l (r .state .fresh + r .state .missing)
+  pub older : ℕ
+  pub olderIs : length js ≡ length l + older
+  pub late : r .state .late ≡ min older (2 ^ 64 - 1)
+
+-- it holds of a state just opened
+pub invariant-open : (s : Stream) → Invariant s [] [] (record { state = openState (s .source) (s .type); store = []; handed = [] })
+invariant-open s =
+    record {
+      sentBefore = omega arith;
+      newer = λ i. sym (le-leb 0 i (omega arith));
+      noneAbove = λ i h. refl;
+      source = refl;
+      type = refl;
+      heard = refl;
+      records = refl;
+      cells = refl;
+      gathers = refl;
+      holds = tt;
+      handed = refl;
+      fresh = refl;
+      missing = refl;
+      older = 0;
+      olderIs = refl;
+      late = refl;
+    }
+
+-- the store that a call is lent holds what is gathered, and the fields fit it
+pub lent-holds : (xs : List Field) (g : Gathered) (left offered c : List ℕ) → Holds xs g left c → Each (Fits offered) xs
+    → Holds xs g (lent g left offered) c × Each (Fits (lent g left offered)) xs
+lent-holds xs lost left offered c h e = (tt, e)
+lent-holds xs ready left offered c h e = (tt, e)
+lent-holds xs (filling t f r n) left offered c h e = (h, h .1)
+
+-- the store that a call is lent
+abbrev pub lentIn : Run → List ℕ → List ℕ
+lentIn r offered = lent (gathered (r .state)) (r .store) offered
+
+-- a step that changes nothing
+pub invariant-refused : (s : Stream) (js l : List ℕ) (r : Run) (offered : List ℕ) (x : Refusal) → Each (Fits offered) (s .fields)
+    → Invariant s js l r → Invariant s js l (done r (unchanged (r .state) (lentIn r offered) x))
+invariant-refused s js l r offered x e v =
+    record {
+      sentBefore = v .sentBefore;
+      newer = v .newer;
+      noneAbove = v .noneAbove;
+      source = v .source;
+      type = v .type;
+      heard = v .heard;
+      records = v .records;
+      cells = v .cells;
+      gathers = v .gathers;
+      holds = (lent-holds (s .fields) (gathered (r .state)) (r .store) offered _ (v .holds) e) .0;
+      handed = append-nil _ ∙ v .handed;
+      fresh = v .fresh;
+      missing = v .missing;
+      older = v .older;
+      olderIs = v .olderIs;
+      late = v .late;
+    }
+
+leb-and-less : (a b k : ℕ) → a ≤ b → leb a k && leb b k ≡ leb b k
+leb-and-less a b k h = go (leb a k) refl
+  where
+    go : (t : Bool) → leb a k ≡ t → t && leb b k ≡ leb b k
+    go true e = refl
+    go false e = sym (lt-leb b k (omega (arith, leb-false a k e)))
+
+-- a sent packet that is not sent later than all that arrived is late
+pub late-step : (s : Stream) (js l : List ℕ) (r : Run) (i : ℕ) (store : List ℕ) → WellFormedStream s → Invariant s js l r → i < top l
+    → packetStep (r .state .heard) (r .state) (contentAt s i (packetAt (sent (s .fields)) i)) store ≡ lateStep (r .state) store
+late-step s js [] r i store w v h = absurd (not-suc-le-zero h)
+late-step s js (m ∷ l) r i store w v h =
+    let k : Content = contentAt s i (packetAt (sent (s .fields)) i) in
+    ap (λ (b : Bool). packetStep b (r .state) k store) (v .heard .0)
+    ∙ ap (λ (n : ℕ). classStep (classify (distance n (k .number))) (r .state) k store) (v .heard .1)
+    ∙ rw (class-late (s .start) m i (omega arith) (omega (arith, w .few, v .sentBefore)))
+
+-- a late packet
+pub invariant-late : (s : Stream) (js l : List ℕ) (r : Run) (i : ℕ) (offered : List ℕ) → Each (Fits offered) (s .fields) → i < top l
+    → Invariant s js l r → Invariant s (i ∷ js) l (done r (lateStep (r .state) (lentIn r offered)))
+invariant-late s js l r i offered e h v =
+    record {
+      sentBefore = v .sentBefore;
+      newer = λ k. rw (v .newer k) (leb-and-less (suc i) (top l) k h);
+      noneAbove = v .noneAbove;
+      source = v .source;
+      type = v .type;
+      heard = v .heard;
+      records = v .records;
+      cells = v .cells;
+      gathers = v .gathers;
+      holds = (lent-holds (s .fields) (gathered (r .state)) (r .store) offered _ (v .holds) e) .0;
+      handed = append-nil _ ∙ v .handed;
+      fresh = v .fresh;
+      missing = v .missing;
+      older = suc (v .older);
+      olderIs = omega (arith, v .olderIs);
+      late = omega (arith, v .late);
+    }
+
+-- check 35 by what is gathered
+abbrev soundIn : Gathered → Bool → ℕ → Bool
+soundIn g heard room =
+    fits (recordsOf g) (cellsOf g) room
+    && ((isFilling (phaseOf g) || (eqb (recordsOf g) 0 && eqb (cellsOf g) 0)) && (heard || isLost (phaseOf g)))
+
+phase-gathered : (p : Phase) (t f r c : ℕ) → phaseOf (gatheredIn p t f r c) ≡ p
+phase-gathered phase.Lost t f r c = refl
+phase-gathered phase.Ready t f r c = refl
+phase-gathered phase.Filling t f r c = refl
+
+sound-gathered : (st : State) (room : ℕ) → st .records ≡ recordsOf (gathered st) → st .cells ≡ cellsOf (gathered st)
+    → sound st room ≡ soundIn (gathered st) (st .heard) room
+sound-gathered st room r c =
+    let g : Gathered = gathered st in
+    let p : phaseOf g ≡ st .phase = phase-gathered (st .phase) (st .timestamp .0) (st .f) (st .records) (st .cells) in
+    ap₂ (λ (a b : ℕ). fits a b room && ((isFilling (st .phase) || (eqb a 0 && eqb b 0)) && (st .heard || isLost (st .phase)))) r c
+    ∙ ap
+    (λ (q : Phase).
+    fits (recordsOf g) (cellsOf g) room
+    && ((isFilling q || (eqb (recordsOf g) 0 && eqb (cellsOf g) 0)) && (st .heard || isLost q)))
+    (sym p)
+
+sound-lost : (heard : Bool) (room : ℕ) → soundIn lost heard room ≡ true
+sound-lost heard room = rw (le-leb 0 room (omega arith), or-true heard)
+
+sound-heard : (g : Gathered) (room : ℕ) → fits (recordsOf g) (cellsOf g) room ≡ true → soundIn g true room ≡ true
+sound-heard lost room h = rw h
+sound-heard ready room h = rw h
+sound-heard (filling t f r c) room h = rw h
+
+sound-after : (s : Stream) (l store : List ℕ) (heard : Bool) (last : ℕ) → WellFormedStream s → Each (Fits store) (s .fields)
+    → top l ≤ length (sent (s .fields)) → LastHeard s l heard last
+    → soundIn (gatheredAfter (sent (s .fields)) l) heard (length store) ≡ true
+sound-after s [] store heard last w e b h = sound-lost heard (length store)
+sound-after s (m ∷ l) store heard last w e b h = rw (h .0) (go (unbroken (sent (s .fields)) (m ∷ l) (suc m)))
+  where
+    go : (t : Bool) → soundIn (cond t (leaving (packetAt (sent (s .fields)) m)) lost) true (length store) ≡ true
+    go true =
+        sound-heard (leaving (packetAt (sent (s .fields)) m)) (length store)
+        (leaving-fits (packetAt (sent (s .fields)) m) store (part-at (s .fields) m b) (field-at Within (s .fields) m (w .within) b)
+        (field-at (Fits store) (s .fields) m e b))
+    go false = sound-lost true (length store)
+
+-- check 35 passes
+pub sound-run : (s : Stream) (js l : List ℕ) (r : Run) (offered : List ℕ) → WellFormedStream s → Each (Fits offered) (s .fields)
+    → Invariant s js l r → sound (r .state) (length (lentIn r offered)) ≡ true
+sound-run s js l r offered w e v =
+    let t : List ℕ = lentIn r offered in
+    sound-gathered (r .state) (length t) (v .records) (v .cells)
+    ∙ ap (λ (g : Gathered). soundIn g (r .state .heard) (length t)) (v .gathers)
+    ∙ sound-after s l t (r .state .heard) (r .state .last .0) w
+    ((lent-holds (s .fields) (gathered (r .state)) (r .store) offered _ (v .holds) e) .1)
+    (v .sentBefore)
+    (v .heard)

@@ -1,0 +1,127 @@
+-- What a step does whatever the state: a refusal keeps the store and the state, but 32 counts one more as late.
+-- By the checks in their order: a fresh packet is never refused.
+use mathlib.Core.Path.{_≡_, refl, _∙_, ap, sym, subst}
+use mathlib.Core.Bool.{Bool, true, false, true≢false, cond, _&&_}
+use mathlib.Core.List.{List}
+use Prim.Native.Nat.{ℕ, _+_}
+use native.Mathlib.Omega.{arith}
+use lib.Dec.{eqb}
+use lib.ListN.{length}
+use Rattle.wire.specs.declared.refusal.Refusal.{Refusal}
+use Rattle.wire.specs.Result.{Result, refused, accepted}
+use Rattle.wire.specs.Cells.{listOf}
+use Rattle.wire.specs.Packet.{Content}
+use Rattle.depacketizer.specs.declared.state.Depacketizer.{Depacketizer as State}
+use Rattle.depacketizer.specs.declared.state.Field.{Field}
+use Rattle.depacketizer.specs.declared.state.Answer.{Answer}
+use Rattle.depacketizer.specs.declared.state.Answer.the-variants as answer
+use Rattle.depacketizer.specs.Step.{Gathered, lost, ready, filling, gathered, marked, taken, dropped, fits, join, follow, Class, late, next, gap, classify, distance, Step, lateStep, classStep, packetStep, admit, admittedStep, sound, step}
+use Rattle.depacketizer.proofs.NumberLaws.{Numbered, isAdmission, admit-numbered}
+
+abbrev isRefusal : Answer → Bool
+isRefusal answer.Skipped = false
+isRefusal answer.Held = false
+isRefusal answer.Mixed = false
+isRefusal answer.Overfull = false
+isRefusal (answer.Whole x) = false
+isRefusal (answer.Refused x) = true
+
+taken-answers : (x : Field) (b : Bool) → isRefusal (cond b (answer.Whole x) answer.Held) ≡ false
+taken-answers x true = refl
+taken-answers x false = refl
+
+join-answers : (r c : ℕ) (k : Content) (store : List ℕ) → isRefusal (join r c k store .answer) ≡ false
+join-answers r c k store = go (fits (r + length (k .records)) (c + length (listOf (k .records))) (length store)) _ _ _
+  where
+    go : (b : Bool) (n m : ℕ) (new : List ℕ) → isRefusal ((cond b (taken n m k new) (dropped answer.Overfull k store)) .answer) ≡ false
+    go true n m new = taken-answers _ (marked k)
+    go false n m new = refl
+
+-- a fresh packet is not refused
+follow-answers : (g : Gathered) (k : Content) (store : List ℕ) → isRefusal (follow g k store .answer) ≡ false
+follow-answers lost k store = refl
+follow-answers ready k store = join-answers 0 0 k store
+follow-answers (filling t f r c) k store = go (eqb t (k .timestamp) && eqb f (k .f))
+  where
+    go : (b : Bool) → isRefusal ((cond b (join r c k store) (dropped answer.Mixed k store)) .answer) ≡ false
+    go true = join-answers r c k store
+    go false = refl
+
+not-refused : (a : Answer) (x : Refusal) → isRefusal a ≡ false → a ≡ answer.Refused x → ⊥
+not-refused a x h e = true≢false (sym (ap isRefusal e) ∙ h)
+
+class-refuses : (c : Class) (st : State) (k : Content) (store : List ℕ) (x : Refusal) → classStep c st k store .answer ≡ answer.Refused x
+    → classStep c st k store ≡ lateStep st store
+class-refuses late st k store x e = refl
+class-refuses next st k store x e = absurd (not-refused _ x (follow-answers (gathered st) k store) e)
+class-refuses (gap n) st k store x e = absurd (not-refused _ x (follow-answers lost k store) e)
+
+-- a packet of the opened source and type is refused only where it is late
+packet-refuses : (b : Bool) (st : State) (k : Content) (store : List ℕ) (x : Refusal) → packetStep b st k store .answer ≡ answer.Refused x
+    → packetStep b st k store ≡ lateStep st store
+packet-refuses false st k store x e = absurd (not-refused _ x (follow-answers lost k store) e)
+packet-refuses true st k store x e = class-refuses (classify (distance (st .last .0) (k .number))) st k store x e
+
+refusal-inj : {x y : Refusal} → answer.Refused x ≡ answer.Refused y → x ≡ y
+refusal-inj e = cc
+
+-- the step that refuses and changes nothing
+abbrev pub unchanged : State → List ℕ → Refusal → Step
+unchanged st store x = record { answer = answer.Refused x; state = st; store = store }
+
+-- a step that refuses: it changes nothing, or counts one more as late
+pub record Refuses (st : State) (store : List ℕ) (x : Refusal) (z : Step) : Type 0 where
+  pub other : (x .number ≡ 32 → ⊥) → z ≡ unchanged st store x
+  pub late : x .number ≡ 32 → z ≡ lateStep st store
+
+unchanged-refuses : (st : State) (store : List ℕ) (x y : Refusal) → (y .number ≡ 32 → ⊥) → unchanged st store y .answer ≡ answer.Refused x
+    → Refuses st store x (unchanged st store y)
+unchanged-refuses st store x y n e =
+    let p : y ≡ x = refusal-inj e in
+    record { other = λ m. ap (unchanged st store) p; late = λ m. absurd (n (ap (λ (q : Refusal). q .number) p ∙ m)) }
+
+late-refuses : (st : State) (store : List ℕ) (x : Refusal) (z : Step) → z ≡ lateStep st store → z .answer ≡ answer.Refused x
+    → Refuses st store x z
+late-refuses st store x z q e =
+    let p : lateStep st store .answer ≡ answer.Refused x = sym (ap (λ (y : Step). y .answer) q) ∙ e in
+    record { other = λ m. absurd (m (sym (ap (λ (y : Refusal). y .number) (refusal-inj p)))); late = λ m. q }
+
+not-32 : (n : ℕ) → isAdmission n ≡ true → n ≡ 32 → ⊥
+not-32 n h e = true≢false (sym (subst (λ (m : ℕ). isAdmission m ≡ true) e h))
+
+admitted-refuses : (st : State) (r : Result Content) (store : List ℕ) (x : Refusal) → Numbered isAdmission r
+    → admittedStep st r store .answer ≡ answer.Refused x → Refuses st store x (admittedStep st r store)
+admitted-refuses st (refused y) store x h e = unchanged-refuses st store x y (not-32 (y .number) h) e
+admitted-refuses st (accepted k) store x h e = late-refuses st store x _ (packet-refuses (st .heard) st k store x e) e
+
+checked-refuses : (b : Bool) (st : State) (r : Result Content) (store : List ℕ) (x : Refusal) → Numbered isAdmission r
+    → cond b (admittedStep st r store) (unchanged st store (record { number = 35; index = 0 })) .answer ≡ answer.Refused x
+    → Refuses st store x (cond b (admittedStep st r store) (unchanged st store (record { number = 35; index = 0 })))
+checked-refuses true st r store x h e = admitted-refuses st r store x h e
+checked-refuses false st r store x h e = unchanged-refuses st store x (record { number = 35; index = 0 }) (λ n. omega arith) e
+
+-- "Lent memory is unchanged, and so is the keeper's state, but 32 adds one to the late count": over any state
+pub refused-keeps : (st : State) (octets store : List ℕ) (x : Refusal) → step st octets store .answer ≡ answer.Refused x
+    → Refuses st store x (step st octets store)
+unfolding step
+refused-keeps st octets store x e =
+    checked-refuses (sound st (length store)) st (admit (st .source) (st .«payload_type») octets) store x
+    (admit-numbered (st .source) (st .«payload_type») octets)
+    e
+
+-- what passes 35 is not refused by it
+pub admitted-not-35 : (st : State) (r : Result Content) (store : List ℕ) (x : Refusal) → Numbered isAdmission r
+    → admittedStep st r store .answer ≡ answer.Refused x → x .number ≡ 35 → ⊥
+admitted-not-35 st (refused y) store x h e n =
+    let p : y .number ≡ 35 = ap (λ (q : Refusal). q .number) (refusal-inj e) ∙ n in
+    true≢false (sym (subst (λ (m : ℕ). isAdmission m ≡ true) p h))
+admitted-not-35 st (accepted k) store x h e n =
+    let l = packet-refuses (st .heard) st k store x e in
+    let p : 32 ≡ x .number = ap (λ (y : Refusal). y .number) (refusal-inj (sym (ap (λ (y : Step). y .answer) l) ∙ e)) in
+    omega arith
+
+-- the step of a sound state
+pub sound-step : (st : State) (octets store : List ℕ) → sound st (length store) ≡ true
+    → step st octets store ≡ admittedStep st (admit (st .source) (st .«payload_type») octets) store
+unfolding step
+sound-step st octets store h = rw h

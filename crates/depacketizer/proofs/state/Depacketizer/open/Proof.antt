@@ -1,0 +1,15 @@
+-- `open` opens a depacketizer, or gives 24.
+-- By the limit of the payload type.
+use borrow.Author.Tests.{lt-leb, le-leb}
+use Rattle.wire.specs.Writing.{maxType}
+use Rattle.depacketizer.proofs.state.Depacketizer.open.Statement.{statement}
+use Rattle.depacketizer.proofs.state.Depacketizer.open.Tie as tie
+
+returns : tie.Need-returns
+returns c = rw (lt-leb (c .before .args .payload-type) maxType (c .if1 .taken))
+
+returns-2 : tie.Need-returns-2
+returns-2 c = rw (le-leb (c .before .args .payload-type) maxType (c .if1 .left))
+
+pub open-spec : {M : Type 1} → statement M
+open-spec = tie.close (tie.spec returns returns-2)

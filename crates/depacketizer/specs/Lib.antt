@@ -1,0 +1,3 @@
+pub mod Decide
+pub mod Step
+pub mod Stream

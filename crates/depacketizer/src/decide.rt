@@ -1,0 +1,143 @@
+// What a fresh packet does to what is gathered, from numbers alone (01, "Fresh arrivals").
+ghost use mathlib.Core.Path.{_≡_};
+ghost use mathlib.Core.Bool.{cond};
+ghost use Prim.Native.Nat.{_≤_};
+ghost use Rattle.wire.specs.Writing.{maxCells, maxRecords};
+ghost use Rattle.depacketizer.specs.Decide.{droppedBy, followBy, joinBy, takenBy};
+ghost use Rattle.depacketizer.specs.Step as step;
+use crate::state::Answer;
+use crate::state::Depacketizer;
+use crate::state::Field;
+use crate::state::Phase;
+use rtp::packet::Summary;
+use wire::number::Timestamp;
+
+// The answer, what is gathered then, and whether the packet's cells are appended.
+pub struct Decision {
+    pub answer: Answer,
+    pub phase: Phase,
+    pub timestamp: Timestamp,
+    pub f: u8,
+    pub records: usize,
+    pub cells: usize,
+    pub append: bool,
+}
+
+// After a marked packet the next one starts a field; after any other that is not held none can.
+fn dropped(answer: Answer, marker: bool) -> Decision
+    ensures { λ r. ⌜ r ≡ droppedBy answer marker ⌝ }
+{
+    if marker {
+        Decision {
+            answer,
+            phase: Phase::Ready,
+            timestamp: Timestamp(0),
+            f: 0,
+            records: 0,
+            cells: 0,
+            append: false,
+        }
+    } else {
+        Decision {
+            answer,
+            phase: Phase::Lost,
+            timestamp: Timestamp(0),
+            f: 0,
+            records: 0,
+            cells: 0,
+            append: false,
+        }
+    }
+}
+
+// The field is whole with a marked packet, and held with any other.
+fn taken(summary: Summary, records: usize, cells: usize) -> Decision
+    ensures { λ r. ⌜ r ≡ takenBy summary records cells ⌝ }
+{
+    let head = summary.head;
+    let timestamp = head.timestamp;
+    let f = head.f;
+    if head.marker {
+        Decision {
+            answer: Answer::Whole(Field {
+                timestamp,
+                f,
+                records,
+                cells,
+            }),
+            phase: Phase::Ready,
+            timestamp: Timestamp(0),
+            f: 0,
+            records: 0,
+            cells: 0,
+            append: true,
+        }
+    } else {
+        Decision {
+            answer: Answer::Held,
+            phase: Phase::Filling,
+            timestamp,
+            f,
+            records,
+            cells,
+            append: true,
+        }
+    }
+}
+
+pub fn fits(records: usize, cells: usize, room: usize) -> bool
+    ensures { λ r. ⌜ r ≡ step.fits records cells room ⌝ }
+{
+    (records <= 255) & ((cells <= 16384) & (cells <= room))
+}
+
+// A packet joins so many records in so many cells.
+fn join(records: usize, cells: usize, summary: Summary, room: usize) -> Decision
+    requires { ⌜ (records ≤ maxRecords) × (cells ≤ maxCells) ⌝ }
+    ensures { λ r. ⌜ r ≡ joinBy records cells summary room ⌝ }
+{
+    let head = summary.head;
+    if summary.cells > 16384 {
+        return dropped(Answer::Overfull, head.marker);
+    }
+    let all = records + (summary.records as usize);
+    let used = cells + summary.cells;
+    if !fits(all, used, room) {
+        return dropped(Answer::Overfull, head.marker);
+    }
+    taken(summary, all, used)
+}
+
+// A packet that follows the last fresh one.
+fn follow(state: Depacketizer, summary: Summary, room: usize) -> Decision
+    requires { ⌜ (state .records ≤ maxRecords) × (state .cells ≤ maxCells) ⌝ }
+    ensures { λ r. ⌜ r ≡ followBy (step.gathered state) summary room ⌝ }
+{
+    let head = summary.head;
+    let phase = state.phase;
+    match phase {
+        Phase::Lost => dropped(Answer::Skipped, head.marker),
+        Phase::Ready => join(0, 0, summary, room),
+        Phase::Filling => {
+            let gathered = state.timestamp;
+            let arrived = head.timestamp;
+            if (gathered.0 == arrived.0) & (state.f == head.f) {
+                join(state.records, state.cells, summary, room)
+            } else {
+                dropped(Answer::Mixed, head.marker)
+            }
+        }
+    }
+}
+
+// `next` where the packet follows the last fresh one; else there is a gap before it, and what was gathered is dropped.
+pub fn decide(state: Depacketizer, next: bool, summary: Summary, room: usize) -> Decision
+    requires { ⌜ (state .records ≤ maxRecords) × (state .cells ≤ maxCells) ⌝ }
+    ensures { λ r. ⌜ r ≡ followBy (cond next (step.gathered state) step.lost) summary room ⌝ }
+{
+    if next {
+        return follow(state, summary, room);
+    }
+    let head = summary.head;
+    dropped(Answer::Skipped, head.marker)
+}

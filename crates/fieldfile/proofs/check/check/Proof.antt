@@ -1,0 +1,102 @@
+-- `check` tells what the field at an offset says, and the offset after it, or gives the refusal.
+-- Stage by stage; the octets from the offset on are what is left of the file.
+use borrow.Author.Needs.{needs}
+use mathlib.Core.Path.{ap, sym, _∙_}
+use mathlib.Core.List.{List}
+use Prim.Native.Nat.{ℕ, _+_, _≤_}
+use lib.ListN.{length}
+use Rattle.wire.specs.Result.{_then_, accepted}
+use Rattle.wire.proofs.ListLaws.{part-all}
+use Rattle.wire.proofs.ResultLaws.{Passed}
+use Rattle.fieldfile.specs.File.{fieldSize, readFront, fileChecks, offsetChecks}
+use Rattle.fieldfile.specs.Answers.{stageRefusal, readOf}
+use Rattle.fieldfile.specs.declared.field.FieldRead.the-variants as read
+use Rattle.fieldfile.proofs.StageLaws.{stage-passed}
+use Rattle.fieldfile.proofs.ReadLaws.{refused-file, refused-offset, offset-there, passed-both}
+use Rattle.fieldfile.proofs.check.check.Statement.{statement}
+use Rattle.fieldfile.proofs.check.check.Tie as tie
+
+-- the stages that passed
+file-passed : (c : tie.After-enum-told) → Passed (fileChecks (c .before .before .before .before .args .file .now))
+file-passed c = stage-passed (fileChecks (c .before .before .before .before .args .file .now)) (sym (c .before .before .check-file .ensures) ∙ c .enum-told .given .1)
+
+offset-passed : (c : tie.After-enum-told3) → Passed (offsetChecks (c .before .before .before .before .before .before .before .args .file .now) (c .before .before .before .before .before .before .before .args .at .0))
+offset-passed c = stage-passed (offsetChecks (c .before .before .before .before .before .before .before .args .file .now) (c .before .before .before .before .before .before .before .args .at .0)) (sym (c .before .before .check-offset .ensures) ∙ c .enum-told3 .given .1)
+
+inside : (c : tie.After-enum-told3) → c .before .before .before .before .before .before .before .args .at .0 ≤ length (c .before .before .before .before .before .before .before .args .file .now)
+inside c = offset-there (c .before .before .before .before .before .before .before .args .file .now) (c .before .before .before .before .before .before .before .args .at .0) (offset-passed c)
+
+check-file-requires : tie.Need-check-file-requires
+check-file-requires c κs = search needs
+
+enum-told : tie.Need-enum-told
+enum-told c = search needs
+
+enum-told-2 : tie.Need-enum-told-2
+enum-told-2 c = search needs
+
+refusal-requires : tie.Need-refusal-requires
+refusal-requires c κs = search needs
+
+returns : tie.Need-returns
+returns c =
+    let a = c .before .before .before .before .before .args in
+    let t = c .before .enum-told2 .given in
+    rw (refused-file (a .file .now) (a .at .0) _ (sym (c .before .before .before .check-file .ensures) ∙ t .1)) (ap read.Refused (c .refusal .ensures ∙ ap stageRefusal (t .1)))
+
+check-offset-requires : tie.Need-check-offset-requires
+check-offset-requires c κs = search needs
+
+enum-told-3 : tie.Need-enum-told-3
+enum-told-3 c = search needs
+
+enum-told-4 : tie.Need-enum-told-4
+enum-told-4 c = search needs
+
+refusal-requires-2 : tie.Need-refusal-requires-2
+refusal-requires-2 c κs = search needs
+
+returns-2 : tie.Need-returns-2
+returns-2 c =
+    let a = c .before .before .before .before .before .before .before .before .args in
+    let t = c .before .enum-told4 .given in
+    rw (refused-offset (a .file .now) (a .at .0) _ (file-passed (c .before .before .before .before)) (sym (c .before .before .before .check-offset .ensures) ∙ t .1)) (ap read.Refused (c .refusal2 .ensures ∙ ap stageRefusal (t .1)))
+
+sub-check-front : tie.Need-sub-check-front
+sub-check-front c = inside c
+
+part-check-front-start : tie.Need-part-check-front-start
+part-check-front-start c = inside c
+
+part-check-front-end : tie.Need-part-check-front-end
+part-check-front-end c = search needs
+
+check-front-requires : tie.Need-check-front-requires
+check-front-requires c κs = search needs
+
+returns-3 : tie.Need-returns-3
+returns-3 c =
+    let a = c .before .before .before .before .before .before .before .before .before .args in
+    c .check-front .ensures
+    ∙ ap (λ (x : List ℕ). readOf (readFront x then λ k. accepted (k, a .at .0 + fieldSize (k .records)))) (part-all (a .at .0) (a .file .now))
+    ∙ ap readOf (sym (passed-both (a .file .now) (a .at .0) (file-passed (c .before .before .before .before .before)) (offset-passed (c .before .before))))
+
+pub check-spec : {M : Type 1} → statement M
+check-spec =
+    tie.close
+    (tie.spec
+    check-file-requires
+    enum-told
+    enum-told-2
+    refusal-requires
+    returns
+    check-offset-requires
+    enum-told-3
+    enum-told-4
+    refusal-requires-2
+    returns-2
+    sub-check-front
+    part-check-front-start
+    part-check-front-end
+    check-front-requires
+    returns-3)

@@ -1,0 +1,140 @@
+-- `check_front` tells what the field at the front of the octets says, and the offset after it, or gives the refusal.
+-- Stage by stage: what each stage told is carried to the next.
+use borrow.Author.Needs.{needs}
+use mathlib.Core.Path.{_≡_, ap, ap₂, sym, _∙_}
+use mathlib.Core.List.{List}
+use Prim.Native.Nat.{ℕ, _+_, _<_, _≤_}
+use native.Mathlib.Omega.{arith}
+use lib.ListN.{length, drop, getD}
+use Rattle.wire.specs.Layout.{rfc8331}
+use Rattle.wire.specs.Anc.{readRun}
+use Rattle.wire.proofs.ResultLaws.{Passed}
+use Rattle.wire.proofs.ListLaws.{part-all}
+use Rattle.wire.proofs.Window.{below-all}
+use Rattle.anc.specs.Answers.{runOf, runRefusal}
+use Rattle.fieldfile.specs.File.{fieldHeaderSize, countField, headerChecks}
+use Rattle.fieldfile.specs.Answers.{stageRefusal}
+use Rattle.fieldfile.specs.declared.field.FieldRead.the-variants as read
+use Rattle.fieldfile.proofs.HeadFields.{f-at, count-at}
+use Rattle.fieldfile.proofs.StageLaws.{stage-passed}
+use Rattle.fieldfile.proofs.FrontLaws.{header-there}
+use Rattle.fieldfile.proofs.ReadLaws.{refused-header, refused-run, run-fits, over-cells, found-field}
+use Rattle.fieldfile.proofs.check.check_front.Statement.{statement}
+use Rattle.fieldfile.proofs.check.check_front.Tie as tie
+
+-- the header's stage passed
+passed : (c : tie.After-enum-told) → Passed (headerChecks (c .before .before .before .before .args .octets .now))
+passed c = stage-passed (headerChecks (c .before .before .before .before .args .octets .now)) (sym (c .before .before .check-header .ensures) ∙ c .enum-told .given .1)
+
+-- what the run was checked on
+ran : (c : tie.After-check-run) → let s = c .before .before .before .before .before .before .before .args .octets .now in runOf (readRun rfc8331 0 (countField s) (drop fieldHeaderSize s)) ≡ c .check-run .result
+ran c =
+    let s = c .before .before .before .before .before .before .before .args .octets .now in
+    let n = count-at s (λ j. c .before .before .before .before .before .before .shared-slice-known .given j .fits) (header-there s (passed (c .before .before .before))) in
+    ap₂ (λ (x : ℕ) (y : List ℕ). runOf (readRun rfc8331 0 x y)) (sym n) (sym (part-all fieldHeaderSize s)) ∙ sym (c .check-run .ensures)
+
+-- the run lies within the octets
+fits : (c : tie.After-known-told) → fieldHeaderSize + c .before .run .given .0 .0 .0 ≤ length (c .before .before .before .before .before .before .before .before .before .before .args .octets .now)
+fits c =
+    let s = c .before .before .before .before .before .before .before .before .before .before .args .octets .now in
+    run-fits s (passed (c .before .before .before .before .before .before)) (below-all s (λ j. c .before .before .before .before .before .before .before .before .before .shared-slice-known .given j .fits)) _ _ (ran (c .before .before .before) ∙ c .before .run .given .1)
+
+check-header-requires : tie.Need-check-header-requires
+check-header-requires c κs = search needs
+
+enum-told : tie.Need-enum-told
+enum-told c = search needs
+
+enum-told-2 : tie.Need-enum-told-2
+enum-told-2 c = search needs
+
+refusal-requires : tie.Need-refusal-requires
+refusal-requires c κs = search needs
+
+returns : tie.Need-returns
+returns c =
+    let s = c .before .before .before .before .before .args .octets .now in
+    let t = c .before .enum-told2 .given in
+    rw (refused-header s _ (sym (c .before .before .before .check-header .ensures) ∙ t .1)) (ap read.Refused (c .refusal .ensures ∙ ap stageRefusal (t .1)))
+
+shared-slice-read-count : tie.Need-shared-slice-read-count
+shared-slice-read-count c = omega (arith, header-there (c .before .before .before .before .before .args .octets .now) (passed (c .before)))
+
+sub-check-run : tie.Need-sub-check-run
+sub-check-run c = header-there (c .before .before .before .before .before .args .octets .now) (passed (c .before))
+
+part-check-run-start : tie.Need-part-check-run-start
+part-check-run-start c = header-there (c .before .before .before .before .before .args .octets .now) (passed (c .before))
+
+part-check-run-end : tie.Need-part-check-run-end
+part-check-run-end c = search needs
+
+check-run-requires : tie.Need-check-run-requires
+check-run-requires c κs = search needs
+
+enum-known-run : tie.Need-enum-known-run
+enum-known-run c = search needs
+
+enum-told-3 : tie.Need-enum-told-3
+enum-told-3 c = search needs
+
+refusal-requires-2 : tie.Need-refusal-requires-2
+refusal-requires-2 c κs = search needs
+
+returns-2 : tie.Need-returns-2
+returns-2 c =
+    let s = c .before .before .before .before .before .before .before .before .before .before .args .octets .now in
+    let t = c .before .enum-told3 .given in
+    rw (refused-run s (passed (c .before .before .before .before .before .before)) _ (ran (c .before .before .before) ∙ t .1)) (ap read.Refused (c .refusal2 .ensures ∙ ap runRefusal (t .1)))
+
+returns-3 : tie.Need-returns-3
+returns-3 c =
+    let s = c .before .before .before .before .before .before .before .before .before .before .before .args .octets .now in
+    rw (over-cells s (passed (c .before .before .before .before .before .before .before)) (below-all s (λ j. c .before .before .before .before .before .before .before .before .before .before .shared-slice-known .given j .fits)) _ _ (ran (c .before .before .before .before) ∙ c .before .before .run .given .1) (c .if1 .taken))
+
+quad-at-requires : tie.Need-quad-at-requires
+quad-at-requires c κs = omega (arith, header-there (c .before .before .before .before .before .before .before .before .before .before .before .args .octets .now) (passed (c .before .before .before .before .before .before .before)))
+
+shared-slice-read-t10 : tie.Need-shared-slice-read-t10
+shared-slice-read-t10 c = omega (arith, header-there (c .before .before .before .before .before .before .before .before .before .before .before .before .before .args .octets .now) (passed (c .before .before .before .before .before .before .before .before .before)))
+
+add-t12 : tie.Need-add-t12
+add-t12 c = omega (arith, fits (c .before .before .before .before))
+
+add-t21 : tie.Need-add-t21
+add-t21 c = omega (arith, fits (c .before .before .before .before .before), c .before .before .before .before .before .before .before .before .before .before .before .before .before .before .before .pre)
+
+returns-4 : tie.Need-returns-4
+returns-4 c =
+    let a = c .before .before .before .before .before .before .before .before .before .before .before .before .before .before .before .args in
+    let s = a .octets .now in
+    let o : (j : ℕ) → getD s j 0 < 256 = λ j. c .before .before .before .before .before .before .before .before .before .before .before .before .before .before .shared-slice-known .given j .fits in
+    let l = header-there s (passed (c .before .before .before .before .before .before .before .before .before .before .before)) in
+    sym
+    (found-field s (passed (c .before .before .before .before .before .before .before .before .before .before .before)) (below-all s o) _ _ (ran (c .before .before .before .before .before .before .before .before) ∙ c .before .before .before .before .before .before .run .given .1) (c .before .before .before .before .if1 .left) (a .at .0)
+    ∙ λ i. read.Field (record { timestamp = record { 0 = sym (c .before .before .before .quad-at .ensures) i }; f = sym (f-at s o l) i; records = sym (count-at s o l) i; cells = c .before .before .before .before .before .before .run .given .0 .1 .0; next = record { 0 = a .at .0 + (fieldHeaderSize + c .before .before .before .before .before .before .run .given .0 .0 .0) } }))
+
+pub check-front-spec : {M : Type 1} → statement M
+check-front-spec =
+    tie.close
+    (tie.spec
+    check-header-requires
+    enum-told
+    enum-told-2
+    refusal-requires
+    returns
+    shared-slice-read-count
+    sub-check-run
+    part-check-run-start
+    part-check-run-end
+    check-run-requires
+    enum-known-run
+    enum-told-3
+    refusal-requires-2
+    returns-2
+    returns-3
+    quad-at-requires
+    shared-slice-read-t10
+    add-t12
+    add-t21
+    returns-4)

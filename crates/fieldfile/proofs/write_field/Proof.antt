@@ -1,0 +1,103 @@
+-- `write_field` writes a field into the lent octets, or gives the refusal and leaves them.
+-- By what was measured: the header, and the run behind it.
+use borrow.Author.Needs.{needs}
+use mathlib.Core.Path.{_≡_, ap, sym, subst, _∙_}
+use Prim.Native.Nat.{ℕ, _+_, _≤_}
+use native.Mathlib.Omega.{arith}
+use lib.ListN.{length, length-take, length-drop}
+use Rattle.wire.specs.Layout.{rfc8331}
+use Rattle.wire.specs.Result.{IsAccepted}
+use Rattle.wire.proofs.AncLaws.{length-run}
+use Rattle.cells.specs.Answers.{listOctets, listRefusal}
+use Rattle.fieldfile.specs.File.{fieldHeaderSize, recordsToWrite}
+use Rattle.fieldfile.specs.declared.field.Written.the-variants as written
+use Rattle.fieldfile.proofs.WriteLaws.{Taken, taken, listed-refused, small, Writes, writes, written-whole, written-length}
+use Rattle.fieldfile.proofs.write_field.Statement.{statement}
+use Rattle.fieldfile.proofs.write_field.Tie as tie
+
+-- the field was measured and fits
+found : (c : tie.After-known-told) → Taken (recordsToWrite (c .before .before .before .before .before .before .args .f) (c .before .before .before .before .before .before .args .cells .now) (length (c .before .before .before .before .before .before .args .out .now))) (c .before .listed .given .0 .0) (c .before .listed .given .0 .1 .0)
+found c = taken (recordsToWrite (c .before .before .before .before .before .before .args .f) (c .before .before .before .before .before .before .args .cells .now) (length (c .before .before .before .before .before .before .args .out .now))) _ _ (sym (c .before .before .before .measure .ensures) ∙ c .before .listed .given .1)
+
+fits : (c : tie.After-known-told) → Writes (c .before .before .before .before .before .before .args .f) (c .before .before .before .before .before .before .args .cells .now) (length (c .before .before .before .before .before .before .args .out .now)) (found c .rs)
+fits c = writes (c .before .before .before .before .before .before .args .f) (c .before .before .before .before .before .before .args .cells .now) (length (c .before .before .before .before .before .before .args .out .now)) (found c .rs) (found c .reads)
+
+enough : (c : tie.After-known-told) → fieldHeaderSize + c .before .listed .given .0 .1 .0 .0 ≤ length (c .before .before .before .before .before .before .args .out .now)
+enough c = omega (arith, fits c .enough, found c .size)
+
+same : (c : tie.After-slice-known2) → length (c .before .before .write-header .last .1 .1 .1 .0) ≡ length (c .before .before .before .before .before .before .before .before .before .before .args .out .now)
+same c = c .before .before .write-header .kept .1 .1 .1 .0
+
+measure-requires : tie.Need-measure-requires
+measure-requires c κs = search needs
+
+enum-known-listed : tie.Need-enum-known-listed
+enum-known-listed c = search needs
+
+enum-told : tie.Need-enum-told
+enum-told c = search needs
+
+refusal-requires : tie.Need-refusal-requires
+refusal-requires c κs = search needs
+
+returns : tie.Need-returns
+returns c =
+    let a = c .before .before .before .before .before .before .args in
+    let t = c .before .enum-told .given in
+    let e = listed-refused (recordsToWrite (a .f) (a .cells .now) (length (a .out .now))) _ (sym (c .before .before .before .measure .ensures) ∙ t .1) in
+    (rw e (ap written.Refused (c .refusal .ensures ∙ ap listRefusal (t .1))), rw e)
+
+cast-write-header : tie.Need-cast-write-header
+cast-write-header c = omega (arith, fits c .few, found c .count)
+
+write-header-requires : tie.Need-write-header-requires
+write-header-requires c κs = omega (arith, enough (c .before))
+
+sub-write-run : tie.Need-sub-write-run
+sub-write-run c = omega (arith, same c, enough (c .before .before .before .before))
+
+part-write-run-start : tie.Need-part-write-run-start
+part-write-run-start c = omega (arith, same c, enough (c .before .before .before .before))
+
+part-write-run-end : tie.Need-part-write-run-end
+part-write-run-end c = search needs
+
+write-run-requires : tie.Need-write-run-requires
+write-run-requires c κs =
+    let w = fits (c .before .before .before .before .before) in
+    let t = found (c .before .before .before .before .before) in
+    let e = ap (λ r. length (listOctets r)) (w .reads) ∙ length-run rfc8331 (t .rs) ∙ t .size in
+    (subst IsAccepted (sym (w .reads)) tt, simp (length-take, length-drop) (omega (arith, e, same (c .before), enough (c .before .before .before .before .before))))
+
+add-t8 : tie.Need-add-t8
+add-t8 c = omega (arith, enough (c .before .before .before .before .before .before .before .before .before), small (c .before .before .before .before .before .before .before .before .before .before .before .before .before .before .before .args .cells .now) (found (c .before .before .before .before .before .before .before .before .before) .rs) (fits (c .before .before .before .before .before .before .before .before .before) .reads) (fits (c .before .before .before .before .before .before .before .before .before) .short), found (c .before .before .before .before .before .before .before .before .before) .size)
+
+same-length : tie.Need-same-length
+same-length c = search needs
+
+returns-2 : tie.Need-returns-2
+returns-2 c =
+    let a = c .before .before .before .before .before .before .before .before .before .before .before .before .before .before .before .args in
+    let t = found (c .before .before .before .before .before .before .before .before .before) in (
+      sym (written-length (a .timestamp .0) (a .f) (a .cells .now) (length (a .out .now)) (t .rs) (t .reads) ∙ ap (λ (n : ℕ). written.Octets (record { 0 = fieldHeaderSize + n })) (t .size)),
+      written-whole (a .timestamp .0) (a .f) (a .cells .now) (length (a .out .now)) (t .rs) (t .reads) _ (sym (t .count)) (a .out .now) (c .before .before .before .before .before .before .before .write-header .last .1 .1 .1 .0) (c .before .before .before .write-run .last .1 .0) (c .before .before .before .before .before .before .before .write-header .ensures) (c .before .before .before .write-run .ensures),
+    )
+
+pub write-field-spec : {M : Type 1} → statement M
+write-field-spec =
+    tie.close
+    (tie.spec
+    measure-requires
+    enum-known-listed
+    enum-told
+    refusal-requires
+    returns
+    cast-write-header
+    write-header-requires
+    sub-write-run
+    part-write-run-start
+    part-write-run-end
+    write-run-requires
+    add-t8
+    same-length
+    returns-2)

@@ -1,0 +1,60 @@
+-- What the answers say in the papers' terms: the refusal, or what was found.
+use mathlib.Core.Bool.{cond}
+use mathlib.Core.List.{List, [], _∷_}
+use Prim.Native.Nat.{ℕ}
+use lib.ListN.{length}
+use Rattle.wire.specs.declared.refusal.Refusal.{Refusal}
+use Rattle.wire.specs.Bits.{overwrite}
+use Rattle.wire.specs.Result.{Result, refused, accepted, Checks}
+use Rattle.wire.specs.Cells.{listOf}
+use Rattle.fieldfile.specs.File.{FieldContent}
+use Rattle.fieldfile.specs.declared.field.Summary.{Summary}
+use Rattle.fieldfile.specs.declared.field.FieldRead.{FieldRead}
+use Rattle.fieldfile.specs.declared.field.FieldRead.the-variants as read
+use Rattle.fieldfile.specs.declared.field.Written.{Written}
+use Rattle.fieldfile.specs.declared.field.Written.the-variants as written
+use Rattle.fieldfile.specs.declared.field.Begun.{Begun}
+use Rattle.fieldfile.specs.declared.field.Begun.the-variants as begun
+use Rattle.fieldfile.specs.declared.stage.Stage.{Stage}
+use Rattle.fieldfile.specs.declared.stage.Stage.the-variants as stage
+
+-- a stage before the ANC data packets
+abbrev pub stageOf : Checks → Stage
+stageOf [] = stage.Passed
+stageOf (t ∷ ts) = cond (t .0) (stageOf ts) (stage.Refused (record { number = t .1; index = 0 }))
+
+abbrev pub stageRefusal : Stage → Refusal
+stageRefusal (stage.Refused x) = x
+stageRefusal stage.Passed = record { number = 0; index = 0 }
+
+-- a field read, with the offset after it, and what the lent list then holds
+abbrev pub summaryOf : FieldContent × ℕ → Summary
+summaryOf q =
+    record {
+      timestamp = record { 0 = q .0 .timestamp };
+      f = q .0 .f;
+      records = length (q .0 .records);
+      cells = length (listOf (q .0 .records));
+      next = record { 0 = q .1 };
+    }
+
+abbrev pub readOf : Result (FieldContent × ℕ) → FieldRead
+readOf (refused x) = read.Refused x
+readOf (accepted q) = read.Field (summaryOf q)
+
+abbrev pub cellsAfter : Result (FieldContent × ℕ) → List ℕ → List ℕ
+cellsAfter (refused x) cells = cells
+cellsAfter (accepted q) cells = overwrite (listOf (q .0 .records)) cells
+
+-- a file begun: the offset of its first field; a field written: its octets; and what the lent octets then hold
+abbrev pub begunOf : Result (List ℕ) → Begun
+begunOf (refused x) = begun.Refused x
+begunOf (accepted o) = begun.First (record { 0 = length o })
+
+abbrev pub writtenOf : Result (List ℕ) → Written
+writtenOf (refused x) = written.Refused x
+writtenOf (accepted o) = written.Octets (record { 0 = length o })
+
+abbrev pub octetsAfter : Result (List ℕ) → List ℕ → List ℕ
+octetsAfter (refused x) octets = octets
+octetsAfter (accepted o) octets = overwrite o octets

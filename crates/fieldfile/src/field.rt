@@ -1,0 +1,29 @@
+// What the reader and the writer return (01, "Field file").
+use wire::count::OctetCount;
+use wire::number::Timestamp;
+use wire::refusal::Refusal;
+
+// What a field says, with the number of its records and of their cells, and the offset after it.
+pub struct Summary {
+    pub timestamp: Timestamp,
+    pub f: u8,
+    pub records: u8,
+    pub cells: usize,
+    pub next: OctetCount,
+}
+
+pub enum FieldRead {
+    Field(Summary),
+    Refused(Refusal),
+}
+
+pub enum Written {
+    Octets(OctetCount),
+    Refused(Refusal),
+}
+
+// A file that was begun, with the offset of its first field.
+pub enum Begun {
+    First(OctetCount),
+    Refused(Refusal),
+}

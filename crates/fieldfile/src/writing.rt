@@ -1,0 +1,69 @@
+// A field measured and its header written.
+ghost use mathlib.Core.Path.{_≡_};
+ghost use Prim.Native.Nat.{_≤_};
+ghost use lib.ListN.{length};
+ghost use Rattle.cells.specs.Answers.{listedOf};
+ghost use Rattle.wire.specs.Bits.{overwrite, pack};
+ghost use Rattle.fieldfile.specs.File.{fieldHeaderSize, headerFields, recordsToWrite};
+use crate::format::HEADER_SIZE;
+use crate::format::MAX_CELLS;
+use crate::format::MAX_RECORDS;
+use crate::stage::f_ok;
+use cells::check::Listed;
+use cells::check::check_list;
+use wire::number::Timestamp;
+use wire::refusal::Refusal;
+use words::octet::copy;
+
+fn refuse(number: u8) -> Listed
+    ensures { λ r. ⌜ r ≡ Listed.Refused (record { number = number; index = 0 }) ⌝ }
+{
+    Listed::Refused(Refusal { number, index: 0 })
+}
+
+// 53, 20, 21, 23: the records, and the octets of their ANC data packets.
+pub fn measure(f: u8, cells: &[u16], room: usize) -> Listed
+    ensures { λ r. ⌜ r ≡ listedOf (recordsToWrite f (now (cells .entry)) room) ⌝ }
+{
+    if !f_ok(f) {
+        return refuse(Refusal::FILE_F_INVALID);
+    }
+    let listed = check_list(cells);
+    let Listed::Records { count, octets } = listed else {
+        return listed;
+    };
+    if count > MAX_RECORDS {
+        return refuse(Refusal::OVER_LIMIT);
+    }
+    if cells.len() > MAX_CELLS {
+        return refuse(Refusal::OVER_LIMIT);
+    }
+    if room < HEADER_SIZE + octets.0 {
+        return refuse(Refusal::ROOM_TOO_SMALL);
+    }
+    listed
+}
+
+// The octets before a field's ANC data packets.
+fn header(timestamp: Timestamp, f: u8, count: u8) -> [u8; 6]
+    ensures { λ r. ⌜ r ≡ pack (headerFields (timestamp .0) f count) ⌝ }
+{
+    let time = timestamp.0;
+    [
+        (time / 16777216) as u8,
+        (time / 65536 % 256) as u8,
+        (time / 256 % 256) as u8,
+        (time % 256) as u8,
+        f,
+        count,
+    ]
+}
+
+// Writes them to the first octets.
+pub fn write_header(timestamp: Timestamp, f: u8, count: u8, octets: &mut [u8])
+    requires { ⌜ fieldHeaderSize ≤ length (now octets) ⌝ }
+    ensures { λ r. ⌜ now (octets .exit) ≡ overwrite (pack (headerFields (timestamp .0) f count)) (now (octets .entry)) ⌝ }
+{
+    let header = header(timestamp, f, count);
+    copy(&header, octets);
+}

@@ -1,0 +1,172 @@
+// Writes a field file with the records A and B of 01, "Marked examples", to disk, reads it back through the entry points and
+// prints it: its octets in hex, then each field and its cells up to 54, and then some of the other refusals.
+use fieldfile::field::Begun;
+use fieldfile::field::FieldRead;
+use fieldfile::field::Written;
+use libc::STDOUT_FILENO;
+use wire::count::OctetCount;
+use wire::number::Timestamp;
+use wire::refusal::Refusal;
+
+fn print(text: &[u8]) {
+    io::write_all(STDOUT_FILENO, text);
+}
+
+fn number(label: &[u8], n: u64) {
+    print(label);
+    io::print_decimal(STDOUT_FILENO, n);
+}
+
+fn wide8(x: u8) -> u64 {
+    x as u64
+}
+
+fn wide16(x: u16) -> u64 {
+    x as u64
+}
+
+fn print_octets(octets: &[u8]) {
+    let mut k: usize = 0;
+    while k < octets.len() {
+        io::print_hex(STDOUT_FILENO, wide8(octets[k]), 2);
+        k += 1;
+    }
+    print(b"\n");
+}
+
+fn print_cells(cells: &[u16]) {
+    let mut k: usize = 0;
+    while k < cells.len() {
+        print(b" ");
+        io::print_hex(STDOUT_FILENO, wide16(cells[k]), 1);
+        k += 1;
+    }
+    print(b"\n");
+}
+
+fn print_refusal(refusal: Refusal) {
+    number(b"refused ", refusal.number as u64);
+    number(b" ", refusal.index as u64);
+    print(b"\n");
+}
+
+// Writes the first octets of a file.
+fn begin(to: i32) {
+    let mut out = [0u8; 64];
+    let begun = fieldfile::begin(&mut out);
+    match begun {
+        Begun::Refused(refusal) => print_refusal(refusal),
+        Begun::First(at) => {
+            let n = at.0;
+            if n <= 64 {
+                io::write_all(to, &out[..n]);
+            }
+        }
+    }
+}
+
+// Writes a field behind what was written.
+fn append(to: i32, time: u32, f: u8, cells: &[u16]) {
+    let mut out = [0u8; 64];
+    let written = fieldfile::write_field(Timestamp(time), f, cells, &mut out);
+    match written {
+        Written::Refused(refusal) => print_refusal(refusal),
+        Written::Octets(size) => {
+            let n = size.0;
+            if n <= 64 {
+                io::write_all(to, &out[..n]);
+            }
+        }
+    }
+}
+
+// Reads the field at an offset and prints what it says; the offset after it, or the same where it is refused.
+fn show(file: &[u8], at: usize) -> usize {
+    let mut cells = [0u16; 32];
+    let read = fieldfile::read_field(file, OctetCount(at), &mut cells);
+    match read {
+        FieldRead::Refused(refusal) => {
+            print_refusal(refusal);
+            at
+        }
+        FieldRead::Field(summary) => {
+            let time = summary.timestamp;
+            let next = summary.next;
+            number(b"at=", at as u64);
+            number(b" ts=", time.0 as u64);
+            number(b" f=", summary.f as u64);
+            number(b" records=", summary.records as u64);
+            number(b" next=", next.0 as u64);
+            let n = summary.cells;
+            if n <= 32 {
+                print_cells(&cells[..n]);
+            }
+            next.0
+        }
+    }
+}
+
+// The file is written with two fields; of the two others one has F 1 and one a record that is cut.
+fn write_file(to: i32) {
+    let both = [
+        0u16,
+        9,
+        0,
+        0,
+        0,
+        0x41,
+        5,
+        0,
+        1,
+        0x7FF,
+        0xFFF,
+        1,
+        3,
+        0x61,
+        2,
+        2,
+        0x2AA,
+        0x155,
+    ];
+    begin(to);
+    append(to, 1000, 2, &both[..8]);
+    append(to, 7, 1, &both[..8]);
+    append(to, 7, 0, &both[..9]);
+    append(to, 0x01020304, 3, &both);
+}
+
+// The two fields and the end, offsets that no field can have, a cut file, and another one.
+fn show_file(file: &[u8]) {
+    print_octets(file);
+    let second = show(file, 5);
+    let end = show(file, second);
+    show(file, end);
+    show(file, 4);
+    show(file, file.len());
+    if file.len() > 22 {
+        show(&file[..22], 5);
+        show(&file[..10], 5);
+        show(&file[..4], 5);
+    }
+    show(&b"not a field file"[..], 5);
+}
+
+fn main() {
+    let path = b"fields.anf";
+    let made = os::open_overwrite(path);
+    if made < 0 {
+        os::fail(path);
+        return;
+    }
+    write_file(made);
+    libc::close(made);
+    let back = os::open_read(path);
+    if back < 0 {
+        os::fail(path);
+        return;
+    }
+    let mut file = [0u8; 256];
+    let got = io::read_full(back, &mut file);
+    libc::close(back);
+    show_file(&file[..got]);
+}

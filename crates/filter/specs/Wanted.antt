@@ -1,0 +1,37 @@
+-- Which records are wanted: "a record is wanted if the row is empty or both its DID and SDID match an entry" (01, "SDP parameters").
+use mathlib.Core.Bool.{Bool, false, _&&_, _||_}
+use mathlib.Core.List.{List, [], _∷_}
+use Prim.Native.Nat.{ℕ}
+use lib.ListN.{length}
+use lib.Dec.{eqb, ltb}
+use Rattle.filter.specs.declared.DidSdid.{DidSdid}
+
+-- "both its DID and SDID match an entry": the record's numbers, and the entry's
+unfoldable pub matching : ℕ → ℕ → ℕ → ℕ → Bool
+matching did sdid entryDid entrySdid = eqb entryDid did && eqb entrySdid sdid
+
+-- over plain octets, DID and SDID in turn; a last octet without an SDID is no entry
+unfoldable pub anyIn : ℕ → ℕ → List ℕ → Bool
+anyIn did sdid [] = false
+anyIn did sdid (d ∷ []) = false
+anyIn did sdid (d ∷ s ∷ pairs) = matching did sdid d s || anyIn did sdid pairs
+
+-- fewer than two octets have no entry
+abbrev pub wantedIn : ℕ → ℕ → List ℕ → Bool
+wantedIn did sdid pairs = ltb (length pairs) 2 || anyIn did sdid pairs
+
+-- over a list of pairs
+abbrev pub matchingPair : ℕ → ℕ → DidSdid → Bool
+matchingPair did sdid p = matching did sdid (p .did) (p .sdid)
+
+unfoldable pub anyOf : ℕ → ℕ → List DidSdid → Bool
+anyOf did sdid [] = false
+anyOf did sdid (p ∷ pairs) = matchingPair did sdid p || anyOf did sdid pairs
+
+abbrev pub wantedOf : ℕ → ℕ → List DidSdid → Bool
+wantedOf did sdid pairs = eqb (length pairs) 0 || anyOf did sdid pairs
+
+-- the octets of a list of pairs
+abbrev pub octetsOf : List DidSdid → List ℕ
+octetsOf [] = []
+octetsOf (p ∷ pairs) = p .did ∷ p .sdid ∷ octetsOf pairs

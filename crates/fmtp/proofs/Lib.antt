@@ -1,0 +1,4 @@
+pub mod LeftLaws
+pub mod GatherLaws
+pub mod StoreLaws
+pub mod TextLaws

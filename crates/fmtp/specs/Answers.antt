@@ -1,0 +1,61 @@
+-- What the answers say in the definitions' terms: the refusal, or what was read or written.
+use mathlib.Core.Path.{_≡_}
+use mathlib.Core.Bool.{cond}
+use mathlib.Core.List.{List, [], _∷_}
+use Prim.Native.Nat.{ℕ, _/_, _≤_}
+use lib.Dec.{ltb, eqb}
+use lib.ListN.{length, drop}
+use Rattle.wire.specs.Result.{Result, refused, accepted}
+use Rattle.sdp.specs.declared.item.Item.{Item}
+use Rattle.sdp.specs.declared.parameters.Parameters.{Parameters}
+use Rattle.sdp.specs.Grammar.{Content, pairsOf}
+use Rattle.sdp.specs.Text.{semicolon}
+use Rattle.sdp.specs.Writing.{joined, separated}
+use Rattle.sdp.specs.Reading.{itemOf, front, next}
+use Rattle.fmtp.specs.declared.read.Reading.{Reading}
+use Rattle.fmtp.specs.declared.read.Reading.the-variants as reading
+use Rattle.fmtp.specs.declared.read.Step.{Step}
+use Rattle.fmtp.specs.declared.write.Written.{Written}
+use Rattle.fmtp.specs.declared.write.Written.the-variants as written
+
+-- how many pairs, and the VPID code
+abbrev pub readingOf : Result Parameters → Reading
+readingOf (refused x) = reading.Refused x
+readingOf (accepted p) = reading.Accepted p
+
+abbrev pub contentReading : Result Content → Reading
+contentReading (refused x) = reading.Refused x
+contentReading (accepted k) = reading.Accepted (record { pairs = length (k .pairs) / 2; vpid = k .vpid })
+
+-- the octets of the pairs that were read
+abbrev pub contentPairs : Result Content → List ℕ
+contentPairs (refused x) = []
+contentPairs (accepted k) = k .pairs
+
+abbrev pub itemPairs : Item → List ℕ
+itemPairs x = pairsOf (x ∷ [])
+
+-- the first item, whether another follows, and the octets before it
+pub record Stepped (s : List ℕ) (r : Step) : Type 0 where
+  pub item : r .item ≡ itemOf (front s)
+  pub more : r .more ≡ ltb (length (front s)) (length s)
+  pub inside : r .used ≤ length s
+  pub rest : drop (r .used) s ≡ next s
+
+-- how many octets were written
+abbrev pub writtenOf : Result (List ℕ) → Written
+writtenOf (refused x) = written.Refused x
+writtenOf (accepted s) = written.Octets (length s)
+
+-- the octets that were written
+abbrev pub writtenText : Result (List ℕ) → List ℕ
+writtenText (refused x) = []
+writtenText (accepted s) = s
+
+-- the `;` behind so many octets of a text: none at its start
+abbrev pub separator : ℕ → List ℕ
+separator to = cond (eqb to 0) [] (semicolon ∷ [])
+
+-- items behind so many octets of a text
+abbrev pub following : ℕ → List (List ℕ) → List ℕ
+following to ts = cond (eqb to 0) (joined ts) (separated ts)

@@ -1,0 +1,9 @@
+pub mod ItemLaws
+pub mod CutLaws
+pub mod GatherIff
+pub mod WritingLaws
+pub mod ItemIff
+pub mod TextIff
+pub mod Acceptance
+pub mod RoundTrip
+pub mod Examples

@@ -1,0 +1,52 @@
+-- `hex_behind` reads the hex digits behind a word.
+-- By the test of the word, which the text is then as long as.
+use borrow.Author.Needs.{needs}
+use mathlib.Core.Path.{ap, sym, _∙_}
+use mathlib.Core.List.{List}
+use Prim.Native.Nat.{ℕ}
+use lib.ListN.{length}
+use borrow.Author.Tests.{not-true, not-false}
+use Rattle.wire.proofs.ListLaws.{part-all}
+use Rattle.sdp.specs.Answers.{digitsOf}
+use Rattle.sdp.specs.Text.{number, hexBase, hexMost}
+use Rattle.sdp.specs.Reading.{digits, hexBehind}
+use Rattle.sdp.proofs.ItemLaws.{starts-length}
+use Rattle.sdp.proofs.item.hex_behind.Statement.{statement}
+use Rattle.sdp.proofs.item.hex_behind.Tie as tie
+
+starts-with-requires : tie.Need-starts-with-requires
+starts-with-requires c κs = search needs
+
+returns : tie.Need-returns
+unfolding hexBehind number
+returns c = let h = sym (c .before .starts-with .ensures) ∙ not-true _ (c .if1 .taken) in rw h
+
+sub-hex : tie.Need-sub-hex
+sub-hex c = starts-length _ _ (sym (c .before .starts-with .ensures) ∙ not-false _ (c .if1 .left))
+
+part-hex-start : tie.Need-part-hex-start
+part-hex-start c = starts-length _ _ (sym (c .before .starts-with .ensures) ∙ not-false _ (c .if1 .left))
+
+part-hex-end : tie.Need-part-hex-end
+part-hex-end c = search needs
+
+hex-requires : tie.Need-hex-requires
+hex-requires c κs = search needs
+
+returns-2 : tie.Need-returns-2
+unfolding hexBehind
+returns-2 c =
+    let h = sym (c .before .before .before .starts-with .ensures) ∙ not-false _ (c .before .before .if1 .left) in
+    rw h (c .hex .ensures ∙ ap (λ (t : List ℕ). digitsOf hexBase (digits hexBase hexMost t)) (part-all (length (c .before .before .before .before .before .before .args .word .now)) (c .before .before .before .before .before .before .args .text .now)))
+
+pub hex-behind-spec : {M : Type 1} → statement M
+hex-behind-spec =
+    tie.close
+    (tie.spec
+    starts-with-requires
+    returns
+    sub-hex
+    part-hex-start
+    part-hex-end
+    hex-requires
+    returns-2)

@@ -1,0 +1,5 @@
+pub mod Text
+pub mod Grammar
+pub mod Reading
+pub mod Writing
+pub mod Answers

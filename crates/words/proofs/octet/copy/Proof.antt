@@ -1,0 +1,68 @@
+-- `copy` writes all octets of one slice to the first of another, and no other octet.
+-- Invariant: the octets that are left, written behind those that are, make all of them written.
+use borrow.Author.Needs.{needs}
+use mathlib.Core.Path.{_≡_, refl, sym, _∙_}
+use Prim.Native.Nat.{_≤_, _-_, _+_}
+use native.Mathlib.Numerals.{add-one}
+use native.Mathlib.Omega.{arith}
+use lib.ListN.{length, drop, getD, length-set}
+use lib.Seq.{drop-cons, drop-length}
+use Rattle.wire.specs.Bits.{overwrite, splice}
+use Rattle.wire.proofs.ListLaws.{splice-set, splice-none}
+use Rattle.words.proofs.octet.copy.Statement.{statement}
+use Rattle.words.proofs.octet.copy.Tie as tie
+
+abbrev Inv-loop : tie.InvT-loop
+Inv-loop from to₀ k₀ to k = (k ≤ length from) × (length to ≡ length to₀) × (splice to k (drop k from) ≡ overwrite from to₀)
+
+abbrev μ-loop : tie.MeasureT-loop
+μ-loop from to₀ k₀ to k = length from - k
+
+loop-holds : tie.Need-loop-holds Inv-loop μ-loop
+loop-holds c = (omega arith, refl, refl)
+
+shared-slice-read-to : tie.Need-shared-slice-read-to Inv-loop μ-loop
+shared-slice-read-to c = search needs
+
+slice-write-to : tie.Need-slice-write-to Inv-loop μ-loop
+slice-write-to c = search needs
+
+add-k : tie.Need-add-k Inv-loop μ-loop
+add-k c = search needs
+
+loop-less : tie.Need-loop-less Inv-loop μ-loop
+loop-less c = search needs
+
+loop-again : tie.Need-loop-again Inv-loop μ-loop
+loop-again c =
+    let a = c .before .before .before .args in
+    let l = c .before .before .loop in (
+      omega arith,
+      simp length-set (omega arith),
+      splice-set (l .to) (l .k) _ (drop (l .k + 1) (a .from .now)) (omega arith) ∙ rw (add-one (l .k)) (rw (drop-cons (a .from .now) (l .k) 0 (omega arith)) at (l .inv .2)),
+    )
+
+same-length : tie.Need-same-length Inv-loop μ-loop
+same-length c = search needs
+
+returns : tie.Need-returns Inv-loop μ-loop
+returns c =
+    let l = c .before .loop in
+    let f = c .before .before .args .from .now in
+    let e : l .k ≡ length f = omega arith in
+    sym (splice-none (l .to) (length f)) ∙ (rw (e, drop-length f) at (l .inv .2))
+
+pub copy-spec : {M : Type 1} → statement M
+copy-spec =
+    tie.close
+    (tie.spec
+    Inv-loop
+    μ-loop
+    loop-holds
+    shared-slice-read-to
+    slice-write-to
+    add-k
+    loop-less
+    loop-again
+    same-length
+    returns)
