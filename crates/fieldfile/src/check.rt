@@ -40,6 +40,7 @@ fn check_front(octets: &[u8], at: OctetCount) -> FieldRead
     else {
         return FieldRead::Refused(run.refusal());
     };
+    // One count octet cannot say more records than a field may have.
     if cells > MAX_CELLS {
         return FieldRead::Refused(Refusal {
             number: Refusal::OVER_LIMIT,
