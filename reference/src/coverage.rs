@@ -1,0 +1,135 @@
+//! Which answers and refusals the random inputs reach, and how often.
+
+use std::collections::BTreeMap;
+
+use crate::keeper::{arrive, open, Answer};
+use crate::packet::{self, check};
+use crate::random::*;
+use crate::refusal::Refusal;
+use crate::{file, frames, sdp};
+
+/// How often each entry point gave each refusal (number, index) or, under
+/// number 0, an answer.
+#[derive(Debug, Default)]
+pub struct Coverage {
+    pub counts: BTreeMap<(&'static str, u8, usize), u64>,
+    /// The keeper's answers by name.
+    pub answers: BTreeMap<(&'static str, &'static str), u64>,
+}
+
+impl Coverage {
+    fn add<T>(&mut self, entry: &'static str, answer: Result<T, Refusal>) {
+        let (number, index) = match answer {
+            Ok(_) => (0, 0),
+            Err(refusal) => (refusal.number, refusal.index),
+        };
+        *self.counts.entry((entry, number, index)).or_default() += 1;
+    }
+
+    fn add_answer(&mut self, entry: &'static str, answer: Answer) {
+        let name = match answer {
+            Answer::Skipped => "skipped",
+            Answer::Held => "held",
+            Answer::Mixed => "mixed",
+            Answer::Overfull => "overfull",
+            Answer::Whole { .. } => "whole",
+            Answer::Refused(refusal) => return self.add::<()>(entry, Err(refusal)),
+        };
+        *self.answers.entry((entry, name)).or_default() += 1;
+        self.add::<()>(entry, Ok(()));
+    }
+
+    /// Occurrences of a number, and how many different indices it had.
+    pub fn of(&self, entry: &str, number: u8) -> (u64, usize) {
+        let these = self
+            .counts
+            .iter()
+            .filter(|((e, n, _), _)| *e == entry && *n == number);
+        these.fold((0, 0), |(sum, indices), (_, count)| {
+            (sum + count, indices + 1)
+        })
+    }
+}
+
+/// Draws `rounds` inputs for every entry point.
+pub fn cover(seed: u64, rounds: usize) -> Coverage {
+    let mut r = Random::new(seed);
+    let mut c = Coverage::default();
+    for _ in 0..rounds {
+        cover_packets(&mut r, &mut c);
+        cover_parameters(&mut r, &mut c);
+        cover_files(&mut r, &mut c);
+        let mut case = arrive_case(&mut r);
+        c.add_answer(
+            "arrive",
+            arrive(case.state, &case.octets, &mut case.store).1,
+        );
+        c.add("open", open(0, r.octet()));
+    }
+    for _ in 0..rounds / 8 {
+        cover_frames(&mut r, &mut c);
+    }
+    c
+}
+
+fn cover_packets(r: &mut Random, c: &mut Coverage) {
+    let case = read_case(r);
+    c.add("read", packet::read(&case.octets, &mut vec![0; case.room]));
+    let case = write_case(r);
+    c.add(
+        "write",
+        packet::write(&case.head, &case.cells, &mut vec![0; case.room]),
+    );
+}
+
+fn cover_parameters(r: &mut Random, c: &mut Coverage) {
+    let case = text_case(r);
+    c.add("sdp read", sdp::read(&case.text, &mut vec![0; case.room]));
+    let case = pairs_case(r);
+    c.add(
+        "sdp write",
+        sdp::write(&case.pairs, case.vpid, &mut vec![0; case.room]),
+    );
+}
+
+fn cover_files(r: &mut Random, c: &mut Coverage) {
+    let case = file_case(r);
+    c.add(
+        "file read",
+        file::read(&case.file, case.offset, &mut vec![0; case.room]),
+    );
+    let case = field_case(r);
+    let mut out = vec![0; case.room];
+    c.add(
+        "file write",
+        file::write(case.timestamp, case.f, &case.cells, &mut out),
+    );
+    c.add("file begin", file::begin(&mut vec![0; r.below(10)]));
+}
+
+/// The frames of a `fieldlist` input, given to a keeper as it does.
+fn cover_frames(r: &mut Random, c: &mut Coverage) {
+    let input = framed(r);
+    let mut keeper = None;
+    let mut store = vec![0; crate::anc::MAX_CELLS];
+    for frame in frames::Frames::new(&input) {
+        let frames::Frame::Packet(octets) = frame else {
+            *c.answers.entry(("frames", "cut")).or_default() += 1;
+            continue;
+        };
+        let state = match (keeper, check(octets)) {
+            (Some(state), _) => state,
+            (None, Ok(accepted)) => {
+                let summary = accepted.summary;
+                open(summary.source, summary.payload_type).unwrap()
+            }
+            (None, Err(refusal)) => {
+                c.add::<()>("frames", Err(refusal));
+                continue;
+            }
+        };
+        let (state, answer) = arrive(state, octets, &mut store);
+        keeper = Some(state);
+        c.add_answer("frames", answer);
+    }
+}

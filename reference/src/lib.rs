@@ -1,0 +1,21 @@
+//! Reference implementation of ancillary fields over RTP, written from the
+//! scope document ("01") and RFC 8331 alone.
+//!
+//! Every entry point takes any octets, lists and state and ends with an
+//! answer or a numbered [`Refusal`]; lent memory is unchanged by a refusal.
+
+#![forbid(unsafe_code)]
+
+pub mod anc;
+pub mod coverage;
+pub mod fieldlist;
+pub mod file;
+pub mod frames;
+pub mod keeper;
+pub mod packet;
+pub mod random;
+pub mod refusal;
+pub mod sdp;
+
+pub use fieldlist::fieldlist;
+pub use refusal::Refusal;

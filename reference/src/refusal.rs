@@ -1,0 +1,22 @@
+//! Numbers of refusal.
+
+/// 01, "Numbers of refusal": a number and an index from 0. The index is the
+/// ANC packet for 9 to 12, the record for 20, the item for 41 to 43,
+/// otherwise 0.
+#[derive(Clone, Copy, Debug, PartialEq, Eq, PartialOrd, Ord, Hash)]
+pub struct Refusal {
+    pub number: u8,
+    pub index: usize,
+}
+
+impl Refusal {
+    /// A refusal whose index names a packet, record or item.
+    pub const fn at(number: u8, index: usize) -> Refusal {
+        Refusal { number, index }
+    }
+
+    /// A refusal whose index is 0.
+    pub const fn plain(number: u8) -> Refusal {
+        Refusal { number, index: 0 }
+    }
+}

@@ -1,0 +1,55 @@
+//! The random inputs reach every refusal number, those with an index with
+//! several. 22 cannot be given, and 1 not in a frame.
+
+use reference::coverage::cover;
+
+const INDEXED: [u8; 8] = [9, 10, 11, 12, 20, 41, 42, 43];
+
+#[test]
+fn every_number_is_reached() {
+    let coverage = cover(1, 8_000);
+    let reads: Vec<u8> = (0..=14).collect();
+    let arrivals: Vec<u8> = (0..=13).chain([30, 31, 32, 35]).collect();
+    let frames: Vec<u8> = (2..=13).chain([0, 30, 31, 32]).collect();
+    let expected: [(&str, &[u8]); 10] = [
+        ("read", &reads),
+        ("write", &[0, 20, 21, 23, 24]),
+        ("arrive", &arrivals),
+        ("frames", &frames),
+        ("open", &[0, 24]),
+        ("sdp read", &[0, 40, 41, 42, 43, 44]),
+        ("sdp write", &[0, 41, 43, 44]),
+        (
+            "file read",
+            &[0, 9, 10, 11, 12, 14, 21, 50, 51, 52, 53, 54, 55],
+        ),
+        ("file write", &[0, 20, 21, 23, 53]),
+        ("file begin", &[0, 23]),
+    ];
+    for (entry, numbers) in expected {
+        for &number in numbers {
+            let (times, indices) = coverage.of(entry, number);
+            assert!(times > 0, "{entry} {number}");
+            let several = INDEXED.contains(&number) && entry != "sdp write";
+            assert!(!several || indices > 2, "{entry} {number}: {indices}");
+        }
+        let others = coverage
+            .counts
+            .keys()
+            .filter(|(e, n, _)| *e == entry && !numbers.contains(n));
+        assert_eq!(others.count(), 0, "{entry}");
+    }
+    for answer in ["skipped", "held", "mixed", "overfull", "whole"] {
+        for entry in ["arrive", "frames"] {
+            assert!(
+                coverage.answers.contains_key(&(entry, answer)),
+                "{entry} {answer}"
+            );
+        }
+    }
+}
+
+#[test]
+fn the_same_seed_gives_the_same_inputs() {
+    assert_eq!(cover(5, 300).counts, cover(5, 300).counts);
+}

@@ -1,0 +1,593 @@
+//! Every refusal number by hand, with its index and unchanged lent memory.
+
+use reference::anc::packet_octets;
+use reference::keeper::{arrive, open, Answer, State, FILLING, LOST, READY};
+use reference::packet::{self, Head};
+use reference::random::{Anc, Parts};
+use reference::{file, sdp, Refusal};
+
+const HEAD: Head = Head {
+    source: 5,
+    payload_type: 96,
+    marker: true,
+    number: 70_000,
+    timestamp: 9,
+    f: 2,
+};
+
+fn record(n: u16) -> Vec<u16> {
+    let mut cells = vec![1, 9, 4095, 1, 127, 0x61, 0x02, n];
+    cells.extend((0..n).map(|word| word * 37 % 1024));
+    cells
+}
+
+fn parts(counts: &[u16]) -> Parts {
+    let cells: Vec<u16> = counts.iter().flat_map(|&n| record(n)).collect();
+    Parts::plain(HEAD, &cells)
+}
+
+fn read(octets: &[u8], room: usize) -> Option<(u8, usize)> {
+    let mut cells = vec![0x5A5A; room];
+    let answer = packet::read(octets, &mut cells);
+    let Err(Refusal { number, index }) = answer else {
+        return None;
+    };
+    assert!(cells.iter().all(|&cell| cell == 0x5A5A));
+    Some((number, index))
+}
+
+#[test]
+fn reading_1_to_8() {
+    let good = parts(&[0, 3]).assemble();
+    assert_eq!(read(&good, 100), None);
+    assert_eq!(read(&vec![0; 65_536], 100), Some((1, 0)));
+    assert_eq!(read(&vec![0; 65_535], 100), Some((3, 0)));
+    for size in 0..12 {
+        assert_eq!(read(&good[..size], 100), Some((2, 0)));
+        assert_eq!(read(&vec![0; size], 100), Some((2, 0)));
+    }
+    let with = |first: u8, size: usize| {
+        let mut octets = good[..size].to_vec();
+        octets[0] = first;
+        octets
+    };
+    assert_eq!(read(&with(0x00, 12), 100), Some((3, 0)));
+    assert_eq!(read(&with(0xC0, 12), 100), Some((3, 0)));
+    assert_eq!(read(&with(0x4F, 12), 100), Some((3, 0)));
+    assert_eq!(read(&with(0x81, 12), 100), Some((2, 0)));
+    assert_eq!(read(&with(0x81, 15), 100), Some((2, 0)));
+    assert_eq!(read(&with(0x81, 16), 100), Some((5, 0)));
+    assert_eq!(read(&with(0x90, 15), 100), Some((2, 0)));
+    assert_eq!(read(&with(0x9F, good.len()), 100), Some((2, 0)));
+    let mut extended = with(0x90, 20);
+    extended[14..16].copy_from_slice(&[0, 1]);
+    assert_eq!(read(&extended, 100), Some((5, 0)));
+    extended[14..16].copy_from_slice(&[0, 2]);
+    assert_eq!(read(&extended, 100), Some((2, 0)));
+    // Padding: nothing follows, count 0, one over, all of it, some.
+    assert_eq!(read(&with(0xA0, 12), 100), Some((4, 0)));
+    for (count, refusal) in [(0, 4), (9, 4), (8, 5), (1, 5), (255, 4)] {
+        let mut octets = with(0xA0, 20);
+        octets[19] = count;
+        assert_eq!(read(&octets, 100), Some((refusal, 0)));
+    }
+    for size in 12..20 {
+        assert_eq!(read(&with(0x80, size), 100), Some((5, 0)));
+    }
+    let mut one = parts(&[0]);
+    one.head.f = 1;
+    one.length = Some(3);
+    assert_eq!(read(&one.assemble(), 100), Some((6, 0)));
+    one.head.f = 3;
+    assert_eq!(read(&one.assemble(), 100), Some((7, 0)));
+    one.count = Some(0);
+    assert_eq!(read(&one.assemble(), 100), Some((7, 0)));
+    one.length = None;
+    assert_eq!(read(&one.assemble(), 100), Some((8, 0)));
+}
+
+#[test]
+fn reading_9_to_14() {
+    for index in 0..4 {
+        let mut made = parts(&[0, 12, 3, 5][..index]);
+        made.count = Some(index as u8 + 1);
+        let first = if index == 0 { 1 } else { 0 };
+        for extra in first..12 {
+            made.extra = vec![0xFF; extra];
+            assert_eq!(read(&made.assemble(), 100), Some((9, index)));
+        }
+        made.extra = vec![0xFF; 12];
+        assert_eq!(read(&made.assemble(), 100), Some((10, index)));
+        // The second 9: the words are right, the size is not.
+        let whole = Anc::of(&record(9)).octets();
+        for extra in 12..whole.len() {
+            made.extra = whole[..extra].to_vec();
+            assert_eq!(read(&made.assemble(), 100), Some((9, index)));
+        }
+        made.extra = whole;
+        assert_eq!(read(&made.assemble(), 100), None);
+    }
+    for index in 0..3 {
+        for word in 0..3 {
+            let mut made = parts(&[4, 5, 6, 7]);
+            made.anc[index].words[word] ^= 0x200;
+            assert_eq!(read(&made.assemble(), 100), Some((10, index)));
+        }
+        let mut made = parts(&[4, 5, 6, 7]);
+        made.anc[index].alignment = 1;
+        assert_eq!(read(&made.assemble(), 100), Some((12, index)));
+        made.anc[index].words[4] ^= 0x100;
+        assert_eq!(read(&made.assemble(), 100), Some((11, index)));
+        // b9 of a user data word is no matter of the checksum.
+        let mut made = parts(&[4, 5, 6, 7]);
+        made.anc[index].words[4] ^= 0x200;
+        assert_eq!(read(&made.assemble(), 100), None);
+        let last = made.anc[index].words.len() - 1;
+        made.anc[index].words[last] ^= 0x200;
+        assert_eq!(read(&made.assemble(), 100), Some((11, index)));
+    }
+    let mut made = parts(&[4, 5]);
+    made.extra = vec![0];
+    assert_eq!(read(&made.assemble(), 0), Some((13, 0)));
+    made.extra = Vec::new();
+    assert_eq!(read(&made.assemble(), 24), Some((14, 0)));
+    assert_eq!(read(&made.assemble(), 25), None);
+}
+
+/// Every place of the alignment, for every n.
+#[test]
+fn every_alignment_bit() {
+    for n in 0..256 {
+        let good = parts(&[n]).assemble();
+        assert_eq!(read(&good, 300), None);
+        let used = 72 + 10 * n as usize;
+        for bit in used..8 * packet_octets(n as usize) {
+            let mut octets = good.clone();
+            octets[20 + bit / 8] ^= 0x80 >> (bit % 8);
+            assert_eq!(read(&octets, 300), Some((12, 0)));
+        }
+    }
+}
+
+fn write(head: &Head, cells: &[u16], room: usize) -> Option<(u8, usize)> {
+    let mut out = vec![0x5A; room];
+    let Err(Refusal { number, index }) = packet::write(head, cells, &mut out) else {
+        return None;
+    };
+    assert!(out.iter().all(|&octet| octet == 0x5A));
+    Some((number, index))
+}
+
+fn file_write(f: u8, cells: &[u16], room: usize) -> Option<(u8, usize)> {
+    let mut out = vec![0x5A; room];
+    let Err(Refusal { number, index }) = file::write(3, f, cells, &mut out) else {
+        return None;
+    };
+    assert!(out.iter().all(|&octet| octet == 0x5A));
+    Some((number, index))
+}
+
+#[test]
+fn writing_24_20_21_23() {
+    let bad = vec![2; 3];
+    for (payload_type, f) in [(128, 0), (255, 2), (96, 1), (96, 4), (96, 255)] {
+        let head = Head {
+            payload_type,
+            f,
+            ..HEAD
+        };
+        assert_eq!(write(&head, &bad, 0), Some((24, 0)));
+    }
+    let limits = [1, 0x7FF, 0xFFF, 1, 127, 255, 255, 255];
+    for index in [0, 1, 7, 299] {
+        let before: Vec<u16> = (0..index).flat_map(|_| record(0)).collect();
+        for (cell, limit) in limits.into_iter().enumerate() {
+            let mut list = [&before[..], &record(2)].concat();
+            list[8 * index + cell] = limit + 1;
+            assert_eq!(write(&HEAD, &list, 0), Some((20, index)));
+            assert_eq!(file_write(0, &list, 0), Some((20, index)));
+        }
+        for size in 1..11 {
+            let list = [&before[..], &record(3)[..size]].concat();
+            assert_eq!(write(&HEAD, &list, 0), Some((20, index)));
+        }
+        let mut list = [&before[..], &record(40), &record(1)].concat();
+        list[8 * index + 40] = 1024;
+        assert_eq!(write(&HEAD, &list, 0), Some((20, index)));
+    }
+    let many = record(0).repeat(256);
+    let long = record(255).repeat(63);
+    assert_eq!(long.len(), 16_569);
+    for list in [many, long] {
+        assert_eq!(write(&HEAD, &list, 0), Some((21, 0)));
+        assert_eq!(file_write(2, &list, 0), Some((21, 0)));
+    }
+    let list = [record(1), record(30)].concat();
+    let need = packet_octets(1) + packet_octets(30);
+    for room in [0, 5, 6, 19, 20, 21, need] {
+        assert_eq!(write(&HEAD, &list, room), Some((23, 0)));
+    }
+    assert_eq!(write(&HEAD, &list, need + 19), Some((23, 0)));
+    assert_eq!(write(&HEAD, &list, need + 20), None);
+    assert_eq!(file_write(3, &list, need + 5), Some((23, 0)));
+    assert_eq!(file_write(3, &list, need + 6), None);
+    assert_eq!(write(&HEAD, &[], 19), Some((23, 0)));
+    assert_eq!(write(&HEAD, &[], 20), None);
+}
+
+/// 22 cannot be given: the list of most octets by its cells is far below.
+#[test]
+fn most_octets_of_a_list() {
+    let most = (0..256).map(|n| packet_octets(n) as f64 / (8 + n) as f64);
+    assert!(most.fold(0.0, f64::max) * 16_384.0 + 20.0 < 65_535.0);
+}
+
+fn sound() -> State {
+    State {
+        phase: FILLING,
+        heard: true,
+        last: 69_999,
+        timestamp: 9,
+        f: 2,
+        records: 3,
+        cells: 40,
+        late: 8,
+        ..open(5, 96).unwrap()
+    }
+}
+
+fn refusal_of(state: State, octets: &[u8], store: usize) -> Option<(u8, usize)> {
+    let mut store = vec![0x5A5A; store];
+    let (after, answer) = arrive(state, octets, &mut store);
+    let Answer::Refused(Refusal { number, index }) = answer else {
+        return None;
+    };
+    let late = state.late.saturating_add((number == 32) as u64);
+    assert_eq!(after, State { late, ..state });
+    assert!(store.iter().all(|&cell| cell == 0x5A5A));
+    Some((number, index))
+}
+
+#[test]
+fn keeper_35_then_1_to_13_then_30_31_32() {
+    let good = parts(&[0]).assemble();
+    let refused = |state, octets: &[u8]| refusal_of(state, octets, 1000);
+    assert_eq!(refused(sound(), &good), None);
+    let lost = State {
+        phase: LOST,
+        records: 0,
+        cells: 0,
+        ..sound()
+    };
+    let unsound = [
+        State {
+            records: 256,
+            ..sound()
+        },
+        State {
+            cells: 16_385,
+            ..sound()
+        },
+        State {
+            cells: 1001,
+            ..sound()
+        },
+        State {
+            phase: LOST,
+            ..sound()
+        },
+        State {
+            phase: READY,
+            records: 1,
+            ..lost
+        },
+        State {
+            phase: READY,
+            cells: 1,
+            ..lost
+        },
+        State { records: 1, ..lost },
+        State { cells: 1, ..lost },
+        State {
+            heard: false,
+            ..sound()
+        },
+        State {
+            phase: READY,
+            heard: false,
+            ..lost
+        },
+    ];
+    for state in unsound {
+        assert_eq!(refused(state, &good), Some((35, 0)), "{state:?}");
+        assert_eq!(refused(state, &[]), Some((35, 0)));
+    }
+    assert_eq!(
+        refusal_of(
+            State {
+                cells: 16_385,
+                ..sound()
+            },
+            &good,
+            20_000
+        ),
+        Some((35, 0))
+    );
+    assert_eq!(
+        refusal_of(
+            State {
+                cells: 16_384,
+                ..sound()
+            },
+            &good,
+            20_000
+        ),
+        None
+    );
+    assert_eq!(
+        refused(
+            State {
+                cells: 1000,
+                ..sound()
+            },
+            &good
+        ),
+        None
+    );
+    assert_eq!(
+        refused(
+            State {
+                heard: false,
+                ..lost
+            },
+            &good
+        ),
+        None
+    );
+
+    let other = State {
+        source: 6,
+        payload_type: 97,
+        last: 70_000,
+        ..sound()
+    };
+    let mut broken = parts(&[0, 0, 0]);
+    broken.anc[2].alignment = 1;
+    assert_eq!(refused(other, &broken.assemble()), Some((12, 2)));
+    assert_eq!(refused(other, &[]), Some((2, 0)));
+    assert_eq!(refused(other, &good), Some((30, 0)));
+    assert_eq!(refused(State { source: 5, ..other }, &good), Some((31, 0)));
+    for last in [70_000, 70_001, 70_000 + 0x8000_0000] {
+        let state = State { last, ..sound() };
+        assert_eq!(refused(state, &good), Some((32, 0)));
+        let state = State {
+            late: u64::MAX,
+            ..state
+        };
+        assert_eq!(refused(state, &good), Some((32, 0)));
+    }
+    let furthest = State {
+        last: 70_001 + 0x8000_0000,
+        ..sound()
+    };
+    assert_eq!(refused(furthest, &good), None);
+    assert_eq!(open(0, 128), Err(Refusal::plain(24)));
+}
+
+#[test]
+fn keeper_counts_stop() {
+    let good = parts(&[0]).assemble();
+    let full = State {
+        fresh: u64::MAX,
+        missing: u64::MAX - 1,
+        last: 69_997,
+        ..sound()
+    };
+    let (after, answer) = arrive(full, &good, &mut [0; 100]);
+    assert_eq!(answer, Answer::Skipped);
+    assert_eq!(
+        (after.fresh, after.missing, after.last),
+        (u64::MAX, u64::MAX, 70_000)
+    );
+    assert_eq!((after.phase, after.records, after.cells), (READY, 0, 0));
+    assert_eq!((after.timestamp, after.f), (0, 0));
+}
+
+fn sdp_read(text: &str, room: usize) -> Result<(Vec<u8>, Option<u8>), (u8, usize)> {
+    let mut octets = vec![0x5A; room];
+    match sdp::read(text.as_bytes(), &mut octets) {
+        Ok(read) => {
+            assert!(octets[2 * read.pairs..].iter().all(|&octet| octet == 0x5A));
+            Ok((octets[..2 * read.pairs].to_vec(), read.vpid))
+        }
+        Err(Refusal { number, index }) => {
+            assert!(octets.iter().all(|&octet| octet == 0x5A));
+            Err((number, index))
+        }
+    }
+}
+
+#[test]
+fn sdp_reading() {
+    let sample = "DID_SDID={0x61,0x02};DID_SDID={0x41,0x05};VPID_Code=132";
+    assert_eq!(sdp_read(sample, 9), Ok((vec![0x61, 2, 0x41, 5], Some(132))));
+    assert_eq!(sdp_read("", 0), Ok((vec![], None)));
+    assert_eq!(
+        sdp_read("DID_SDID={0xA,0xfF};   a=b=c", 2),
+        Ok((vec![10, 255], None))
+    );
+    assert_eq!(sdp_read("VPID_Code=007", 0), Ok((vec![], Some(7))));
+    assert_eq!(
+        sdp_read("did_sdid=x;VPID_CODE=y;vpid_code=\t", 0),
+        Ok((vec![], None))
+    );
+    let longest = format!("x={}", "y".repeat(4094));
+    assert_eq!(sdp_read(&longest, 0), Ok((vec![], None)));
+    assert_eq!(sdp_read(&format!("{longest};"), 0), Err((40, 0)));
+    for (text, index) in [
+        (" ", 0),
+        (";", 0),
+        ("a=b;", 1),
+        ("a=b; ", 1),
+        ("a=b;;c=d", 1),
+        (" a=b", 0),
+        ("a=b ;c=d", 0),
+        ("a=b;c", 1),
+        ("a=b;c=", 1),
+        ("a=b;=c", 1),
+        ("a=b;c=d;VPID_Code=256", 2),
+        ("a=b;c=d;VPID_Code=", 2),
+        ("a=b;c=d;VPID_Code=0001", 2),
+        ("DID_SDID={0x61,0x02};DID_SDID={0x61,0x002}", 1),
+        ("DID_SDID={0X61,0x02}", 0),
+        ("DID_SDID={0x61, 0x02}", 0),
+        ("DID_SDID={0x61,0x02}x", 0),
+        ("DID_SDID={0x61,0x02,0x03}", 0),
+        ("VPID_Code=1;VPID_Code=256", 1),
+        ("VPID_Code=1;;VPID_Code=2", 1),
+    ] {
+        assert_eq!(sdp_read(text, 200), Err((41, index)), "{text}");
+    }
+    assert_eq!(sdp_read("VPID_Code=1;a=b;VPID_Code=1;;", 200), Err((42, 2)));
+    let pair = "DID_SDID={0x1,0x2};";
+    let full = pair.repeat(64);
+    assert!(sdp_read(&full[..full.len() - 1], 128).is_ok());
+    assert_eq!(sdp_read(&full[..full.len() - 1], 127), Err((44, 0)));
+    assert_eq!(
+        sdp_read(&format!("x=y;{full}DID_SDID={{0x1,0x2}};;"), 0),
+        Err((43, 65))
+    );
+    assert_eq!(
+        sdp_read(&format!("{full}VPID_Code=1;DID_SDID={{0x1,0x2}}"), 0),
+        Err((43, 65))
+    );
+    assert_eq!(
+        sdp_read(&format!("{full}DID_SDID={{0x1,0x}}"), 0),
+        Err((41, 64))
+    );
+}
+
+fn sdp_write(pairs: &[u8], vpid: Option<u8>, room: usize) -> Result<String, (u8, usize)> {
+    let mut out = vec![0x5A; room];
+    match sdp::write(pairs, vpid, &mut out) {
+        Ok(size) => {
+            assert!(out[size..].iter().all(|&octet| octet == 0x5A));
+            Ok(String::from_utf8(out[..size].to_vec()).unwrap())
+        }
+        Err(Refusal { number, index }) => {
+            assert!(out.iter().all(|&octet| octet == 0x5A));
+            Err((number, index))
+        }
+    }
+}
+
+#[test]
+fn sdp_writing() {
+    let sample = "DID_SDID={0x61,0x02};DID_SDID={0x4a,0x05};VPID_Code=132";
+    assert_eq!(
+        sdp_write(&[0x61, 2, 0x4A, 5], Some(132), 100).as_deref(),
+        Ok(sample)
+    );
+    assert_eq!(sdp_write(&[], Some(0), 11).as_deref(), Ok("VPID_Code=0"));
+    assert_eq!(sdp_write(&[], Some(10), 99).as_deref(), Ok("VPID_Code=10"));
+    assert_eq!(sdp_write(&[], None, 0).as_deref(), Ok(""));
+    assert_eq!(sdp_write(&[0; 131], None, 0), Err((41, 0)));
+    assert_eq!(sdp_write(&[0; 130], None, 0), Err((43, 0)));
+    assert_eq!(sdp_write(&[0; 128], None, 1342), Err((44, 0)));
+    assert_eq!(
+        sdp_write(&[0; 128], None, 1343).map(|text| text.len()),
+        Ok(1343)
+    );
+    assert_eq!(
+        sdp_write(&[0; 128], Some(255), 1357).map(|text| text.len()),
+        Ok(1357)
+    );
+}
+
+#[test]
+fn the_filter() {
+    use sdp::{wanted, wanted_octets, Pair};
+    let row = [Pair { did: 0x61, sdid: 2 }, Pair { did: 0x41, sdid: 5 }];
+    for (did, sdid, is) in [
+        (0x61, 2, true),
+        (0x41, 5, true),
+        (0x61, 5, false),
+        (0x41, 2, false),
+    ] {
+        assert_eq!(wanted(&row, did, sdid), is);
+        assert_eq!(wanted_octets(&[0x61, 2, 0x41, 5], did, sdid), is);
+        assert!(wanted(&[], did, sdid));
+        assert!(wanted_octets(&[], did, sdid));
+    }
+}
+
+fn file_read(file: &[u8], offset: usize, room: usize) -> Option<(u8, usize)> {
+    let mut cells = vec![0x5A5A; room];
+    let Err(Refusal { number, index }) = file::read(file, offset, &mut cells) else {
+        return None;
+    };
+    assert!(cells.iter().all(|&cell| cell == 0x5A5A));
+    Some((number, index))
+}
+
+fn file_of(f: u8, count: u8, anc: &[Anc]) -> Vec<u8> {
+    let mut file = file::START.to_vec();
+    file.extend(reference::random::file_field(7, f, count, anc));
+    file
+}
+
+#[test]
+fn file_reading() {
+    for start in ["", "A", "AN", "ANG\0\x01", "anf\0\x01"] {
+        assert_eq!(file_read(start.as_bytes(), 0, 0), Some((50, 0)));
+    }
+    for start in ["ANF", "ANF\0", "ANF\0\0", "ANF\0\x02", "ANF\x01\x01"] {
+        assert_eq!(file_read(start.as_bytes(), 0, 0), Some((51, 0)));
+    }
+    let anc = |counts: &[u16]| parts(counts).anc;
+    let good = file_of(2, 3, &anc(&[0, 3, 12]));
+    assert_eq!(file_read(&good, 5, 39), None);
+    assert_eq!(file_read(&good, 5, 38), Some((14, 0)));
+    for offset in [0, 4, good.len() + 1, usize::MAX] {
+        assert_eq!(file_read(&good, offset, 99), Some((55, 0)));
+    }
+    assert_eq!(file_read(&good, good.len(), 99), Some((54, 0)));
+    assert_eq!(file_read(&good[..5], 5, 99), Some((54, 0)));
+    for size in 6..11 {
+        assert_eq!(file_read(&good[..size], 5, 99), Some((52, 0)));
+    }
+    assert_eq!(file_read(&good, good.len() - 1, 99), Some((52, 0)));
+    for f in [1, 4, 0x80, 0xC0, 255] {
+        assert_eq!(file_read(&file_of(f, 9, &anc(&[])), 5, 99), Some((53, 0)));
+    }
+    assert_eq!(file_read(&good[..5 + 6 + 11], 5, 99), Some((9, 0)));
+    assert_eq!(file_read(&good[..good.len() - 1], 5, 99), Some((9, 2)));
+    assert_eq!(
+        file_read(&file_of(0, 4, &anc(&[0, 3, 12])), 5, 99),
+        Some((9, 3))
+    );
+    for (number, index) in [(10, 0), (10, 2), (11, 1), (12, 1)] {
+        let mut anc = anc(&[0, 3, 13]);
+        match number {
+            10 => anc[index].words[1] ^= 1,
+            11 => anc[index].words[3] ^= 1,
+            _ => anc[index].alignment = 1,
+        }
+        assert_eq!(file_read(&file_of(0, 3, &anc), 5, 0), Some((number, index)));
+    }
+    let long = anc(&[255; 63]);
+    assert_eq!(file_read(&file_of(0, 63, &long), 5, 0), Some((21, 0)));
+    assert_eq!(file_read(&file_of(0, 62, &long), 5, 0), Some((14, 0)));
+}
+
+#[test]
+fn file_beginning_and_53() {
+    let mut out = [0x5A; 7];
+    assert_eq!(file::begin(&mut out[..4]), Err(Refusal::plain(23)));
+    assert_eq!(out, [0x5A; 7]);
+    assert_eq!(file::begin(&mut out), Ok(5));
+    assert_eq!(&out, b"ANF\0\x01ZZ");
+    for f in [1, 4, 255] {
+        assert_eq!(file_write(f, &[9], 0), Some((53, 0)));
+    }
+}

@@ -1,0 +1,129 @@
+//! Round trips: demand 2 for packets, "reads back the same" for parameters
+//! and files.
+
+use reference::packet::{read, write};
+use reference::random::*;
+use reference::{file, sdp};
+
+#[test]
+fn records_written_and_read() {
+    let mut r = Random::new(11);
+    for round in 0..6_000 {
+        let head = head(&mut r);
+        let records = round % 20;
+        let cells = match round % 100 {
+            0 => list_of_cells(&mut r, 16_384),
+            1 => (0..255).flat_map(|_| record(&mut r, 2)).collect(),
+            _ => list(&mut r, records),
+        };
+        let mut out = vec![0x5A; 30_000];
+        let size = write(&head, &cells, &mut out).unwrap();
+        let mut back = vec![0; 16_384];
+        let summary = read(&out[..size], &mut back).unwrap();
+        assert_eq!(summary.head(), head);
+        assert_eq!(back[..summary.cells], cells);
+        assert_eq!(summary.records as usize, split_records(&cells).len());
+    }
+}
+
+/// Every n, every word all ones, all zeros and random.
+#[test]
+fn every_count_of_words() {
+    let mut r = Random::new(12);
+    for n in 0..256 {
+        for filling in [0, 0x3FF, 0x155, 0xFFFF] {
+            let mut cells = record(&mut r, n);
+            if filling != 0xFFFF {
+                cells[8..].fill(filling);
+            }
+            let head = head(&mut r);
+            let mut out = vec![0; 400];
+            let size = write(&head, &cells, &mut out).unwrap();
+            assert_eq!(out[..size], Parts::plain(head, &cells).assemble());
+            let mut back = vec![0; 300];
+            assert_eq!(read(&out[..size], &mut back).unwrap().cells, cells.len());
+            assert_eq!(back[..cells.len()], cells);
+        }
+    }
+}
+
+/// Rewriting an accepted packet whose list fits the writer gives the same
+/// octets exactly when it had no padding, extension or contributing sources,
+/// and zero reserved bits.
+#[test]
+fn rewriting() {
+    let mut r = Random::new(13);
+    let (mut same, mut changed) = (0, 0);
+    for _ in 0..12_000 {
+        let mut made = parts(&mut r);
+        dress(&mut r, &mut made);
+        let plain = made.padding.is_none()
+            && made.extension.is_none()
+            && made.sources.is_empty()
+            && made.reserved == 0;
+        let octets = made.assemble();
+        if octets.len() > 65_535 {
+            continue;
+        }
+        let mut cells = vec![0; 60_000];
+        let summary = read(&octets, &mut cells).unwrap();
+        if summary.cells > 16_384 {
+            continue;
+        }
+        let mut out = vec![0; 65_535];
+        let size = write(&summary.head(), &cells[..summary.cells], &mut out).unwrap();
+        assert_eq!(out[..size] == octets, plain);
+        if plain {
+            same += 1
+        } else {
+            changed += 1
+        }
+    }
+    assert!(same > 1_000 && changed > 1_000);
+}
+
+#[test]
+fn parameters_written_and_read() {
+    let mut r = Random::new(14);
+    for _ in 0..10_000 {
+        let case = pairs_case(&mut r);
+        let mut text = [0; 2_000];
+        let Ok(size) = sdp::write(&case.pairs, case.vpid, &mut text) else {
+            assert!(case.pairs.len() % 2 == 1 || case.pairs.len() > 128);
+            continue;
+        };
+        let mut pairs = [0; 128];
+        let read = sdp::read(&text[..size], &mut pairs).unwrap();
+        assert_eq!(read.vpid, case.vpid);
+        assert_eq!(pairs[..2 * read.pairs], case.pairs);
+    }
+}
+
+#[test]
+fn fields_written_and_read() {
+    let mut r = Random::new(15);
+    for _ in 0..1_000 {
+        let fields: Vec<(u32, u8, Vec<u16>)> = (0..r.below(6))
+            .map(|_| {
+                let records = r.below(12);
+                (r.draw() as u32, r.pick(&[0, 2, 3]), list(&mut r, records))
+            })
+            .collect();
+        let mut file = vec![0; 100_000];
+        let mut end = file::begin(&mut file).unwrap();
+        for (timestamp, f, cells) in &fields {
+            end += file::write(*timestamp, *f, cells, &mut file[end..]).unwrap();
+        }
+        file.truncate(end);
+        let mut at = 5;
+        for (timestamp, f, cells) in &fields {
+            let mut back = vec![0; 16_384];
+            let field = file::read(&file, at, &mut back).unwrap();
+            assert_eq!((field.timestamp, field.f), (*timestamp, *f));
+            assert_eq!(field.records, split_records(cells).len());
+            assert_eq!(back[..field.cells], *cells);
+            at = field.next;
+        }
+        assert_eq!(file::read(&file, at, &mut []).unwrap_err().number, 54);
+    }
+}
