@@ -18,12 +18,16 @@ pub struct Coverage {
 }
 
 impl Coverage {
-    fn add<T>(&mut self, entry: &'static str, answer: Result<T, Refusal>) {
-        let (number, index) = match answer {
-            Ok(_) => (0, 0),
-            Err(refusal) => (refusal.number, refusal.index),
-        };
+    /// One more answer (number 0) or refusal of an entry point.
+    pub fn count(&mut self, entry: &'static str, number: u8, index: usize) {
         *self.counts.entry((entry, number, index)).or_default() += 1;
+    }
+
+    fn add<T>(&mut self, entry: &'static str, answer: Result<T, Refusal>) {
+        match answer {
+            Ok(_) => self.count(entry, 0, 0),
+            Err(refusal) => self.count(entry, refusal.number, refusal.index),
+        }
     }
 
     fn add_answer(&mut self, entry: &'static str, answer: Answer) {

@@ -14,7 +14,9 @@ pub mod frames;
 pub mod keeper;
 pub mod packet;
 pub mod random;
+pub mod realistic;
 pub mod refusal;
+pub mod runs;
 pub mod sdp;
 
 pub use fieldlist::fieldlist;

@@ -196,7 +196,8 @@ pub fn wanted(row: &[Pair], did: u8, sdid: u8) -> bool {
 }
 
 /// The same over plain octets, DID then SDID, as the reader puts them; a
-/// last odd octet is no entry, but the row is not empty.
+/// last octet without an SDID is no entry.
 pub fn wanted_octets(row: &[u8], did: u8, sdid: u8) -> bool {
-    row.is_empty() || row.as_chunks::<2>().0.contains(&[did, sdid])
+    let (entries, _) = row.as_chunks::<2>();
+    entries.is_empty() || entries.contains(&[did, sdid])
 }

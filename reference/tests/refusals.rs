@@ -518,6 +518,12 @@ fn the_filter() {
         assert_eq!(wanted_octets(&[0x61, 2, 0x41, 5], did, sdid), is);
         assert!(wanted(&[], did, sdid));
         assert!(wanted_octets(&[], did, sdid));
+        // A last octet without an SDID is no entry.
+        assert!(wanted_octets(&[0x61], did, sdid));
+        assert_eq!(
+            wanted_octets(&[0x61, 2, 0x41], did, sdid),
+            did == 0x61 && sdid == 2
+        );
     }
 }
 

@@ -1,0 +1,45 @@
+-- The numbers of the boundary on examples: rows that are too short, states, rows that are none, VPID codes.
+-- By computation.
+use mathlib.Core.Path.{_≡_, refl}
+use mathlib.Core.List.{[], _∷_}
+use lib.ListN.{replicate}
+use Rattle.depacketizer.specs.Step.{openState}
+use Rattle.sdp.specs.declared.parameters.Vpid.the-variants as vpid
+use Rattle.capi.specs.declared.state.Restored.the-variants as restored
+use Rattle.capi.specs.State.{isState, stateIn}
+use Rattle.capi.specs.Calls.{arrive, openNumbers, openReply, readReply, vpidOf}
+
+-- an answer of seven numbers, and a state of eleven
+short-answer : readReply [] [] (replicate 7 0) ≡ record { number = 255; row = [] }
+short-answer = refl
+
+short-state : openReply 5 100 (replicate 11 0) (replicate 8 0) ≡ record { number = 255; row = [] }
+short-state = refl
+
+-- a payload type over 127
+type-over : openReply 5 128 (replicate 12 0) (replicate 8 0) ≡ record { number = 24; row = 0 ∷ [] }
+type-over = refl
+
+-- a state just opened is written, and read back
+opened : openNumbers 5 100 (replicate 12 1) (replicate 8 0) ≡ 5 ∷ 100 ∷ 0 ∷ 0 ∷ 0 ∷ 0 ∷ 0 ∷ 0 ∷ 0 ∷ 0 ∷ 0 ∷ 0 ∷ []
+opened = refl
+
+read-back : stateIn (openNumbers 5 100 (replicate 12 1) (replicate 8 0)) ≡ restored.State (openState 5 100)
+unfolding isState
+read-back = refl
+
+-- heard 2, and a source over 32 bits, are in no state
+heard-2 : arrive (5 ∷ 100 ∷ 0 ∷ 2 ∷ replicate 8 0) [] [] (replicate 8 0) .reply ≡ record { number = 35; row = 0 ∷ [] }
+unfolding isState
+heard-2 = refl
+
+source-over : stateIn (4294967296 ∷ replicate 11 0) ≡ restored.Unsound
+unfolding isState
+source-over = refl
+
+-- 255 is a code, and 256 is none
+code : vpidOf 255 ≡ vpid.Code 255
+code = refl
+
+no-code : vpidOf 256 ≡ vpid.Absent
+no-code = refl

@@ -1,0 +1,163 @@
+-- What each call gives, and what the lent memory holds then: as the library's definitions say, where the rows are long enough.
+use mathlib.Core.Bool.{Bool, cond, not, _&&_}
+use mathlib.Core.List.{List, []}
+use Prim.Native.Nat.{ℕ}
+use lib.Dec.{eqb, leb}
+use lib.ListN.{length}
+use Rattle.wire.specs.Bits.{overwrite}
+use Rattle.wire.specs.Layout.{rfc8331}
+use Rattle.wire.specs.Packet.{readInto}
+use Rattle.wire.specs.Writing.{writeContent}
+use Rattle.rtp.specs.declared.packet.Head.{Head}
+use Rattle.rtp.specs.Answers as rtp
+use Rattle.depacketizer.specs.declared.state.Opened.{Opened}
+use Rattle.depacketizer.specs.declared.state.Opened.the-variants as opened
+use Rattle.depacketizer.specs.Step.{Step, step, openOf}
+use Rattle.sdp.specs.declared.parameters.Vpid.{Vpid}
+use Rattle.sdp.specs.declared.parameters.Vpid.the-variants as vpid
+use Rattle.sdp.specs.Text.{maxCode}
+use Rattle.sdp.specs.Reading as reading
+use Rattle.sdp.specs.Writing.{writeText}
+use Rattle.fmtp.specs.Answers as fmtp
+use Rattle.fieldfile.specs.File as file
+use Rattle.fieldfile.specs.Answers as field
+use Rattle.capi.specs.declared.state.Restored.{Restored}
+use Rattle.capi.specs.declared.state.Restored.the-variants as restored
+use Rattle.capi.specs.Rows.{Reply, refusedReply, acceptedReply, rowReply, packetReply, writtenReply, arrivalReply, parametersReply, textReply, begunReply, fieldWrittenReply, fieldReply, given, answerSize, stateSize}
+use Rattle.capi.specs.State.{numbersOf, stateIn}
+
+-- `jibhotran_read`: its reply
+abbrev pub readReply : (octets cells answer : List ℕ) → Reply
+readReply octets cells answer = given answer (packetReply (rtp.readOf (readInto rfc8331 octets (length cells)))) rowReply
+
+-- the cells then
+abbrev pub readCells : (octets cells answer : List ℕ) → List ℕ
+readCells octets cells answer = given answer (rtp.cellsAfter (readInto rfc8331 octets (length cells)) cells) cells
+
+-- the six values beside a packet's records; a marker other than 0 marks it
+abbrev pub headOf : (source type marker number timestamp f : ℕ) → Head
+headOf source type marker number timestamp f =
+    record {
+      source = source;
+      «payload_type» = type;
+      marker = not (eqb marker 0);
+      number = record { 0 = number };
+      timestamp = record { 0 = timestamp };
+      f = f;
+    }
+
+-- `jibhotran_write`: its reply
+abbrev pub writeReply : Head → (cells out answer : List ℕ) → Reply
+writeReply head cells out answer = given answer (writtenReply (rtp.writtenOf (writeContent rfc8331 (rtp.contentOf head) cells (length out)))) rowReply
+
+-- the octets then
+abbrev pub writeOctets : Head → (cells out answer : List ℕ) → List ℕ
+writeOctets head cells out answer = given answer (rtp.octetsAfter (writeContent rfc8331 (rtp.contentOf head) cells (length out)) out) out
+
+-- are both rows long enough
+abbrev pub rowsFit : (state answer : ℕ) → Bool
+rowsFit state answer = leb stateSize state && leb answerSize answer
+
+-- what a call gives where both rows are long enough, and otherwise
+abbrev pub givenBoth : {A : Type 0} → (state answer : List ℕ) → A → A → A
+givenBoth state answer x y = cond (rowsFit (length state) (length answer)) x y
+
+-- opened: nothing in the answer
+abbrev pub openedReply : Opened → Reply
+openedReply (opened.Refused x) = refusedReply x
+openedReply (opened.Open s) = acceptedReply []
+
+-- opened: the numbers of the state
+abbrev pub openedNumbers : Opened → List ℕ
+openedNumbers (opened.Refused x) = []
+openedNumbers (opened.Open s) = numbersOf s
+
+-- opened: the state in the row, where another stood before
+abbrev pub openedIn : Opened → Restored → Restored
+openedIn (opened.Refused x) old = old
+openedIn (opened.Open s) old = restored.State s
+
+-- `jibhotran_open`: its reply
+abbrev pub openReply : (source type : ℕ) → (state answer : List ℕ) → Reply
+openReply source type state answer = givenBoth state answer (openedReply (openOf source type)) rowReply
+
+-- the numbers that it writes to the state's row
+abbrev pub openNumbers : (source type : ℕ) → (state answer : List ℕ) → List ℕ
+openNumbers source type state answer = givenBoth state answer (openedNumbers (openOf source type)) []
+
+-- the state that then stands in the row
+abbrev pub stateOpened : (source type : ℕ) → (state answer : List ℕ) → Restored
+stateOpened source type state answer = givenBoth state answer (openedIn (openOf source type) (stateIn state)) (stateIn state)
+
+-- what an arrival gives: the reply, the numbers that it writes to the state's row, and the store
+pub record Arrived : Type 0 where
+  pub reply : Reply
+  pub numbers : List ℕ
+  pub store : List ℕ
+
+-- a step of the library, as numbers
+abbrev pub stepped : Step → Arrived
+stepped x = record { reply = arrivalReply (x .answer); numbers = numbersOf (x .state); store = x .store }
+
+-- an arrival at the state that stands in a row; 35 where there is none
+abbrev pub arrivedAt : Restored → (octets store : List ℕ) → Arrived
+arrivedAt restored.Unsound octets store = record { reply = refusedReply (record { number = 35; index = 0 }); numbers = []; store = store }
+arrivedAt (restored.State s) octets store = stepped (step s octets store)
+
+-- the state after an arrival
+abbrev pub stateAfter : Restored → (octets store : List ℕ) → Restored
+stateAfter restored.Unsound octets store = restored.Unsound
+stateAfter (restored.State s) octets store = restored.State (step s octets store .state)
+
+-- `jibhotran_arrive`: what it gives
+abbrev pub arrive : (state octets store answer : List ℕ) → Arrived
+arrive state octets store answer =
+    givenBoth state answer (arrivedAt (stateIn state) octets store) (record { reply = rowReply; numbers = []; store = store })
+
+-- the state that then stands in the row: the library's next one
+abbrev pub stateArrived : (state octets store answer : List ℕ) → Restored
+stateArrived state octets store answer = givenBoth state answer (stateAfter (stateIn state) octets store) (stateIn state)
+
+-- `jibhotran_sdp_read`: its reply
+abbrev pub sdpReadReply : (text pairs answer : List ℕ) → Reply
+sdpReadReply text pairs answer = given answer (parametersReply (fmtp.contentReading (reading.readInto text (length pairs)))) rowReply
+
+-- the pairs then
+abbrev pub sdpPairs : (text pairs answer : List ℕ) → List ℕ
+sdpPairs text pairs answer = given answer (overwrite (fmtp.contentPairs (reading.readInto text (length pairs))) pairs) pairs
+
+-- a number up to the largest code is a VPID code; any other is none
+abbrev pub vpidOf : ℕ → Vpid
+vpidOf n = cond (leb n maxCode) (vpid.Code n) vpid.Absent
+
+-- `jibhotran_sdp_write`: its reply
+abbrev pub sdpWriteReply : (pairs : List ℕ) → (vpid : ℕ) → (out answer : List ℕ) → Reply
+sdpWriteReply pairs vpid out answer = given answer (textReply (fmtp.writtenOf (writeText (record { pairs = pairs; vpid = vpidOf vpid }) (length out)))) rowReply
+
+-- the octets then
+abbrev pub sdpText : (pairs : List ℕ) → (vpid : ℕ) → (out answer : List ℕ) → List ℕ
+sdpText pairs vpid out answer = given answer (overwrite (fmtp.writtenText (writeText (record { pairs = pairs; vpid = vpidOf vpid }) (length out))) out) out
+
+-- `jibhotran_file_begin`: its reply
+abbrev pub beginReply : (out answer : List ℕ) → Reply
+beginReply out answer = given answer (begunReply (field.begunOf (file.writeHead (length out)))) rowReply
+
+-- the octets then
+abbrev pub beginOctets : (out answer : List ℕ) → List ℕ
+beginOctets out answer = given answer (field.octetsAfter (file.writeHead (length out)) out) out
+
+-- `jibhotran_file_write`: its reply
+abbrev pub fileWriteReply : (timestamp f : ℕ) → (cells out answer : List ℕ) → Reply
+fileWriteReply timestamp f cells out answer = given answer (fieldWrittenReply (field.writtenOf (file.writeField timestamp f cells (length out)))) rowReply
+
+-- the octets then
+abbrev pub fileOctets : (timestamp f : ℕ) → (cells out answer : List ℕ) → List ℕ
+fileOctets timestamp f cells out answer = given answer (field.octetsAfter (file.writeField timestamp f cells (length out)) out) out
+
+-- `jibhotran_file_read`: its reply
+abbrev pub fileReadReply : (octets : List ℕ) → (at : ℕ) → (cells answer : List ℕ) → Reply
+fileReadReply octets at cells answer = given answer (fieldReply (field.readOf (file.readInto octets at (length cells)))) rowReply
+
+-- the cells then
+abbrev pub fileCells : (octets : List ℕ) → (at : ℕ) → (cells answer : List ℕ) → List ℕ
+fileCells octets at cells answer = given answer (field.cellsAfter (file.readInto octets at (length cells)) cells) cells

@@ -1,0 +1,66 @@
+-- The pieces of a line: words one behind the other, and the cells of a field.
+-- Each by the definition that it is about.
+use mathlib.Core.Path.{_≡_, refl, ap, sym, _∙_}
+use mathlib.Core.Bool.{Bool, true, false}
+use mathlib.Core.List.{List, [], _∷_, _++_, append-assoc, append-nil}
+use Prim.Native.Nat.{ℕ, zero, suc, _+_, _<_, _≤_, min}
+use native.Mathlib.Nat.{suc-add}
+use native.Mathlib.Omega.{arith}
+use borrow.Author.Tests.{leb-true, leb-false}
+use lib.Dec.{leb}
+use lib.ListN.{length, take, getD}
+use lib.Seq.{take-all, take-length}
+use Rattle.wire.specs.declared.count.OctetCount.{OctetCount}
+use Rattle.wire.specs.declared.refusal.Refusal.{Refusal}
+use Rattle.wire.specs.Anc.{Record}
+use Rattle.wire.specs.Bits.{Below}
+use Rattle.wire.specs.Cells.{readList}
+use Rattle.wire.specs.Result.{Result, refused, accepted, IsAccepted}
+use Rattle.cells.specs.declared.check.Listed.the-variants as listed
+use Rattle.cells.specs.Answers.{listedOf}
+use Rattle.lines.specs.Lines.{wordText, wordsText, listText}
+
+-- one word more
+pub words-next : (k : ℕ) (ws : List ℕ) → k < length ws → wordsText (take k ws) ++ wordText (getD ws k 0) ≡ wordsText (take (k + 1) ws)
+words-next zero [] h = absurd (omega arith)
+words-next zero (w ∷ ws) h = sym (append-nil (wordText w))
+words-next (suc k) [] h = absurd (omega arith)
+words-next (suc k) (w ∷ ws) h =
+    rw (suc-add k 1)
+    (append-assoc (wordText w) (wordsText (take k ws)) (wordText (getD ws k 0)) ∙ ap (λ (x : List ℕ). wordText w ++ x) (words-next k ws (omega arith)))
+
+-- a word of the row is a word
+pub below-at : (b : ℕ) (ws : List ℕ) (k : ℕ) → k < length ws → Below b ws → getD ws k 0 < b
+below-at b [] k h w = absurd (omega arith)
+below-at b (x ∷ ws) zero h w = w .0
+below-at b (x ∷ ws) (suc k) h w = below-at b ws k (omega arith) (w .1)
+
+-- the field's cells, where the store has fewer
+take-least : (n m : ℕ) (s : List ℕ) → m ≡ min n (length s) → take m s ≡ take n s
+take-least n m s e = go (leb n (length s)) refl
+  where
+    go : (b : Bool) → leb n (length s) ≡ b → take m s ≡ take n s
+    go true h =
+        let l = leb-true n (length s) h in
+        let k : m ≡ n = omega (arith, l) in
+        ap (λ (j : ℕ). take j s) k
+    go false h =
+        let l = leb-false n (length s) h in
+        let k : m ≡ length s = omega (arith, l) in
+        ap (λ (j : ℕ). take j s) k ∙ take-length s ∙ sym (take-all n s (omega (arith, l)))
+
+none-listed : (r : Result (List Record)) (x : Refusal) → listedOf r ≡ listed.Refused x → listText r ≡ []
+none-listed (refused y) x e = refl
+none-listed (accepted rs) x e = let o : _≡_ {A = ℕ} 0 1 = cc in absurd (omega arith)
+
+-- a list that is not refused was accepted
+pub some-listed : (r : Result (List Record)) (n : ℕ) (o : OctetCount) → listedOf r ≡ listed.Records n o → IsAccepted r
+some-listed (refused x) n o e = let q : _≡_ {A = ℕ} 0 1 = cc in absurd (omega arith)
+some-listed (accepted rs) n o e = tt
+
+-- a list that is refused has no lines
+pub no-lines : (n m : ℕ) (s : List ℕ) (x : Refusal) → m ≡ min n (length s) → listedOf (readList (take m s)) ≡ listed.Refused x → [] ≡ listText (readList (take n s))
+no-lines n m s x e h = sym (ap (λ (l : List ℕ). listText (readList l)) (sym (take-least n m s e)) ∙ none-listed (readList (take m s)) x h)
+
+pub lines-of : (n m : ℕ) (s : List ℕ) → m ≡ min n (length s) → listText (readList (take m s)) ≡ listText (readList (take n s))
+lines-of n m s e = ap (λ (l : List ℕ). listText (readList l)) (take-least n m s e)

@@ -1,0 +1,16 @@
+-- Octets that a text may take: what the code asks of the octets that it is lent.
+use mathlib.Core.Bool.{Bool}
+use Prim.Native.Nat.{ℕ, _+_, _*_}
+use lib.Dec.{leb}
+
+-- the lines of a field's records: for each of their cells
+abbrev pub cellRoom : ℕ
+cellRoom = 20
+
+-- a line of anything else
+abbrev pub lineRoom : ℕ
+lineRoom = 160
+
+-- enough for what one packet can print, over a store of so many cells
+abbrev pub roomy : (store out : ℕ) → Bool
+roomy store out = leb (lineRoom + cellRoom * store) out

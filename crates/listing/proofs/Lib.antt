@@ -1,0 +1,5 @@
+pub mod Examples
+pub mod FrameLaws
+pub mod MoveLaws
+pub mod StreamLaws
+pub mod TurnLaws

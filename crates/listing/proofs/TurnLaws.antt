@@ -1,0 +1,64 @@
+-- What one packet does, from what the code found: refused before a depacketizer is open, or arrived at one.
+-- By the session, and by what was checked.
+use mathlib.Core.Path.{_≡_, refl, ap, sym, _∙_}
+use mathlib.Core.Bool.{Bool, true, false}
+use mathlib.Core.List.{List}
+use Prim.Native.Nat.{ℕ, _+_, _*_, _-_, _/_, _≤_}
+use native.Mathlib.Omega.{arith}
+use borrow.Author.Tests.{le-leb, lt-leb, leb-true, leb-false}
+use lib.Dec.{leb}
+use Rattle.wire.specs.declared.refusal.Refusal.{Refusal}
+use Rattle.wire.specs.Layout.{rfc8331}
+use Rattle.wire.specs.Result.{Result, refused, accepted}
+use Rattle.wire.specs.Packet.{Content, readContent}
+use Rattle.rtp.specs.Answers.{checkedOf}
+use Rattle.depacketizer.specs.declared.state.Depacketizer.{Depacketizer as State}
+use Rattle.depacketizer.specs.declared.state.Opened.{Opened}
+use Rattle.depacketizer.specs.declared.state.Opened.the-variants as opened
+use Rattle.depacketizer.specs.Step.{step}
+use Rattle.lines.specs.Lines.{refusedText}
+use Rattle.lines.specs.Room.{lineRoom, cellRoom}
+use Rattle.listing.specs.declared.session.Session.{Session}
+use Rattle.listing.specs.declared.session.Session.the-variants as session
+use Rattle.listing.specs.Frames.{Front, end, cut, frame}
+use Rattle.listing.specs.Session.{Turn, isBroken, numberOf, entered, turn, turnBy, arrived}
+use Rattle.listing.specs.Answers.{checkedNumber, enteredBy, frontOf, isCut}
+
+pub number-is : (s : List ℕ) (k : Result Content) → checkedNumber (checkedOf s k) ≡ numberOf k
+number-is s (refused x) = refl
+number-is s (accepted k) = refl
+
+entered-is : (v : Session) (s : List ℕ) (k : Result Content) → enteredBy v (checkedOf s k) ≡ entered v k
+entered-is session.Waiting s (refused x) = refl
+entered-is session.Waiting s (accepted k) = refl
+entered-is (session.Open st) s k = refl
+
+module _ (v : Session) (octets store : List ℕ) (o : Opened) (entry : o ≡ enteredBy v (checkedOf octets (readContent rfc8331 octets))) where
+  abbrev content : Result Content
+  content = readContent rfc8331 octets
+
+  by : (p : Opened) → o ≡ p → turn v octets store ≡ turnBy v (numberOf content) octets store p
+  unfolding turn
+  by p e = ap (turnBy v (numberOf content) octets store) (sym (entered-is v octets content) ∙ sym entry ∙ e)
+
+  -- no depacketizer, and none opened
+  pub turn-refused : (x : Refusal) → o ≡ opened.Refused x → turn v octets store ≡ record { session = v; store = store; text = refusedText x }
+  turn-refused x e = by (opened.Refused x) e
+
+  -- one that is open
+  pub turn-arrived : (st : State) → o ≡ opened.Open st → turn v octets store ≡ arrived (numberOf content) (step st octets store)
+  turn-arrived st e = by (opened.Open st) e
+
+-- a frame is broken exactly where the code says that it is cut
+pub cut-is : (f : Front) → isCut (frontOf f) ≡ isBroken f
+cut-is end = refl
+cut-is cut = refl
+cut-is (frame p rest) = refl
+
+-- the test for room, by division
+pub divided : (s o : ℕ) → lineRoom ≤ o → leb s ((o - lineRoom) / cellRoom) ≡ leb (lineRoom + cellRoom * s) o
+divided s o h = go (leb s ((o - lineRoom) / cellRoom)) refl
+  where
+    go : (b : Bool) → leb s ((o - lineRoom) / cellRoom) ≡ b → leb s ((o - lineRoom) / cellRoom) ≡ leb (lineRoom + cellRoom * s) o
+    go true e = e ∙ sym (le-leb (lineRoom + cellRoom * s) o (omega (arith, leb-true s ((o - lineRoom) / cellRoom) e)))
+    go false e = e ∙ sym (lt-leb (lineRoom + cellRoom * s) o (omega (arith, leb-false s ((o - lineRoom) / cellRoom) e)))

@@ -1,0 +1,108 @@
+-- `list_frame` lists the frame at the front, where there is room and a whole frame.
+-- By the room, and by what stands at the front.
+use borrow.Author.Needs.{needs}
+use borrow.Author.Tests.{not-true, not-false, leb-true}
+use mathlib.Core.Path.{_≡_, refl, ap, sym, _∙_}
+use mathlib.Core.List.{List}
+use Prim.Native.Nat.{ℕ, _+_, _*_, _-_}
+use native.Mathlib.Nat.{zero-add}
+use native.Mathlib.Omega.{arith}
+use lib.ListN.{length, take, drop, length-drop}
+use lib.Seq.{length-take-le}
+use Rattle.text.proofs.PutLaws.{same}
+use Rattle.listing.specs.Frames.{front}
+use Rattle.lines.specs.Room.{lineRoom, cellRoom, roomy}
+use Rattle.listing.specs.Session.{Turn, turn}
+use Rattle.listing.specs.declared.session.Listed.the-variants as listed
+use Rattle.listing.proofs.FrameLaws.{FrameAt, frame-found, end-found, cut-found}
+use Rattle.listing.proofs.session.list_frame.Statement.{statement}
+use Rattle.listing.proofs.session.list_frame.Tie as tie
+
+-- the packet at the front
+found-at : (c : tie.After-known-told) → FrameAt (c .before .before .before .before .before .before .before .before .before .args .octets .now) (c .before .front .given .0 .0)
+found-at c = frame-found (c .before .before .before .before .before .before .before .before .before .args .octets .now) (c .before .front .given .0 .0) (sym (c .before .before .before .frame-at .ensures) ∙ c .before .front .given .1)
+
+is-roomy-requires : tie.Need-is-roomy-requires
+is-roomy-requires c κs = search needs
+
+returns : tie.Need-returns
+returns c =
+    let e = sym (c .before .is-roomy .ensures) ∙ not-true (c .before .is-roomy .result) (c .if1 .taken) in
+    rw e (refl, (refl, (refl, tt)))
+
+frame-at-requires : tie.Need-frame-at-requires
+frame-at-requires c κs = search needs
+
+enum-told : tie.Need-enum-told
+enum-told c = search needs
+
+enum-told-2 : tie.Need-enum-told-2
+enum-told-2 c = search needs
+
+enum-known-front : tie.Need-enum-known-front
+enum-known-front c = search needs
+
+add-end : tie.Need-add-end
+add-end c = omega (arith, found-at c .inside)
+
+sub-list-packet : tie.Need-sub-list-packet
+sub-list-packet c = search needs
+
+part-list-packet-start : tie.Need-part-list-packet-start
+part-list-packet-start c = search needs
+
+part-list-packet-end : tie.Need-part-list-packet-end
+part-list-packet-end c = found-at c .inside
+
+list-packet-requires : tie.Need-list-packet-requires
+list-packet-requires c κs = leb-true (lineRoom + cellRoom * length (c .before .before .before .before .before .before .before .before .before .before .before .before .args .store .now)) (length (c .before .before .before .before .before .before .before .before .before .before .before .before .args .out .now)) (sym (c .before .before .before .before .before .before .before .before .is-roomy .ensures) ∙ not-false (c .before .before .before .before .before .before .before .before .is-roomy .result) (c .before .before .before .before .before .before .before .if1 .left))
+
+returns-2 : tie.Need-returns-2
+returns-2 c = rw (sym (c .before .before .before .before .is-roomy .ensures) ∙ not-false (c .before .before .before .before .is-roomy .result) (c .before .before .before .if1 .left), end-found (front (c .before .before .before .before .before .before .before .before .args .octets .now)) (sym (c .before .before .frame-at .ensures) ∙ c .enum-told .given .1)) (refl, (refl, (refl, tt)))
+
+returns-3 : tie.Need-returns-3
+returns-3 c = rw (sym (c .before .before .before .before .is-roomy .ensures) ∙ not-false (c .before .before .before .before .is-roomy .result) (c .before .before .before .if1 .left), cut-found (front (c .before .before .before .before .before .before .before .before .args .octets .now)) (sym (c .before .before .frame-at .ensures) ∙ c .enum-told2 .given .1)) (refl, (refl, (refl, tt)))
+
+same-length : tie.Need-same-length
+same-length c = search needs
+
+same-length-2 : tie.Need-same-length-2
+same-length-2 c = search needs
+
+returns-4 : tie.Need-returns-4
+returns-4 c =
+    let s = c .before .before .before .before .before .before .before .before .before .before .before .before .before .before .before .before .before .args .octets .now in
+    let st = c .before .before .before .before .before .before .before .before .before .before .before .before .before .before .before .before .before .args .store .now in
+    let v = c .before .before .before .before .before .before .before .before .before .before .before .before .before .before .before .before .before .args .session in
+    let n = c .before .before .before .before .before .before .before .before .before .front .given .0 .0 in
+    let f = found-at (c .before .before .before .before .before .before .before .before) in
+    let r = c .before .before .before .before .list-packet .ensures in
+    let p = take n (drop 2 s) in
+    let e : take (2 + n - 2) (drop 2 s) ≡ p = ap (λ (k : ℕ). take k (drop 2 s)) (let k : 2 + n - 2 ≡ n = omega arith in k) in
+    let m : length p ≡ n = length-take-le n (drop 2 s) (rw (length-drop 2 s) (omega (arith, f .inside))) in
+    let put = same (ap (λ (q : List ℕ). turn v q st .text) e) (r .1 .1) in
+    rw (sym (c .before .before .before .before .before .before .before .before .before .before .before .before .before .is-roomy .ensures) ∙ not-false (c .before .before .before .before .before .before .before .before .before .before .before .before .before .is-roomy .result) (c .before .before .before .before .before .before .before .before .before .before .before .before .if1 .left), f .is) (
+      (λ i. listed.Frame (record { session = (r .0 ∙ ap (λ (q : List ℕ). turn v q st .session) e) i; used = 2 + sym m i; length = (put .behind ∙ zero-add _) i })),
+      (r .1 .0 ∙ ap (λ (q : List ℕ). turn v q st .store) e, (put .octets, (f .inside, omega (arith, put .room, put .behind)))),
+    )
+
+pub list-frame-spec : {M : Type 1} → statement M
+list-frame-spec =
+    tie.close
+    (tie.spec
+    is-roomy-requires
+    returns
+    frame-at-requires
+    enum-told
+    enum-told-2
+    enum-known-front
+    add-end
+    sub-list-packet
+    part-list-packet-start
+    part-list-packet-end
+    list-packet-requires
+    returns-2
+    returns-3
+    same-length
+    same-length-2
+    returns-4)

@@ -1,0 +1,87 @@
+-- What the code answers, and what it leaves in the store and in the octets that it is lent.
+use mathlib.Core.Bool.{Bool, true, false, cond}
+use mathlib.Core.List.{List}
+use Prim.Native.Nat.{ℕ, _+_, _≤_}
+use lib.ListN.{length}
+use Rattle.wire.specs.declared.refusal.Refusal.{Refusal}
+use Rattle.wire.specs.Bits.{overwrite}
+use Rattle.rtp.specs.declared.packet.Checked.{Checked}
+use Rattle.rtp.specs.declared.packet.Checked.the-variants as checked
+use Rattle.depacketizer.specs.declared.state.Opened.{Opened}
+use Rattle.depacketizer.specs.declared.state.Opened.the-variants as opened
+use Rattle.depacketizer.specs.Step.{openOf}
+use Rattle.listing.specs.declared.frame.Front.{Front as FrontFound}
+use Rattle.listing.specs.declared.frame.Front.the-variants as found
+use Rattle.listing.specs.declared.session.Session.{Session}
+use Rattle.listing.specs.declared.session.Session.the-variants as session
+use Rattle.listing.specs.declared.session.Listed.{Listed}
+use Rattle.listing.specs.declared.session.Listed.the-variants as listed
+use Rattle.listing.specs.declared.session.Text.{Text}
+use Rattle.listing.specs.declared.session.Text.the-variants as text
+use Rattle.listing.specs.Frames.{Front, end, cut, frame, lengthSize}
+use Rattle.listing.specs.Session.{turn}
+
+-- what stands at the front
+abbrev pub frontOf : Front → FrontFound
+frontOf end = found.End
+frontOf cut = found.Cut
+frontOf (frame p rest) = found.Packet (length p)
+
+abbrev pub isCut : FrontFound → Bool
+isCut found.End = false
+isCut found.Cut = true
+isCut (found.Packet n) = false
+
+-- of a packet that was checked: its number, and the depacketizer that it opens
+abbrev pub checkedNumber : Checked → ℕ
+checkedNumber (checked.Refused x) = 0
+checkedNumber (checked.Packet o) = o .summary .head .number .0
+
+abbrev pub checkedOpening : Checked → Opened
+checkedOpening (checked.Refused x) = opened.Refused x
+checkedOpening (checked.Packet o) = openOf (o .summary .head .source) (o .summary .head .«payload_type»)
+
+abbrev pub enteredBy : Session → Checked → Opened
+enteredBy session.Waiting k = checkedOpening k
+enteredBy (session.Open st) k = opened.Open st
+
+abbrev pub openedRefusal : Opened → Refusal
+openedRefusal (opened.Refused x) = x
+openedRefusal (opened.Open st) = record { number = 0; index = 0 }
+
+-- one frame, where there is room
+abbrev pub listedOf : Bool → Session → Front → List ℕ → Listed
+listedOf false s f store = listed.RoomTooSmall
+listedOf true s end store = listed.NoFrame
+listedOf true s cut store = listed.NoFrame
+listedOf true s (frame p rest) store =
+    listed.Frame (record { session = turn s p store .session; used = lengthSize + length p; length = length (turn s p store .text) })
+
+abbrev pub storeAfter : Bool → Session → Front → List ℕ → List ℕ
+storeAfter false s f store = store
+storeAfter true s end store = store
+storeAfter true s cut store = store
+storeAfter true s (frame p rest) store = turn s p store .store
+
+abbrev pub outAfter : Bool → Session → Front → List ℕ → List ℕ → List ℕ
+outAfter false s f store out = out
+outAfter true s end store out = out
+outAfter true s cut store out = out
+outAfter true s (frame p rest) store out = overwrite (turn s p store .text) out
+
+-- a text of its own, where there is room
+abbrev pub textOf : Bool → List ℕ → Text
+textOf roomy t = cond roomy (text.Octets (length t)) text.RoomTooSmall
+
+abbrev pub textAfter : Bool → List ℕ → List ℕ → List ℕ
+textAfter roomy t out = cond roomy (overwrite t out) out
+
+-- what an answer counts lies in the octets that were lent
+abbrev pub ListedFits : Listed → (octets out : ℕ) → Type 0
+ListedFits listed.RoomTooSmall octets out = Unit {0}
+ListedFits listed.NoFrame octets out = Unit {0}
+ListedFits (listed.Frame x) octets out = (x .used ≤ octets) × (x .length ≤ out)
+
+abbrev pub TextFits : Text → (out : ℕ) → Type 0
+TextFits text.RoomTooSmall out = Unit {0}
+TextFits (text.Octets n) out = n ≤ out

@@ -1,0 +1,88 @@
+-- What `fieldlist` prints (01, "`fieldlist`"): from packet to packet, and for a whole input.
+use mathlib.Core.Bool.{Bool, true, false, cond}
+use mathlib.Core.List.{List, [], _∷_, _++_}
+use Prim.Native.Nat.{ℕ}
+use Rattle.wire.specs.Layout.{rfc8331}
+use Rattle.wire.specs.Result.{Result, refused, accepted}
+use Rattle.wire.specs.Packet.{Content, readContent}
+use Rattle.depacketizer.specs.declared.state.Opened.{Opened}
+use Rattle.depacketizer.specs.declared.state.Opened.the-variants as opened
+use Rattle.depacketizer.specs.Step.{Step, step, openOf}
+use Rattle.text.specs.Text.{ascii}
+use Rattle.listing.specs.declared.session.Session.{Session}
+use Rattle.listing.specs.declared.session.Session.the-variants as session
+use Rattle.listing.specs.Frames.{Frames, Front, end, cut, frame, frames}
+use Rattle.lines.specs.Lines.{answerText, refusedText, countsText}
+
+-- the number of a packet, for its line
+abbrev pub numberOf : Result Content → ℕ
+numberOf (refused x) = 0
+numberOf (accepted k) = k .number
+
+-- "The first packet that passes 1 to 13 opens the keeper." (A payload type has seven bits, so opening is not refused.)
+abbrev pub opening : Result Content → Opened
+opening (refused x) = opened.Refused x
+opening (accepted k) = openOf (k .source) (k .type)
+
+abbrev pub entered : Session → Result Content → Opened
+entered session.Waiting k = opening k
+entered (session.Open st) k = opened.Open st
+
+-- What one packet does: the session then, the store, and the text that is printed.
+pub record Turn : Type 0 where
+  pub session : Session
+  pub store : List ℕ
+  pub text : List ℕ
+
+abbrev pub arrived : ℕ → Step → Turn
+arrived n x = record { session = session.Open (x .state); store = x .store; text = answerText n (x .answer) (x .store) }
+
+abbrev pub turnBy : Session → ℕ → List ℕ → List ℕ → Opened → Turn
+turnBy s n octets store (opened.Refused x) = record { session = s; store = store; text = refusedText x }
+turnBy s n octets store (opened.Open st) = arrived n (step st octets store)
+
+unfoldable pub turn : Session → List ℕ → List ℕ → Turn
+turn s octets store = turnBy s (numberOf (readContent rfc8331 octets)) octets store (entered s (readContent rfc8331 octets))
+
+-- All packets in order; then the session and the text.
+pub record Printed : Type 0 where
+  pub session : Session
+  pub text : List ℕ
+
+abbrev pub behind : List ℕ → Printed → Printed
+behind x p = record { session = p .session; text = x ++ p .text }
+
+abbrev pub run : Session → List ℕ → List (List ℕ) → Printed
+run s store [] = record { session = s; text = [] }
+run s store (p ∷ ps) = behind (turn s p store .text) (run (turn s p store .session) (turn s p store .store) ps)
+
+-- "Without a keeper the counts are 0."
+abbrev pub countsOf : Session → List ℕ
+countsOf session.Waiting = countsText 0 0 0
+countsOf (session.Open st) = countsText (st .fresh) (st .late) (st .missing)
+
+-- "`cut` for a broken last frame, before the counts"
+unfoldable pub cutText : Bool → List ℕ
+cutText broken = cond broken (ascii "cut\n") []
+
+abbrev pub isBroken : Front → Bool
+isBroken end = false
+isBroken cut = true
+isBroken (frame p rest) = false
+
+abbrev pub endText : Bool → Session → List ℕ
+endText broken s = cutText broken ++ countsOf s
+
+abbrev pub title : List ℕ
+title = ascii "fieldlist 1\n"
+
+-- what is printed for the rest of an input
+unfoldable pub remaining : Session → List ℕ → List ℕ → List ℕ
+remaining s store input =
+    let f : Frames = frames input in
+    let p : Printed = run s store (f .packets) in
+    p .text ++ endText (f .broken) (p .session)
+
+-- THE WHOLE OUTPUT, for a store lent at the start
+unfoldable pub listing : List ℕ → List ℕ → List ℕ
+listing store input = title ++ remaining session.Waiting store input

@@ -1,0 +1,220 @@
+// A session: frames in order, the depacketizer that the first sound packet opens, and the text of each.
+ghost use Prim.Native.Nat.{_+_, _*_, _≤_};
+ghost use mathlib.Core.Bool.{not};
+ghost use mathlib.Core.Path.{_≡_};
+ghost use lib.Dec.{leb};
+ghost use lib.ListN.{length};
+ghost use Rattle.wire.specs.Layout.{rfc8331};
+ghost use Rattle.wire.specs.Packet.{readContent};
+ghost use Rattle.rtp.specs.Answers.{checkedOf};
+ghost use Rattle.text.specs.Put.{Put};
+ghost use Rattle.listing.specs.Answers.{ListedFits, TextFits, checkedNumber, checkedOpening, enteredBy, isCut, listedOf, openedRefusal, outAfter, storeAfter, textAfter, textOf};
+ghost use Rattle.listing.specs.Frames.{front};
+ghost use Rattle.lines.specs.Room.{cellRoom, lineRoom, roomy};
+ghost use Rattle.listing.specs.Session as told;
+use crate::frame::Front;
+use crate::frame::LENGTH_SIZE;
+use crate::frame::frame_at;
+use depacketizer::state::Depacketizer;
+use depacketizer::state::Opened;
+use lines::line::put_answer;
+use lines::line::put_counts;
+use lines::line::put_refused;
+use rtp::check::check;
+use rtp::packet::Checked;
+use text::put;
+use wire::refusal::Refusal;
+
+// Octets of the lines of a field's records, for each cell; and of any other line.
+pub const CELL_ROOM: usize = 20;
+
+pub const LINE_ROOM: usize = 160;
+
+// Waiting for the first packet that opens the depacketizer, or opened.
+pub enum Session {
+    Waiting,
+    Open(Depacketizer),
+}
+
+// What a frame gave: the session then, the octets of the frame and of the text.
+pub struct Turn {
+    pub session: Session,
+    pub used: usize,
+    pub length: usize,
+}
+
+pub enum Listed {
+    Frame(Turn),
+    // No whole frame stands at the front.
+    NoFrame,
+    RoomTooSmall,
+}
+
+pub enum Text {
+    Octets(usize),
+    RoomTooSmall,
+}
+
+// The session after a packet, and the octets of its text.
+pub struct Reply {
+    pub session: Session,
+    pub length: usize,
+}
+
+fn number_of(checked: Checked) -> u64
+    ensures { λ r. ⌜ r ≡ checkedNumber checked ⌝ }
+{
+    match checked {
+        Checked::Packet(outline) => {
+            let summary = outline.summary;
+            let head = summary.head;
+            let number = head.number;
+            number.0 as u64
+        }
+        Checked::Refused(_) => 0,
+    }
+}
+
+// The first packet that passes 1 to 13 opens the depacketizer.
+fn opening(checked: Checked) -> Opened
+    ensures { λ r. ⌜ r ≡ checkedOpening checked ⌝ }
+{
+    match checked {
+        Checked::Packet(outline) => {
+            let summary = outline.summary;
+            let head = summary.head;
+            Depacketizer::open(head.source, head.payload_type)
+        }
+        Checked::Refused(refusal) => Opened::Refused(refusal),
+    }
+}
+
+// The depacketizer that a packet arrives at.
+fn enter(session: Session, checked: Checked) -> Opened
+    ensures { λ r. ⌜ r ≡ enteredBy session checked ⌝ }
+{
+    match session {
+        Session::Waiting => opening(checked),
+        Session::Open(depacketizer) => Opened::Open(depacketizer),
+    }
+}
+
+fn refusal_of(opened: Opened) -> Refusal
+    ensures { λ r. ⌜ r ≡ openedRefusal opened ⌝ }
+{
+    match opened {
+        Opened::Refused(refusal) => refusal,
+        Opened::Open(_) => Refusal {
+            number: 0,
+            index: 0,
+        },
+    }
+}
+
+fn list_packet(session: Session, octets: &[u8], store: &mut [u16], out: &mut [u8]) -> Reply
+    requires { ⌜ lineRoom + cellRoom * length (now store) ≤ length (now out) ⌝ }
+    ensures { λ r. ⌜ r .session ≡ told.turn session (now (octets .entry)) (now (store .entry)) .session ⌝ }
+    ensures { λ r. ⌜ now (store .exit) ≡ told.turn session (now (octets .entry)) (now (store .entry)) .store ⌝ }
+    ensures { λ r. ⌜ Put (now (out .entry)) 0 (told.turn session (now (octets .entry)) (now (store .entry)) .text) (now (out .exit)) (r .length) ⌝ }
+{
+    let checked = check(octets);
+    let number = number_of(checked);
+    let opened = enter(session, checked);
+    let Opened::Open(depacketizer) = opened else {
+        let length = put_refused(out, refusal_of(opened));
+        return Reply { session, length };
+    };
+    let arrival = depacketizer.arrive(octets, store);
+    let answer = arrival.answer;
+    let state = arrival.state;
+    let length = put_answer(out, number, answer, store);
+    Reply {
+        session: Session::Open(state),
+        length,
+    }
+}
+
+// Room for all that one packet can print, over a store of so many cells.
+fn is_roomy(cells: usize, octets: usize) -> bool
+    ensures { λ r. ⌜ r ≡ roomy cells octets ⌝ }
+{
+    if octets < LINE_ROOM {
+        return false;
+    }
+    cells <= (octets - LINE_ROOM) / CELL_ROOM
+}
+
+// The frame at the front of the octets: its packet arrives, and its text goes to the first octets of `out`.
+pub fn list_frame(session: Session, octets: &[u8], store: &mut [u16], out: &mut [u8]) -> Listed
+    ensures { λ r. ⌜ r ≡ listedOf (roomy (length (now (store .entry))) (length (now (out .entry)))) session (front (now (octets .entry))) (now (store .entry)) ⌝ }
+    ensures { λ r. ⌜ now (store .exit) ≡ storeAfter (roomy (length (now (store .entry))) (length (now (out .entry)))) session (front (now (octets .entry))) (now (store .entry)) ⌝ }
+    ensures { λ r. ⌜ now (out .exit) ≡ outAfter (roomy (length (now (store .entry))) (length (now (out .entry)))) session (front (now (octets .entry))) (now (store .entry)) (now (out .entry)) ⌝ }
+    ensures { λ r. ⌜ ListedFits r (length (now (octets .entry))) (length (now (out .entry))) ⌝ }
+{
+    if !is_roomy(store.len(), out.len()) {
+        return Listed::RoomTooSmall;
+    }
+    let front = frame_at(octets);
+    match front {
+        Front::End => Listed::NoFrame,
+        Front::Cut => Listed::NoFrame,
+        Front::Packet(size) => {
+            let end = LENGTH_SIZE + size;
+            let reply = list_packet(session, &octets[LENGTH_SIZE..end], store, out);
+            let next = reply.session;
+            Listed::Frame(Turn {
+                session: next,
+                used: end,
+                length: reply.length,
+            })
+        }
+    }
+}
+
+// The first line.
+pub fn begin(out: &mut [u8]) -> Text
+    ensures { λ r. ⌜ r ≡ textOf (leb lineRoom (length (now (out .entry)))) told.title ⌝ }
+    ensures { λ r. ⌜ now (out .exit) ≡ textAfter (leb lineRoom (length (now (out .entry)))) told.title (now (out .entry)) ⌝ }
+    ensures { λ r. ⌜ TextFits r (length (now (out .entry))) ⌝ }
+{
+    if out.len() < LINE_ROOM {
+        return Text::RoomTooSmall;
+    }
+    let length = put(out, 0, b"fieldlist 1\n");
+    Text::Octets(length)
+}
+
+fn put_cut(out: &mut [u8], front: Front) -> usize
+    requires { ⌜ lineRoom ≤ length (now out) ⌝ }
+    ensures { λ r. ⌜ Put (now (out .entry)) 0 (told.cutText (isCut front)) (now (out .exit)) r ⌝ }
+    ensures { λ r. ⌜ r ≤ 4 ⌝ }
+{
+    match front {
+        Front::Cut => put(out, 0, b"cut\n"),
+        Front::End => 0,
+        Front::Packet(_) => 0,
+    }
+}
+
+fn put_counts_of(out: &mut [u8], at: usize, session: Session) -> usize
+    requires { ⌜ at + 82 ≤ length (now out) ⌝ }
+    ensures { λ r. ⌜ Put (now (out .entry)) at (told.countsOf session) (now (out .exit)) r ⌝ }
+{
+    match session {
+        Session::Waiting => put_counts(out, at, 0, 0, 0),
+        Session::Open(state) => put_counts(out, at, state.fresh, state.late, state.missing),
+    }
+}
+
+// The last lines; `rest` is what is left of the input behind its whole frames.
+pub fn finish(session: Session, rest: &[u8], out: &mut [u8]) -> Text
+    ensures { λ r. ⌜ r ≡ textOf (leb lineRoom (length (now (out .entry)))) (told.endText (told.isBroken (front (now (rest .entry)))) session) ⌝ }
+    ensures { λ r. ⌜ now (out .exit) ≡ textAfter (leb lineRoom (length (now (out .entry)))) (told.endText (told.isBroken (front (now (rest .entry)))) session) (now (out .entry)) ⌝ }
+    ensures { λ r. ⌜ TextFits r (length (now (out .entry))) ⌝ }
+{
+    if out.len() < LINE_ROOM {
+        return Text::RoomTooSmall;
+    }
+    let next = put_cut(out, frame_at(rest));
+    Text::Octets(put_counts_of(out, next, session))
+}

@@ -1,0 +1,25 @@
+-- `put_numbered` puts a number and, behind it, a text.
+-- Two pieces one behind the other are one piece.
+use borrow.Author.Needs.{needs}
+use native.Mathlib.Omega.{arith}
+use Rattle.text.proofs.PutLaws.{both}
+use Rattle.text.proofs.put_numbered.Statement.{statement}
+use Rattle.text.proofs.put_numbered.Tie as tie
+
+put-decimal-requires : tie.Need-put-decimal-requires
+put-decimal-requires c κs = search needs
+
+put-requires : tie.Need-put-requires
+put-requires c κs = search needs
+
+same-length : tie.Need-same-length
+same-length c = search needs
+
+returns : tie.Need-returns
+returns c =
+    let p = c .before .before .before .before .before .before .put-decimal .ensures in
+    let q = c .before .before .put .ensures in
+    (both (p .0) (q .0), omega (arith, p .1, q .1))
+
+pub put-numbered-spec : {M : Type 1} → statement M
+put-numbered-spec = tie.close (tie.spec put-decimal-requires put-requires same-length returns)

@@ -1,0 +1,91 @@
+//! The declarations of `include/jibhotran.h`, and the slices' side of them.
+//! This is the only unsafe code: a slice's pointer and length name memory
+//! that may be read, or written where the slice is mutable, and mutable
+//! slices do not overlap others. `tests/header.rs` compares the
+//! declarations with the header.
+
+use crate::{Head, Side};
+
+pub struct Archive;
+
+#[rustfmt::skip]
+extern "C" {
+    fn jibhotran_read(octets: *const u8, octets_len: usize, cells: *mut u16, cells_len: usize, answer: *mut u64, answer_len: usize) -> u8;
+    fn jibhotran_write(source: u32, payload_type: u8, marker: u8, number: u32, timestamp: u32, f: u8, cells: *const u16, cells_len: usize, out: *mut u8, out_len: usize, answer: *mut u64, answer_len: usize) -> u8;
+    fn jibhotran_open(source: u32, payload_type: u8, state: *mut u64, state_len: usize, answer: *mut u64, answer_len: usize) -> u8;
+    fn jibhotran_arrive(state: *mut u64, state_len: usize, octets: *const u8, octets_len: usize, store: *mut u16, store_len: usize, answer: *mut u64, answer_len: usize) -> u8;
+    fn jibhotran_sdp_read(text: *const u8, text_len: usize, pairs: *mut u8, pairs_len: usize, answer: *mut u64, answer_len: usize) -> u8;
+    fn jibhotran_sdp_write(pairs: *const u8, pairs_len: usize, vpid: u16, out: *mut u8, out_len: usize, answer: *mut u64, answer_len: usize) -> u8;
+    fn jibhotran_file_begin(out: *mut u8, out_len: usize, answer: *mut u64, answer_len: usize) -> u8;
+    fn jibhotran_file_write(timestamp: u32, f: u8, cells: *const u16, cells_len: usize, out: *mut u8, out_len: usize, answer: *mut u64, answer_len: usize) -> u8;
+    fn jibhotran_file_read(file: *const u8, file_len: usize, at: usize, cells: *mut u16, cells_len: usize, answer: *mut u64, answer_len: usize) -> u8;
+    fn jibhotran_wanted(did: u8, sdid: u8, pairs: *const u8, pairs_len: usize) -> u8;
+}
+
+/// Calls with each slice as a pointer and a length; `in` is only read, `mut`
+/// may be written.
+macro_rules! call {
+    (@ [$name:ident] [$($done:expr,)*]) => { unsafe { $name($($done),*) } };
+    (@ [$name:ident] [$($done:expr,)*] in $slice:ident, $($rest:tt)*) => {
+        call!(@ [$name] [$($done,)* $slice.as_ptr(), $slice.len(),] $($rest)*)
+    };
+    (@ [$name:ident] [$($done:expr,)*] mut $slice:ident, $($rest:tt)*) => {
+        call!(@ [$name] [$($done,)* $slice.as_mut_ptr(), $slice.len(),] $($rest)*)
+    };
+    (@ [$name:ident] [$($done:expr,)*] $plain:expr, $($rest:tt)*) => {
+        call!(@ [$name] [$($done,)* $plain,] $($rest)*)
+    };
+    ($name:ident($($arguments:tt)*)) => { call!(@ [$name] [] $($arguments)*,) };
+}
+
+impl Side for Archive {
+    fn read(octets: &[u8], cells: &mut [u16], answer: &mut [u64]) -> u8 {
+        call!(jibhotran_read(in octets, mut cells, mut answer))
+    }
+
+    fn write(head: &Head, cells: &[u16], out: &mut [u8], answer: &mut [u64]) -> u8 {
+        let Head {
+            source,
+            payload_type,
+            marker,
+            number,
+            timestamp,
+            f,
+        } = *head;
+        call!(jibhotran_write(
+            source, payload_type, marker, number, timestamp, f, in cells, mut out, mut answer
+        ))
+    }
+
+    fn open(source: u32, payload_type: u8, state: &mut [u64], answer: &mut [u64]) -> u8 {
+        call!(jibhotran_open(source, payload_type, mut state, mut answer))
+    }
+
+    fn arrive(state: &mut [u64], octets: &[u8], store: &mut [u16], answer: &mut [u64]) -> u8 {
+        call!(jibhotran_arrive(mut state, in octets, mut store, mut answer))
+    }
+
+    fn sdp_read(text: &[u8], pairs: &mut [u8], answer: &mut [u64]) -> u8 {
+        call!(jibhotran_sdp_read(in text, mut pairs, mut answer))
+    }
+
+    fn sdp_write(pairs: &[u8], vpid: u16, out: &mut [u8], answer: &mut [u64]) -> u8 {
+        call!(jibhotran_sdp_write(in pairs, vpid, mut out, mut answer))
+    }
+
+    fn file_begin(out: &mut [u8], answer: &mut [u64]) -> u8 {
+        call!(jibhotran_file_begin(mut out, mut answer))
+    }
+
+    fn file_write(timestamp: u32, f: u8, cells: &[u16], out: &mut [u8], answer: &mut [u64]) -> u8 {
+        call!(jibhotran_file_write(timestamp, f, in cells, mut out, mut answer))
+    }
+
+    fn file_read(file: &[u8], at: usize, cells: &mut [u16], answer: &mut [u64]) -> u8 {
+        call!(jibhotran_file_read(in file, at, mut cells, mut answer))
+    }
+
+    fn wanted(did: u8, sdid: u8, pairs: &[u8]) -> u8 {
+        call!(jibhotran_wanted(did, sdid, in pairs))
+    }
+}

@@ -1,0 +1,163 @@
+//! Random calls of every entry point, with the memory lent to them: the
+//! reference's generators, and what the boundary adds.
+
+use reference::keeper::State;
+use reference::random::{self, Random};
+
+use crate::call::{Call, Lengths, Memory};
+use crate::model::row_of;
+use crate::{Head, ANSWER, NO_VPID, STATE};
+
+pub type Case = (Call, Memory);
+
+/// Numbers lent for a row: mostly what it needs, at times more or too few.
+pub fn row_length(r: &mut Random, need: usize) -> usize {
+    match r.below(20) {
+        0 => r.below(need),
+        1..5 => need + r.below(6),
+        _ => need,
+    }
+}
+
+fn lent(r: &mut Random, cells: usize, octets: usize) -> Memory {
+    let lengths = Lengths {
+        answer: row_length(r, ANSWER),
+        cells,
+        octets,
+        ..Lengths::default()
+    };
+    Memory::new(lengths, r)
+}
+
+pub fn read(r: &mut Random) -> Case {
+    let case = random::read_case(r);
+    let octets = case.octets;
+    (Call::Read { octets }, lent(r, case.room, 0))
+}
+
+/// Marked by 1 as often as by another number.
+fn marker(r: &mut Random, marked: bool) -> u8 {
+    match marked {
+        false => 0,
+        true => r.pick(&[1, 1, 1, 2, 128, 254, 255]),
+    }
+}
+
+pub fn write(r: &mut Random) -> Case {
+    let case = random::write_case(r);
+    let head = Head {
+        source: case.head.source,
+        payload_type: case.head.payload_type,
+        marker: marker(r, case.head.marker),
+        number: case.head.number,
+        timestamp: case.head.timestamp,
+        f: case.head.f,
+    };
+    let cells = case.cells;
+    (Call::Write { head, cells }, lent(r, 0, case.room))
+}
+
+pub fn open(r: &mut Random) -> Case {
+    let call = Call::Open {
+        source: r.draw() as u32,
+        payload_type: r.octet(),
+    };
+    let lengths = Lengths {
+        answer: row_length(r, ANSWER),
+        state: row_length(r, STATE),
+        ..Lengths::default()
+    };
+    (call, Memory::new(lengths, r))
+}
+
+pub fn arrive(r: &mut Random) -> Case {
+    let case = random::arrive_case(r);
+    let lengths = Lengths {
+        answer: row_length(r, ANSWER),
+        state: row_length(r, STATE),
+        cells: case.store.len(),
+        ..Lengths::default()
+    };
+    let mut memory = Memory::new(lengths, r);
+    let row = state_row(r, &case.state);
+    // A row too short for a state has the first of its numbers.
+    for (into, number) in memory.state.get_mut().iter_mut().zip(row) {
+        *into = number;
+    }
+    let octets = case.octets;
+    (Call::Arrive { octets }, memory)
+}
+
+/// Which numbers of a state row have a bound, and the bound's width: the
+/// number that a row has beside `2^width` is what a cut would make of it.
+pub const BOUNDED: [(usize, u32); 7] = [(0, 32), (1, 8), (2, 8), (3, 1), (4, 32), (5, 32), (6, 8)];
+
+/// A state's row, at times with numbers that no state has, or a timestamp
+/// and F beside a phase that does not use them.
+fn state_row(r: &mut Random, state: &State) -> [u64; STATE] {
+    let mut row = row_of(state);
+    match r.below(20) {
+        0 => {
+            let (at, width) = r.pick(&BOUNDED);
+            row[at] |= 1 << r.pick(&[width, 32, 63]);
+        }
+        1 => row[2] = r.pick(&[3, 4, 255, 256, u64::MAX]),
+        2 => row[3] = r.pick(&[2, 3, 256, u64::MAX]),
+        3..6 => {
+            row[5] = r.draw() >> 32;
+            row[6] = r.octet() as u64;
+        }
+        _ => {}
+    }
+    row
+}
+
+pub fn sdp_read(r: &mut Random) -> Case {
+    let case = random::text_case(r);
+    let text = case.text;
+    (Call::SdpRead { text }, lent(r, 0, case.room))
+}
+
+pub fn sdp_write(r: &mut Random) -> Case {
+    let case = random::pairs_case(r);
+    let none = r.pick(&[NO_VPID, 257, 0x8000, 0xFF00, u16::MAX]);
+    let vpid = case.vpid.map_or(none, u16::from);
+    let pairs = case.pairs;
+    (Call::SdpWrite { pairs, vpid }, lent(r, 0, case.room))
+}
+
+pub fn file_begin(r: &mut Random) -> Case {
+    let octets = r.below(10);
+    (Call::FileBegin, lent(r, 0, octets))
+}
+
+pub fn file_write(r: &mut Random) -> Case {
+    let case = random::field_case(r);
+    let call = Call::FileWrite {
+        timestamp: case.timestamp,
+        f: case.f,
+        cells: case.cells,
+    };
+    (call, lent(r, 0, case.room))
+}
+
+pub fn file_read(r: &mut Random) -> Case {
+    let case = random::file_case(r);
+    let call = Call::FileRead {
+        file: case.file,
+        at: case.offset,
+    };
+    (call, lent(r, case.room, 0))
+}
+
+/// Few different numbers, so that entries match.
+pub fn wanted(r: &mut Random) -> Case {
+    let length = r.pick(&[0, 1, 2, 3, 4, 5, 6, 7, 9, 64, 129]);
+    let most = r.pick(&[2, 4, 256]);
+    let call = Call::Wanted {
+        did: r.below(most) as u8,
+        sdid: r.below(most) as u8,
+        pairs: (0..length).map(|_| r.below(most) as u8).collect(),
+    };
+    (call, Memory::new(Lengths::default(), r))
+}

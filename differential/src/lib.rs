@@ -1,0 +1,53 @@
+//! The proved archive beside the reference: one boundary, two sides.
+//!
+//! [`Archive`] is `libcapi.a` through the C boundary. [`Model`] is the same
+//! boundary over the reference. [`call::compare`] makes one call on both and
+//! compares all that can be seen of it.
+
+pub mod archive;
+pub mod call;
+pub mod inputs;
+pub mod model;
+
+pub use archive::Archive;
+pub use model::Model;
+
+/// Numbers that an answer row needs.
+pub const ANSWER: usize = 8;
+/// Numbers that a state row needs.
+pub const STATE: usize = 12;
+/// A row is too short.
+pub const ROW: u8 = 255;
+/// The first number that is no VPID code.
+pub const NO_VPID: u16 = 256;
+/// Answers of `arrive`.
+pub const SKIPPED: u64 = 0;
+pub const HELD: u64 = 1;
+pub const MIXED: u64 = 2;
+pub const OVERFULL: u64 = 3;
+pub const WHOLE: u64 = 4;
+
+/// What the packet writer takes with the list. A marker other than 0 marks.
+#[derive(Clone, Copy, Debug, PartialEq, Eq)]
+pub struct Head {
+    pub source: u32,
+    pub payload_type: u8,
+    pub marker: u8,
+    pub number: u32,
+    pub timestamp: u32,
+    pub f: u8,
+}
+
+/// The boundary's ten functions over slices.
+pub trait Side {
+    fn read(octets: &[u8], cells: &mut [u16], answer: &mut [u64]) -> u8;
+    fn write(head: &Head, cells: &[u16], out: &mut [u8], answer: &mut [u64]) -> u8;
+    fn open(source: u32, payload_type: u8, state: &mut [u64], answer: &mut [u64]) -> u8;
+    fn arrive(state: &mut [u64], octets: &[u8], store: &mut [u16], answer: &mut [u64]) -> u8;
+    fn sdp_read(text: &[u8], pairs: &mut [u8], answer: &mut [u64]) -> u8;
+    fn sdp_write(pairs: &[u8], vpid: u16, out: &mut [u8], answer: &mut [u64]) -> u8;
+    fn file_begin(out: &mut [u8], answer: &mut [u64]) -> u8;
+    fn file_write(timestamp: u32, f: u8, cells: &[u16], out: &mut [u8], answer: &mut [u64]) -> u8;
+    fn file_read(file: &[u8], at: usize, cells: &mut [u16], answer: &mut [u64]) -> u8;
+    fn wanted(did: u8, sdid: u8, pairs: &[u8]) -> u8;
+}

@@ -1,0 +1,196 @@
+//! The boundary over the reference: its rows, and nothing else of its own.
+
+use reference::keeper::{arrive, open, Answer, State, FILLING};
+use reference::{file, packet, sdp, Refusal};
+
+use crate::{Head, Side, ANSWER, HELD, MIXED, OVERFULL, ROW, SKIPPED, STATE, WHOLE};
+
+pub struct Model;
+
+/// The values at the row's beginning, or a refusal's index; the rest stays.
+fn settle<const N: usize>(outcome: Result<[u64; N], Refusal>, answer: &mut [u64]) -> u8 {
+    match outcome {
+        Ok(values) => {
+            answer[..N].copy_from_slice(&values);
+            0
+        }
+        Err(Refusal { number, index }) => {
+            answer[0] = index as u64;
+            number
+        }
+    }
+}
+
+/// A state's numbers in the order of the row.
+pub fn row_of(state: &State) -> [u64; STATE] {
+    [
+        state.source as u64,
+        state.payload_type as u64,
+        state.phase as u64,
+        state.heard as u64,
+        state.last as u64,
+        state.timestamp as u64,
+        state.f as u64,
+        state.records as u64,
+        state.cells as u64,
+        state.fresh,
+        state.late,
+        state.missing,
+    ]
+}
+
+/// None where the numbers are no state.
+pub fn state_of(row: &[u64]) -> Option<State> {
+    Some(State {
+        source: row[0].try_into().ok()?,
+        payload_type: row[1].try_into().ok()?,
+        phase: row[2].try_into().ok().filter(|&phase| phase <= FILLING)?,
+        heard: [false, true].get(usize::try_from(row[3]).ok()?).copied()?,
+        last: row[4].try_into().ok()?,
+        timestamp: row[5].try_into().ok()?,
+        f: row[6].try_into().ok()?,
+        records: row[7].try_into().ok()?,
+        cells: row[8].try_into().ok()?,
+        fresh: row[9],
+        late: row[10],
+        missing: row[11],
+    })
+}
+
+/// Kind, then timestamp, F, records and cells, which are 0 unless whole.
+fn values_of(answer: Answer) -> Result<[u64; 5], Refusal> {
+    let kind = |kind| Ok([kind, 0, 0, 0, 0]);
+    match answer {
+        Answer::Skipped => kind(SKIPPED),
+        Answer::Held => kind(HELD),
+        Answer::Mixed => kind(MIXED),
+        Answer::Overfull => kind(OVERFULL),
+        Answer::Whole {
+            timestamp,
+            f,
+            records,
+            cells,
+        } => Ok([
+            WHOLE,
+            timestamp as u64,
+            f as u64,
+            records as u64,
+            cells as u64,
+        ]),
+        Answer::Refused(refusal) => Err(refusal),
+    }
+}
+
+impl Side for Model {
+    fn read(octets: &[u8], cells: &mut [u16], answer: &mut [u64]) -> u8 {
+        if answer.len() < ANSWER {
+            return ROW;
+        }
+        let values = packet::read(octets, cells).map(|read| {
+            [
+                read.source as u64,
+                read.payload_type as u64,
+                read.marker as u64,
+                read.number as u64,
+                read.timestamp as u64,
+                read.f as u64,
+                read.records as u64,
+                read.cells as u64,
+            ]
+        });
+        settle(values, answer)
+    }
+
+    fn write(head: &Head, cells: &[u16], out: &mut [u8], answer: &mut [u64]) -> u8 {
+        if answer.len() < ANSWER {
+            return ROW;
+        }
+        let head = packet::Head {
+            source: head.source,
+            payload_type: head.payload_type,
+            marker: head.marker != 0,
+            number: head.number,
+            timestamp: head.timestamp,
+            f: head.f,
+        };
+        let octets = packet::write(&head, cells, out);
+        settle(octets.map(|octets| [octets as u64]), answer)
+    }
+
+    fn open(source: u32, payload_type: u8, state: &mut [u64], answer: &mut [u64]) -> u8 {
+        if answer.len() < ANSWER || state.len() < STATE {
+            return ROW;
+        }
+        let opened = open(source, payload_type).map(|opened| {
+            state[..STATE].copy_from_slice(&row_of(&opened));
+            []
+        });
+        settle(opened, answer)
+    }
+
+    fn arrive(state: &mut [u64], octets: &[u8], store: &mut [u16], answer: &mut [u64]) -> u8 {
+        if answer.len() < ANSWER || state.len() < STATE {
+            return ROW;
+        }
+        let Some(before) = state_of(state) else {
+            return settle::<0>(Err(Refusal::plain(35)), answer);
+        };
+        let (after, outcome) = arrive(before, octets, store);
+        state[..STATE].copy_from_slice(&row_of(&after));
+        settle(values_of(outcome), answer)
+    }
+
+    fn sdp_read(text: &[u8], pairs: &mut [u8], answer: &mut [u64]) -> u8 {
+        if answer.len() < ANSWER {
+            return ROW;
+        }
+        let values = sdp::read(text, pairs).map(|read| {
+            let code = read.vpid.unwrap_or(0);
+            [read.pairs as u64, read.vpid.is_some() as u64, code as u64]
+        });
+        settle(values, answer)
+    }
+
+    fn sdp_write(pairs: &[u8], vpid: u16, out: &mut [u8], answer: &mut [u64]) -> u8 {
+        if answer.len() < ANSWER {
+            return ROW;
+        }
+        let octets = sdp::write(pairs, u8::try_from(vpid).ok(), out);
+        settle(octets.map(|octets| [octets as u64]), answer)
+    }
+
+    fn file_begin(out: &mut [u8], answer: &mut [u64]) -> u8 {
+        if answer.len() < ANSWER {
+            return ROW;
+        }
+        settle(file::begin(out).map(|octets| [octets as u64]), answer)
+    }
+
+    fn file_write(timestamp: u32, f: u8, cells: &[u16], out: &mut [u8], answer: &mut [u64]) -> u8 {
+        if answer.len() < ANSWER {
+            return ROW;
+        }
+        let octets = file::write(timestamp, f, cells, out);
+        settle(octets.map(|octets| [octets as u64]), answer)
+    }
+
+    fn file_read(file: &[u8], at: usize, cells: &mut [u16], answer: &mut [u64]) -> u8 {
+        if answer.len() < ANSWER {
+            return ROW;
+        }
+        let values = file::read(file, at, cells).map(|field| {
+            [
+                field.timestamp as u64,
+                field.f as u64,
+                field.records as u64,
+                field.cells as u64,
+                field.next as u64,
+            ]
+        });
+        settle(values, answer)
+    }
+
+    fn wanted(did: u8, sdid: u8, pairs: &[u8]) -> u8 {
+        sdp::wanted_octets(pairs, did, sdid) as u8
+    }
+}

@@ -1,0 +1,108 @@
+/* Every function of the header through a pointer of its type, as a C program uses them. */
+#include "jibhotran.h"
+
+#include <inttypes.h>
+#include <stdio.h>
+#include <string.h>
+
+typedef uint8_t octet;
+typedef uint16_t cell;
+typedef uint64_t number;
+
+static octet (*const packet_read)(const octet *, size_t, cell *, size_t, number *, size_t) = jibhotran_read;
+static octet (*const packet_write)(uint32_t, octet, octet, uint32_t, uint32_t, octet, const cell *, size_t, octet *, size_t, number *,
+                                   size_t) = jibhotran_write;
+static octet (*const opened)(uint32_t, octet, number *, size_t, number *, size_t) = jibhotran_open;
+static octet (*const arrive)(number *, size_t, const octet *, size_t, cell *, size_t, number *, size_t) = jibhotran_arrive;
+static octet (*const sdp_read)(const octet *, size_t, octet *, size_t, number *, size_t) = jibhotran_sdp_read;
+static octet (*const sdp_write)(const octet *, size_t, uint16_t, octet *, size_t, number *, size_t) = jibhotran_sdp_write;
+static octet (*const file_begin)(octet *, size_t, number *, size_t) = jibhotran_file_begin;
+static octet (*const file_write)(uint32_t, octet, const cell *, size_t, octet *, size_t, number *, size_t) = jibhotran_file_write;
+static octet (*const file_read)(const octet *, size_t, size_t, cell *, size_t, number *, size_t) = jibhotran_file_read;
+static octet (*const wanted)(octet, octet, const octet *, size_t) = jibhotran_wanted;
+
+static const cell record_a[8] = {0, 9, 0, 0, 0, 0x41, 0x05, 0};
+static number answer[JIBHOTRAN_ANSWER];
+
+static void numbers(const char *name, const number *row, size_t count) {
+    printf("%s:", name);
+    for (size_t i = 0; i < count; i++) printf(" %" PRIu64, row[i]);
+    printf("\n");
+}
+
+static void octets(const char *name, const octet *row, size_t count) {
+    printf("%s:", name);
+    for (size_t i = 0; i < count; i++) printf(" %02X", row[i]);
+    printf("\n");
+}
+
+static void cells(const char *name, const cell *row, size_t count) {
+    printf("%s:", name);
+    for (size_t i = 0; i < count; i++) printf(" %X", row[i]);
+    printf("\n");
+}
+
+/* The result and the first values of the answer, which is then set to a number that no call gives. */
+static void result(const char *name, octet given, size_t values) {
+    printf("%s %d, ", name, given);
+    numbers("answer", answer, values);
+    for (size_t i = 0; i < JIBHOTRAN_ANSWER; i++) answer[i] = 77;
+}
+
+static void packets(octet packet[2][32]) {
+    cell back[8];
+    result("write 7", packet_write(1, 112, 1, 7, 1000, 2, record_a, 8, packet[0], 32, answer, 8), 2);
+    octets("packet", packet[0], 32);
+    result("write 8", packet_write(1, 112, 1, 8, 2501, 3, record_a, 8, packet[1], 32, answer, 8), 2);
+    result("read", packet_read(packet[0], 32, back, 8, answer, 8), 8);
+    cells("cells", back, 8);
+    result("read 11 octets", packet_read(packet[0], 11, back, 8, answer, 8), 2);
+    result("short row", packet_read(packet[0], 32, back, 8, answer, JIBHOTRAN_ANSWER - 1), 2);
+}
+
+static void depacketizer(octet packet[2][32]) {
+    number state[JIBHOTRAN_STATE];
+    cell store[16];
+    result("short state", opened(1, 112, state, JIBHOTRAN_STATE - 1, answer, 8), 1);
+    result("open", opened(1, 112, state, JIBHOTRAN_STATE, answer, 8), 1);
+    numbers("state", state, JIBHOTRAN_STATE);
+    result("arrive 7", arrive(state, JIBHOTRAN_STATE, packet[0], 32, store, 16, answer, 8), 6);
+    result("arrive 8", arrive(state, JIBHOTRAN_STATE, packet[1], 32, store, 16, answer, 8), 6);
+    cells("store", store, 8);
+    result("arrive 8", arrive(state, JIBHOTRAN_STATE, packet[1], 32, store, 16, answer, 8), 2);
+    numbers("state", state, JIBHOTRAN_STATE);
+}
+
+static void parameters(void) {
+    const char *text = "DID_SDID={0x41,0x5}; VPID_Code=132";
+    octet pairs[4], out[64];
+    result("sdp read", sdp_read((const octet *)text, strlen(text), pairs, 4, answer, 8), 4);
+    octets("pairs", pairs, 2);
+    result("sdp write", sdp_write(pairs, 2, 132, out, 64, answer, 8), 2);
+    printf("text: %.34s\n", (const char *)out);
+    result("sdp write", sdp_write(pairs, 2, JIBHOTRAN_NO_VPID, out, 64, answer, 8), 2);
+    printf("wanted: %d %d\n", wanted(0x41, 0x05, pairs, 2), wanted(0x41, 0x06, pairs, 2));
+}
+
+static void file(void) {
+    octet out[23];
+    cell back[8];
+    result("file begin", file_begin(out, 23, answer, 8), 2);
+    result("file write", file_write(2501, 3, record_a, 8, out + 5, 18, answer, 8), 2);
+    octets("file", out, 23);
+    result("file read", file_read(out, 23, 5, back, 8, answer, 8), 6);
+    cells("cells", back, 8);
+    result("file read", file_read(out, 23, 23, back, 8, answer, 8), 2);
+}
+
+int main(void) {
+    octet packet[2][32];
+    printf("%d %d %d %d\n", JIBHOTRAN_ANSWER, JIBHOTRAN_STATE, JIBHOTRAN_ROW, JIBHOTRAN_NO_VPID);
+    printf("%d %d %d %d %d\n", JIBHOTRAN_SKIPPED, JIBHOTRAN_HELD, JIBHOTRAN_MIXED, JIBHOTRAN_OVERFULL, JIBHOTRAN_WHOLE);
+    result("before", 0, 1);
+    packets(packet);
+    depacketizer(packet);
+    parameters();
+    file();
+    return 0;
+}

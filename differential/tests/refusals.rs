@@ -1,0 +1,374 @@
+//! Every refusal number of 01 through the archive, by hand, with its index.
+//! What is lent stays as it was, but for the index and, at 32, the late
+//! count.
+
+use std::collections::BTreeSet;
+
+use differential::call::{compare, Call, Lengths, Memory};
+use differential::model::row_of;
+use differential::{Head, ANSWER, NO_VPID, STATE};
+use reference::anc::packet_octets;
+use reference::keeper::{open, State, FILLING, LOST, READY};
+use reference::packet;
+use reference::random::{file_field, Parts, Random};
+use reference::runs::{cells, changed, records, A, HEAD};
+
+/// A call that is lent so many cells and octets, its number and index. The
+/// state is that of `sound` unless the case is about states.
+struct Refused {
+    number: u8,
+    what: &'static str,
+    call: Call,
+    lent: usize,
+    state: State,
+    index: u64,
+}
+
+fn refused(number: u8, what: &'static str, call: Call, lent: usize, index: u64) -> Refused {
+    let state = sound();
+    Refused {
+        number,
+        what,
+        call,
+        lent,
+        state,
+        index,
+    }
+}
+
+/// Waits for the packets made here, with a field begun.
+fn sound() -> State {
+    State {
+        phase: FILLING,
+        heard: true,
+        last: HEAD.number - 1,
+        timestamp: HEAD.timestamp,
+        f: HEAD.f,
+        records: 1,
+        cells: 8,
+        late: 3,
+        ..open(HEAD.source, HEAD.payload_type).unwrap()
+    }
+}
+
+/// A packet of records of so many words each.
+fn parts(counts: &[usize]) -> Parts {
+    let list: Vec<u16> = counts.iter().flat_map(|&n| cells(8 + n)).collect();
+    Parts::plain(HEAD, &list)
+}
+
+fn damaged(counts: &[usize], damage: impl Fn(&mut Parts)) -> Vec<u8> {
+    let mut parts = parts(counts);
+    damage(&mut parts);
+    parts.assemble()
+}
+
+fn packet_of_a() -> Vec<u8> {
+    parts(&[0]).assemble()
+}
+
+/// Octets that the packet reader and an arrival refuse alike: 1 to 13.
+fn packets() -> Vec<(u8, &'static str, Vec<u8>, u64)> {
+    [header_packets(), anc_packets()].concat()
+}
+
+// A case a line.
+#[rustfmt::skip]
+fn header_packets() -> Vec<(u8, &'static str, Vec<u8>, u64)> {
+    let a = packet_of_a();
+    let extended = |words: u8| [&changed(&a, 0, 0x10)[..12], &[0, 0, 0, words]].concat();
+    vec![
+        (1, "65,536 octets", [&a[..], &[0; 65_504]].concat(), 0),
+        (2, "no octets", Vec::new(), 0),
+        (2, "11 octets, version 0", vec![0; 11], 0),
+        (2, "a contributing source cut", changed(&a[..15], 0, 1), 0),
+        (2, "the extension's head cut", changed(&a[..15], 0, 0x10), 0),
+        (2, "the extension's words cut", extended(1), 0),
+        (3, "version 3", changed(&a, 0, 0x40), 0),
+        (4, "padding 0", changed(&a, 0, 0x20), 0),
+        (4, "padding 22 of 21", damaged(&[0], |p| p.padding = Some(vec![22])), 0),
+        (5, "7 payload octets", a[..19].to_vec(), 0),
+        (5, "padding takes all", damaged(&[], |p| p.padding = Some(vec![9])), 0),
+        (6, "F 1", damaged(&[0], |p| p.head.f = 1), 0),
+        (7, "Length 11", damaged(&[0], |p| p.length = Some(11)), 0),
+        (8, "ANC_Count 0", damaged(&[0], |p| p.count = Some(0)), 0),
+    ]
+}
+
+// A case a line.
+#[rustfmt::skip]
+fn anc_packets() -> Vec<(u8, &'static str, Vec<u8>, u64)> {
+    vec![
+        (9, "no octets left", damaged(&[0, 3], |p| p.count = Some(3)), 2),
+        (9, "size, the first", damaged(&[5], |p| p.cut = 1), 0),
+        (9, "size, the fourth", damaged(&[0, 1, 2, 30], |p| p.cut = 5), 3),
+        (10, "DID", damaged(&[0], |p| p.anc[0].words[0] ^= 0x200), 0),
+        (10, "SDID", damaged(&[0, 4], |p| p.anc[1].words[1] ^= 1), 1),
+        (10, "Data_Count", damaged(&[9, 9, 9], |p| p.anc[2].words[2] ^= 0x100), 2),
+        (11, "a word", damaged(&[3, 4], |p| p.anc[0].words[5] ^= 0x100), 0),
+        (11, "b9 of the checksum", damaged(&[0; 255], |p| p.anc[254].words[3] ^= 0x200), 254),
+        (12, "the first", damaged(&[0, 0], |p| p.anc[0].alignment = 1), 0),
+        (12, "the fifth", damaged(&[7; 6], |p| p.anc[4].alignment = 2), 4),
+        (13, "4 octets", damaged(&[0, 2], |p| p.extra = vec![0; 4]), 0),
+    ]
+}
+
+fn of_packets() -> Vec<Refused> {
+    let mut table = Vec::new();
+    for (number, what, octets, index) in packets() {
+        let arrival = Call::Arrive {
+            octets: octets.clone(),
+        };
+        table.push(refused(number, what, Call::Read { octets }, 3_000, index));
+        table.push(refused(number, what, arrival, 3_000, index));
+    }
+    let octets = parts(&[3, 4]).assemble();
+    table.push(refused(14, "22 cells", Call::Read { octets }, 22, 0));
+    table
+}
+
+fn write(payload_type: u8, f: u8, cells: Vec<u16>) -> Call {
+    let head = Head {
+        source: 1,
+        payload_type,
+        marker: 0,
+        number: 7,
+        timestamp: 9,
+        f,
+    };
+    Call::Write { head, cells }
+}
+
+fn field(f: u8, cells: Vec<u16>) -> Call {
+    let timestamp = 9;
+    Call::FileWrite {
+        timestamp,
+        f,
+        cells,
+    }
+}
+
+/// Lists with one record of many wrong.
+fn lists() -> Vec<(&'static str, Vec<u16>, u64)> {
+    let with = |before: usize, at: usize, cell: u16| {
+        let mut list = [records(before), cells(8 + 3)].concat();
+        list[8 * before + at] = cell;
+        list
+    };
+    vec![
+        ("C 2", with(0, 0, 2), 0),
+        ("line 0x800", with(1, 1, 0x800), 1),
+        ("offset 0x1000", with(2, 2, 0x1000), 2),
+        ("S 2", with(3, 3, 2), 3),
+        ("StreamNum 128", with(4, 4, 128), 4),
+        ("DID 256", with(5, 5, 256), 5),
+        ("SDID 256", with(6, 6, 256), 6),
+        ("n 256", with(7, 7, 256), 7),
+        ("a word 1,024", with(8, 10, 1024), 8),
+        ("words cut", with(9, 7, 4), 9),
+        ("head cut", [records(10), A[..7].to_vec()].concat(), 10),
+        ("over 255 records", with(300, 0, 2), 300),
+    ]
+}
+
+fn of_lists() -> Vec<Refused> {
+    let mut table = Vec::new();
+    for (what, list, index) in lists() {
+        table.push(refused(20, what, write(112, 2, list.clone()), 9, index));
+        table.push(refused(20, what, field(2, list), 9, index));
+    }
+    for (what, list) in [
+        ("256 records", records(256)),
+        ("16,385 cells", cells(16_385)),
+    ] {
+        table.push(refused(21, what, write(112, 2, list.clone()), 9, 0));
+        table.push(refused(21, what, field(2, list), 9, 0));
+    }
+    table.push(refused(
+        23,
+        "31 of 32 octets",
+        write(112, 2, A.to_vec()),
+        31,
+        0,
+    ));
+    table.push(refused(
+        23,
+        "19 of 20 octets",
+        write(112, 2, Vec::new()),
+        19,
+        0,
+    ));
+    table.push(refused(23, "17 of 18 octets", field(2, A.to_vec()), 17, 0));
+    table.push(refused(23, "4 of 5 octets", Call::FileBegin, 4, 0));
+    table.push(refused(24, "type 128", write(128, 2, vec![9]), 0, 0));
+    table.push(refused(24, "F 1", write(112, 1, vec![9]), 0, 0));
+    table.push(refused(24, "F 4", write(112, 4, vec![9]), 0, 0));
+    let opened = Call::Open {
+        source: 1,
+        payload_type: 128,
+    };
+    table.push(refused(24, "open type 128", opened, 0, 0));
+    table.push(refused(53, "F 1", field(1, vec![9]), 0, 0));
+    table
+}
+
+// A case a line.
+#[rustfmt::skip]
+fn states() -> Vec<(u8, &'static str, State)> {
+    let good = sound();
+    let bare = State { records: 0, cells: 0, ..good };
+    let late = |last| State { last, ..good };
+    vec![
+        (30, "other source", State { source: 2, payload_type: 3, ..good }),
+        (31, "other type", State { payload_type: 3, last: 9, ..good }),
+        (32, "distance 0", late(HEAD.number)),
+        (32, "distance -1", late(HEAD.number + 1)),
+        (32, "the most negative distance", late(HEAD.number + 0x8000_0000)),
+        (35, "256 records", State { records: 256, ..good }),
+        (35, "16,385 cells", State { cells: 16_385, ..good }),
+        (35, "more cells than the store", State { cells: 101, ..good }),
+        (35, "records when ready", State { phase: READY, records: 1, ..bare }),
+        (35, "cells when lost", State { phase: LOST, cells: 1, ..bare }),
+        (35, "ready before a first", State { phase: READY, heard: false, ..bare }),
+        (35, "filling before a first", State { heard: false, ..bare }),
+    ]
+}
+
+/// 30, 31 and 32 at the packet of record A; 35 at one that 12 refuses, since
+/// the state comes first.
+fn of_states() -> Vec<Refused> {
+    let entry = |(number, what, state): (u8, &'static str, State)| {
+        let octets = match number {
+            35 => changed(&packet_of_a(), 31, 1),
+            _ => packet_of_a(),
+        };
+        let store = if state.cells == 16_385 { 20_000 } else { 100 };
+        Refused {
+            state,
+            ..refused(number, what, Call::Arrive { octets }, store, 0)
+        }
+    };
+    states().into_iter().map(entry).collect()
+}
+
+fn of_parameters() -> Vec<Refused> {
+    let read = |number, text: &str, lent, index| {
+        let text = text.as_bytes().to_vec();
+        refused(number, "text", Call::SdpRead { text }, lent, index)
+    };
+    let write = |number, octets, lent| {
+        let (pairs, vpid) = (vec![0x41; octets], NO_VPID);
+        refused(number, "pairs", Call::SdpWrite { pairs, vpid }, lent, 0)
+    };
+    let pair = "DID_SDID={0x41,0x05}";
+    let sixty_four = format!("{pair};").repeat(64);
+    vec![
+        read(40, &"x".repeat(4_097), 9, 0),
+        read(41, ";", 9, 0),
+        read(41, "a=b;VPID_Code=256", 9, 1),
+        read(41, &format!("{pair}; {pair};c=d; "), 9, 3),
+        read(42, "VPID_Code=1;VPID_Code=2", 9, 1),
+        read(42, "VPID_Code=1;a=b;c=d;VPID_Code=1", 9, 3),
+        read(43, &format!("{sixty_four}{pair}"), 9, 64),
+        read(43, &format!("a=b;{sixty_four}c=d;{pair}"), 9, 66),
+        read(44, &format!("{pair};{pair}"), 3, 0),
+        write(41, 131, 0),
+        write(43, 130, 0),
+        write(44, 2, 19),
+    ]
+}
+
+/// A file of one field: F, count, and the ANC packets of a damaged packet.
+fn file_of(f: u8, count: u8, damage: impl Fn(&mut Parts)) -> Vec<u8> {
+    let mut parts = parts(&[0, 5, 13]);
+    damage(&mut parts);
+    let mut file = b"ANF\0\x01".to_vec();
+    file.extend(file_field(9, f, count, &parts.anc));
+    file
+}
+
+fn of_files() -> Vec<Refused> {
+    let read = |number, file: &[u8], at, lent, index| {
+        let file = file.to_vec();
+        refused(number, "file", Call::FileRead { file, at }, lent, index)
+    };
+    let good = file_of(2, 3, |_| {});
+    let end = good.len();
+    let long = file_of(2, 63, |p| p.anc = parts_of_cells(16_385));
+    vec![
+        read(9, &good[..end - 1], 5, 99, 2),
+        read(9, &good[..22], 5, 99, 0),
+        read(9, &file_of(2, 4, |_| {}), 5, 99, 3),
+        read(10, &file_of(2, 3, |p| p.anc[1].words[0] ^= 1), 5, 99, 1),
+        read(11, &file_of(2, 3, |p| p.anc[2].words[4] ^= 1), 5, 99, 2),
+        read(12, &file_of(2, 3, |p| p.anc[0].alignment = 1), 5, 99, 0),
+        read(14, &good, 5, 41, 0),
+        read(21, &long, 5, 0, 0),
+        read(50, b"AN", 0, 99, 0),
+        read(50, b"ANG\0\x01", 5, 99, 0),
+        read(51, b"ANF\0", 0, 99, 0),
+        read(51, b"ANF\0\x02", 5, 99, 0),
+        read(52, &good[..10], 5, 99, 0),
+        read(53, &file_of(1, 3, |_| {}), 5, 99, 0),
+        read(54, &good, end, 99, 0),
+        read(55, &good, 4, 99, 0),
+        read(55, &good, end + 1, 99, 0),
+        read(55, &good, usize::MAX, 99, 0),
+    ]
+}
+
+fn parts_of_cells(count: usize) -> Vec<reference::random::Anc> {
+    reference::random::anc_of(&cells(count))
+}
+
+fn table() -> Vec<Refused> {
+    [
+        of_packets(),
+        of_lists(),
+        of_states(),
+        of_parameters(),
+        of_files(),
+    ]
+    .into_iter()
+    .flatten()
+    .collect()
+}
+
+#[test]
+fn every_number_with_its_index() {
+    let mut r = Random::new(501);
+    for case in table() {
+        let lengths = Lengths {
+            answer: ANSWER,
+            state: STATE,
+            cells: case.lent,
+            octets: case.lent,
+        };
+        let mut memory = Memory::new(lengths, &mut r);
+        memory.state.get_mut().copy_from_slice(&row_of(&case.state));
+        let (number, after) = compare(&case.call, &memory);
+        memory.answer.get_mut()[0] = case.index;
+        memory.state.get_mut()[10] += (case.number == 32) as u64;
+        let what = case.what;
+        assert_eq!(number, case.number, "{what}: {:?}", case.call);
+        assert_eq!(after, memory, "{number}, {what}");
+    }
+}
+
+#[test]
+fn the_table_has_every_number() {
+    let numbers: BTreeSet<u8> = table().iter().map(|case| case.number).collect();
+    let of_01 = (1..=14)
+        .chain([20, 21, 23, 24, 30, 31, 32, 35])
+        .chain(40..=44)
+        .chain(50..=55);
+    assert_eq!(numbers, of_01.collect());
+}
+
+/// 22 cannot be given: no record has more than three octets to two cells, so
+/// 16,384 cells take at most 24,596 octets.
+#[test]
+fn no_list_gives_22() {
+    assert!((0..256).all(|n| 2 * packet_octets(n) <= 3 * (8 + n)));
+    const { assert!(20 + 3 * 16_384 / 2 < packet::MAX_PACKET) };
+}

@@ -1,0 +1,201 @@
+//! What the boundary adds: rows too short, rows longer than need be, and
+//! numbers that are no state.
+
+use differential::call::{compare, Call, Lengths, Memory};
+use differential::inputs::BOUNDED;
+use differential::model::row_of;
+use differential::{Head, ANSWER, NO_VPID, ROW, STATE};
+use reference::keeper::open;
+use reference::random::Random;
+use reference::runs::{A, HEAD};
+
+fn head(payload_type: u8) -> Head {
+    Head {
+        source: HEAD.source,
+        payload_type,
+        marker: HEAD.marker as u8,
+        number: HEAD.number,
+        timestamp: HEAD.timestamp,
+        f: HEAD.f,
+    }
+}
+
+fn packet() -> Vec<u8> {
+    let mut out = vec![0; 32];
+    assert_eq!(reference::packet::write(&HEAD, &A, &mut out), Ok(32));
+    out
+}
+
+fn file() -> Vec<u8> {
+    let mut out = vec![0; 23];
+    reference::file::begin(&mut out).unwrap();
+    reference::file::write(9, 2, &A, &mut out[5..]).unwrap();
+    out
+}
+
+/// For each function with a row a call that is accepted and one that is
+/// refused, where the rows are long enough.
+fn calls() -> Vec<(Call, u8)> {
+    let a = packet();
+    [
+        both(
+            |octets| Call::Read { octets },
+            [a.clone(), a[..11].to_vec()],
+            2,
+        ),
+        both(write, [112, 128], 24),
+        both(opened, [112, 128], 24),
+        both(
+            |octets| Call::Arrive { octets },
+            [a.clone(), a[..11].to_vec()],
+            2,
+        ),
+        both(text, ["DID_SDID={0x41,0x05};VPID_Code=7", ";"], 41),
+        both(pairs, [2, 3], 41),
+        both(field, [2, 1], 53),
+        both(|at| Call::FileRead { file: file(), at }, [5, 4], 55),
+        vec![(Call::FileBegin, 0)],
+    ]
+    .concat()
+}
+
+fn both<T>(call: impl Fn(T) -> Call, [good, bad]: [T; 2], number: u8) -> Vec<(Call, u8)> {
+    vec![(call(good), 0), (call(bad), number)]
+}
+
+fn write(payload_type: u8) -> Call {
+    let cells = A.to_vec();
+    let head = head(payload_type);
+    Call::Write { head, cells }
+}
+
+fn opened(payload_type: u8) -> Call {
+    let source = 1;
+    Call::Open {
+        source,
+        payload_type,
+    }
+}
+
+fn text(text: &str) -> Call {
+    let text = text.as_bytes().to_vec();
+    Call::SdpRead { text }
+}
+
+fn pairs(octets: usize) -> Call {
+    let (pairs, vpid) = (vec![0x41; octets], NO_VPID);
+    Call::SdpWrite { pairs, vpid }
+}
+
+fn field(f: u8) -> Call {
+    let (timestamp, cells) = (9, A.to_vec());
+    Call::FileWrite {
+        timestamp,
+        f,
+        cells,
+    }
+}
+
+fn lent(answer: usize, state: usize, r: &mut Random) -> Memory {
+    let lengths = Lengths {
+        answer,
+        state,
+        cells: 40,
+        octets: 100,
+    };
+    let mut memory = Memory::new(lengths, r);
+    let row = row_of(&open(1, 112).unwrap());
+    for (into, number) in memory.state.get_mut().iter_mut().zip(row) {
+        *into = number;
+    }
+    memory
+}
+
+#[test]
+fn short_answer_rows() {
+    let mut r = Random::new(301);
+    for (call, _) in calls() {
+        for length in 0..ANSWER {
+            let memory = lent(length, STATE, &mut r);
+            assert_eq!(compare(&call, &memory), (ROW, memory), "{call:?} {length}");
+        }
+    }
+}
+
+#[test]
+fn short_state_rows() {
+    let mut r = Random::new(302);
+    for (call, number) in calls() {
+        let takes_state = matches!(call, Call::Open { .. } | Call::Arrive { .. });
+        for length in 0..STATE {
+            let memory = lent(ANSWER, length, &mut r);
+            let (given, after) = compare(&call, &memory);
+            assert_eq!(given, if takes_state { ROW } else { number });
+            assert!(!takes_state || after == memory, "{call:?} {length}");
+        }
+    }
+}
+
+/// The rows just long enough, and longer: what is past the answer or the
+/// state stays.
+#[test]
+fn rows_long_enough() {
+    let mut r = Random::new(303);
+    for (call, number) in calls() {
+        for more in 0..4 {
+            let memory = lent(ANSWER + more, STATE + more, &mut r);
+            let (given, after) = compare(&call, &memory);
+            assert_eq!(given, number, "{call:?}");
+            let kept = if number == 0 { ANSWER } else { 1 };
+            assert_eq!(after.answer.get()[kept..], memory.answer.get()[kept..]);
+            assert_eq!(after.state.get()[STATE..], memory.state.get()[STATE..]);
+        }
+    }
+}
+
+/// 35 and nothing changed but the index. Each number is the state's own, so
+/// that a cut to its width would be accepted.
+#[test]
+fn numbers_that_are_no_state() {
+    let mut r = Random::new(304);
+    let octets = packet();
+    let mut refused = |at: usize, number: u64| {
+        for octets in [octets.clone(), Vec::new()] {
+            let mut memory = lent(ANSWER, STATE, &mut r);
+            memory.state.get_mut()[at] = number;
+            let (given, after) = compare(&Call::Arrive { octets }, &memory);
+            memory.answer.get_mut()[0] = 0;
+            assert_eq!((given, after), (35, memory), "{at} {number}");
+        }
+    };
+    let row = row_of(&open(1, 112).unwrap());
+    for (at, width) in BOUNDED {
+        for bit in width..64 {
+            refused(at, row[at] | 1 << bit);
+        }
+        refused(at, u64::MAX);
+    }
+    for phase in [3, 4, 255] {
+        refused(2, phase);
+    }
+    refused(3, 2);
+}
+
+/// The largest numbers that a state can have are taken: 30 and 31 say so.
+#[test]
+fn largest_numbers_of_a_state() {
+    let mut r = Random::new(305);
+    let octets = packet();
+    for (at, number, given) in [
+        (0, u32::MAX as u64, 30),
+        (1, 255, 31),
+        (4, u32::MAX as u64, 0),
+        (5, u32::MAX as u64, 0),
+        (6, 255, 0),
+    ] {
+        let mut memory = lent(ANSWER, STATE, &mut r);
+        memory.state.get_mut()[at] = number;
+        let octets = octets.clone();
+        assert_eq!(compare(&Call::Arrive { octets }, &memory).0, given);
+    }
+}

@@ -1,0 +1,85 @@
+/*
+ * Jibhotran: RTP packets with ANC payload (RFC 8331), fields, SDP format parameters and field files.
+ *
+ * Written by hand; `differential/` tests it against the archive. Nothing here allocates, and nothing is kept between calls.
+ *
+ * Each function but `jibhotran_wanted` returns 0 where the call is accepted and a refusal's number otherwise (README, "Refusals").
+ * `answer` takes what a call returns beside that: on acceptance the numbers that are named at the function, on a refusal the refusal's
+ * index in answer[0]; the rest of the row stays. A row of fewer than JIBHOTRAN_ANSWER numbers is refused by JIBHOTRAN_ROW, and nothing is
+ * written at all. On a refusal the other lent memory is unchanged, but for the late count (refusal 32).
+ *
+ * A pointer and its length must name memory that may be read, or written where it is not const; memory that is written must not overlap
+ * any other that is lent to the same call. Where the length is 0, the pointer is not followed, but it must not be null.
+ */
+#ifndef JIBHOTRAN_H
+#define JIBHOTRAN_H
+
+#include <stddef.h>
+#include <stdint.h>
+
+#ifdef __cplusplus
+extern "C" {
+#endif
+
+/* Numbers that an answer needs, and a state. */
+#define JIBHOTRAN_ANSWER 8
+#define JIBHOTRAN_STATE 12
+
+/* A row for the answer or the state is too short. */
+#define JIBHOTRAN_ROW 255
+
+/* Answers of `jibhotran_arrive`. */
+#define JIBHOTRAN_SKIPPED 0
+#define JIBHOTRAN_HELD 1
+#define JIBHOTRAN_MIXED 2
+#define JIBHOTRAN_OVERFULL 3
+#define JIBHOTRAN_WHOLE 4
+
+/* Not a VPID code. */
+#define JIBHOTRAN_NO_VPID 256
+
+/* Reads a packet, its records into cells. answer: source, payload type, marker, packet number, timestamp, F, records, cells. */
+uint8_t jibhotran_read(const uint8_t *octets, size_t octets_len, uint16_t *cells, size_t cells_len, uint64_t *answer, size_t answer_len);
+
+/* Writes a packet with the records of the cells; a marker other than 0 marks it. answer: octets. */
+uint8_t jibhotran_write(uint32_t source, uint8_t payload_type, uint8_t marker, uint32_t number, uint32_t timestamp, uint8_t f,
+                        const uint16_t *cells, size_t cells_len, uint8_t *out, size_t out_len, uint64_t *answer, size_t answer_len);
+
+/* The state of a depacketizer just opened. answer: nothing. */
+uint8_t jibhotran_open(uint32_t source, uint8_t payload_type, uint64_t *state, size_t state_len, uint64_t *answer, size_t answer_len);
+
+/*
+ * One arrival. answer: one of JIBHOTRAN_SKIPPED to JIBHOTRAN_WHOLE, timestamp, F, records, cells; the last four are 0 unless the field is whole.
+ * While a field is gathered, each call is lent the same store, untouched.
+ * state: source, payload type, phase (0 lost, 1 ready, 2 filling), heard (0 or 1), last, timestamp, F, records, cells, fresh, late, missing.
+ * Numbers that no state has are refused by 35.
+ */
+uint8_t jibhotran_arrive(uint64_t *state, size_t state_len, const uint8_t *octets, size_t octets_len, uint16_t *store, size_t store_len,
+                         uint64_t *answer, size_t answer_len);
+
+/* Reads SDP format parameters, the pairs into octets, DID then SDID. answer: pairs, whether there is a VPID code, the code. */
+uint8_t jibhotran_sdp_read(const uint8_t *text, size_t text_len, uint8_t *pairs, size_t pairs_len, uint64_t *answer, size_t answer_len);
+
+/* Writes SDP format parameters; JIBHOTRAN_NO_VPID or more is no code. answer: octets. */
+uint8_t jibhotran_sdp_write(const uint8_t *pairs, size_t pairs_len, uint16_t vpid, uint8_t *out, size_t out_len, uint64_t *answer,
+                            size_t answer_len);
+
+/* Writes the first octets of a field file. answer: octets, which is the offset of its first field. */
+uint8_t jibhotran_file_begin(uint8_t *out, size_t out_len, uint64_t *answer, size_t answer_len);
+
+/* Writes one field with the records of the cells. answer: octets. */
+uint8_t jibhotran_file_write(uint32_t timestamp, uint8_t f, const uint16_t *cells, size_t cells_len, uint8_t *out, size_t out_len,
+                             uint64_t *answer, size_t answer_len);
+
+/* Reads the field at an offset, its records into cells. answer: timestamp, F, records, cells, the offset after the field. */
+uint8_t jibhotran_file_read(const uint8_t *file, size_t file_len, size_t at, uint16_t *cells, size_t cells_len, uint64_t *answer,
+                            size_t answer_len);
+
+/* 1 where a record of these numbers is wanted, and 0 where not. pairs: DID then SDID; a last octet without an SDID is no entry. */
+uint8_t jibhotran_wanted(uint8_t did, uint8_t sdid, const uint8_t *pairs, size_t pairs_len);
+
+#ifdef __cplusplus
+}
+#endif
+
+#endif

@@ -1,0 +1,36 @@
+//! Prints the cases that 01 says are run only, a line each.
+//!
+//! A line is a name, `: ` and one of
+//!
+//!     written OCTETS read RECORDS CELLS SUM
+//!     read RECORDS CELLS SUM
+//!     refused NUMBER INDEX
+//!
+//! and a line feed; all numbers are decimal without leading zeros. SUM is
+//! the sum of the cells read, modulo 65,536.
+//!
+//! Every packet has source 1, payload type 112, M set, number 7, timestamp
+//! 1000 and F 2. The writer is lent 65,535 octets, the reader 16,384 cells.
+//! The lines, in order:
+//!
+//! - `records 255`, `records 256`: a list of that many records A (cells
+//!   0 9 0 0 0 0x41 0x05 0) is written and, if it was, the packet is read.
+//! - `cells 16384`, `cells 16385`: the same for a list of 62 records of 255
+//!   words and one of 70 words, or of 71. Their first seven cells are those
+//!   of record A. The words count on through the whole list from 0, modulo
+//!   1,024: the first record's are 0 to 254, the second's begin with 255.
+//! - `padding 0`: the packet of one record A, with 0x20 added to its first
+//!   octet (P), is read. Its last octet is 0.
+//! - `bit 0` to `bit 95`: the packet of one record A, with that bit of the
+//!   record's 12 octets changed, is read. The record begins at octet 20;
+//!   bit 0 is the most significant bit of that octet.
+
+use std::io::{stdout, Write};
+
+use reference::packet::{read, write};
+use reference::runs::Sides;
+
+fn main() -> std::io::Result<()> {
+    let text = Sides { read, write }.text();
+    stdout().lock().write_all(text.as_bytes())
+}

@@ -1,0 +1,38 @@
+//! The text of the run-only cases, worked out by hand.
+
+use reference::packet::{read, write};
+use reference::runs::Sides;
+
+/// The cells of record A sum to 79. Its bits are C 1, line 11 (9), offset
+/// 12, S 1, StreamNum 7, three header words, the checksum, the alignment.
+fn bit_line(bit: u32) -> String {
+    let read = |sum: u32| format!("bit {bit}: read 1 8 {sum}");
+    match bit {
+        0 | 24 => read(80),
+        1..12 => read(70 + (9 ^ 1 << (11 - bit))),
+        12..24 => read(79 + (1 << (23 - bit))),
+        25..32 => read(79 + (1 << (31 - bit))),
+        32..62 => format!("bit {bit}: refused 10 0"),
+        62..72 => format!("bit {bit}: refused 11 0"),
+        _ => format!("bit {bit}: refused 12 0"),
+    }
+}
+
+/// 255 records take 20 + 255 x 12 octets and sum to 255 x 79. The 16,384
+/// cells are 62 records of 255 words and one of 70: 20 + 62 x 328 + 100
+/// octets. Their heads sum to 63 x 79 + 62 x 255 + 70 = 20,857 and their
+/// 15,880 words to 15 x 523,776 + 134,940 = 7,991,580: 17,045 modulo 65,536.
+#[test]
+fn the_text() {
+    let mut lines = vec![
+        "records 255: written 3080 read 255 2040 20145".to_string(),
+        "records 256: refused 21 0".to_string(),
+        "cells 16384: written 20456 read 63 16384 17045".to_string(),
+        "cells 16385: refused 21 0".to_string(),
+        "padding 0: refused 4 0".to_string(),
+    ];
+    lines.extend((0..96).map(bit_line));
+    let text = Sides { read, write }.text();
+    assert_eq!(text.lines().collect::<Vec<_>>(), lines);
+    assert!(text.ends_with('\n'));
+}
