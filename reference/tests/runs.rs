@@ -36,3 +36,10 @@ fn the_text() {
     assert_eq!(text.lines().collect::<Vec<_>>(), lines);
     assert!(text.ends_with('\n'));
 }
+
+/// The proved program prints the same: its check compares it with this file.
+#[test]
+fn the_proved_program() {
+    let proved = include_str!("../../crates/runs_example/stdout");
+    assert_eq!(Sides { read, write }.text(), proved);
+}

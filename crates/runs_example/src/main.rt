@@ -1,0 +1,221 @@
+// Runs the cases of 01, "Marked examples", that are run only, through the entry points of `rtp`. A line each, as the second
+// program prints them (reference/src/bin/runs.rs): a name, and `written OCTETS read RECORDS CELLS SUM`, `read RECORDS CELLS SUM`
+// or `refused NUMBER INDEX`.
+ghost use Prim.Native.Nat.{_<_};
+use libc::STDOUT_FILENO;
+use rtp::packet::Head;
+use rtp::packet::Read;
+use rtp::packet::Written;
+use std::num::wrapping_add_u16;
+use wire::header::Header;
+use wire::number::PacketNumber;
+use wire::number::Timestamp;
+use wire::refusal::Refusal;
+
+// Record A of 01.
+const A: [u16; 8] = [0, 9, 0, 0, 0, 0x41, 5, 0];
+
+// Where it stands in a packet that has no other record.
+const A_AT: usize = 20;
+
+const A_BITS: usize = 96;
+
+// The cell of a record that has the number of its words.
+const COUNT_AT: usize = 7;
+
+// The most words that a record has, and the cells that it then takes.
+const MAX_WORDS: usize = 255;
+
+const LONG_CELLS: usize = Header::CELLS + MAX_WORDS;
+
+fn print(text: &[u8]) {
+    io::write_all(STDOUT_FILENO, text);
+}
+
+fn number(label: &[u8], n: u64) {
+    print(label);
+    io::print_decimal(STDOUT_FILENO, n);
+}
+
+fn name(label: &[u8], n: u64) {
+    number(label, n);
+    print(b": ");
+}
+
+fn print_refusal(refusal: Refusal) {
+    number(b"refused ", refusal.number as u64);
+    number(b" ", refusal.index as u64);
+    print(b"\n");
+}
+
+// The head of every packet.
+fn head() -> Head {
+    Head {
+        source: 1,
+        payload_type: 112,
+        marker: true,
+        number: PacketNumber(7),
+        timestamp: Timestamp(1000),
+        f: 2,
+    }
+}
+
+// The sum of the cells modulo 65,536.
+fn sum(cells: &[u16]) -> u16 {
+    let mut total: u16 = 0;
+    let mut k: usize = 0;
+    while k < cells.len() {
+        total = wrapping_add_u16(total, cells[k]);
+        k += 1;
+    }
+    total
+}
+
+// Reads a packet and prints what was read.
+fn read_back(octets: &[u8], cells: &mut [u16]) {
+    let read = rtp::read(octets, cells);
+    match read {
+        Read::Refused(refusal) => print_refusal(refusal),
+        Read::Packet(summary) => {
+            let n = summary.cells;
+            number(b"read ", summary.records as u64);
+            number(b" ", n as u64);
+            if n <= cells.len() {
+                number(b" ", sum(&cells[..n]) as u64);
+            }
+            print(b"\n");
+        }
+    }
+}
+
+// Writes a list as a packet and reads that back.
+fn there_and_back(list: &[u16], out: &mut [u8], cells: &mut [u16]) {
+    let written = rtp::write(head(), list, out);
+    match written {
+        Written::Refused(refusal) => print_refusal(refusal),
+        Written::Octets(size) => {
+            let n = size.0;
+            number(b"written ", n as u64);
+            print(b" ");
+            if n <= out.len() {
+                read_back(&out[..n], cells);
+            }
+        }
+    }
+}
+
+// Records A, one after the other.
+fn fill_with_a(list: &mut [u16]) {
+    let a = A;
+    let mut k: usize = 0;
+    while k < list.len() {
+        list[k] = a[k % Header::CELLS];
+        k += 1;
+    }
+}
+
+// The words of a record where the list has room for so many.
+fn words_within(room: usize) -> u16 {
+    if room < MAX_WORDS {
+        return room as u16;
+    }
+    MAX_WORDS as u16
+}
+
+// The cell at an index of a list of `count` cells: records of 255 words and a shorter last one, all else as in record A. The
+// words count on through the list, modulo 1,024.
+fn long_cell(k: usize, count: usize) -> u16
+    requires { ⌜ k < count ⌝ }
+{
+    let a = A;
+    let place = k % LONG_CELLS;
+    if place < COUNT_AT {
+        return a[place];
+    }
+    if place == COUNT_AT {
+        return words_within(count - k - 1);
+    }
+    let before = k / LONG_CELLS * MAX_WORDS;
+    ((before + place - Header::CELLS) % 1024) as u16
+}
+
+// Records of 255 words, and a last one that fills the list.
+fn fill_with_long(list: &mut [u16]) {
+    let mut k: usize = 0;
+    while k < list.len() {
+        list[k] = long_cell(k, list.len());
+        k += 1;
+    }
+}
+
+// So many records A, there and back.
+fn run_records(count: usize, list: &mut [u16], out: &mut [u8], cells: &mut [u16]) {
+    if count <= list.len() / Header::CELLS {
+        let n = count * Header::CELLS;
+        fill_with_a(&mut list[..n]);
+        name(b"records ", count as u64);
+        there_and_back(&list[..n], out, cells);
+    }
+}
+
+// So many cells of long records, there and back.
+fn run_cells(count: usize, list: &mut [u16], out: &mut [u8], cells: &mut [u16]) {
+    if count <= list.len() {
+        fill_with_long(&mut list[..count]);
+        name(b"cells ", count as u64);
+        there_and_back(&list[..count], out, cells);
+    }
+}
+
+// Changes the bits of the mask in an octet; twice, and they are as before.
+fn change(packet: &mut [u8], at: usize, mask: u8) {
+    if at < packet.len() {
+        packet[at] = packet[at] ^ mask;
+    }
+}
+
+// Reads the packet with P set. Its last octet is 0, and so is then the padding.
+fn run_padding(packet: &mut [u8], cells: &mut [u16]) {
+    change(packet, 0, 0x20);
+    name(b"padding ", 0);
+    read_back(packet, cells);
+    change(packet, 0, 0x20);
+}
+
+// Reads the packet with each bit of record A changed, one at a time. Bit 0 is the most significant of its first octet.
+fn run_bits(packet: &mut [u8], cells: &mut [u16]) {
+    let mut bit: usize = 0;
+    while bit < A_BITS {
+        let mask = 0x80u8 >> (bit % 8);
+        change(packet, A_AT + bit / 8, mask);
+        name(b"bit ", bit as u64);
+        read_back(packet, cells);
+        change(packet, A_AT + bit / 8, mask);
+        bit += 1;
+    }
+}
+
+// The packet of one record A, written once, and read with changes.
+fn run_changes(out: &mut [u8], cells: &mut [u16]) {
+    let a = A;
+    let written = rtp::write(head(), &a, out);
+    let Written::Octets(size) = written else {
+        return;
+    };
+    let n = size.0;
+    if n <= out.len() {
+        run_padding(&mut out[..n], cells);
+        run_bits(&mut out[..n], cells);
+    }
+}
+
+fn main() {
+    let mut list = [0u16; 16385];
+    let mut out = [0u8; 65535];
+    let mut cells = [0u16; 16384];
+    run_records(255, &mut list, &mut out, &mut cells);
+    run_records(256, &mut list, &mut out, &mut cells);
+    run_cells(16384, &mut list, &mut out, &mut cells);
+    run_cells(16385, &mut list, &mut out, &mut cells);
+    run_changes(&mut out, &mut cells);
+}
