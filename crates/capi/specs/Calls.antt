@@ -8,6 +8,7 @@ use Rattle.wire.specs.Bits.{overwrite}
 use Rattle.wire.specs.Layout.{rfc8331}
 use Rattle.wire.specs.Packet.{readInto}
 use Rattle.wire.specs.Writing.{writeContent}
+use Rattle.wire.specs.Written.{octetsAfter, writtenOf}
 use Rattle.rtp.specs.declared.packet.Head.{Head}
 use Rattle.rtp.specs.Answers as rtp
 use Rattle.depacketizer.specs.declared.state.Opened.{Opened}
@@ -23,7 +24,7 @@ use Rattle.fieldfile.specs.File as file
 use Rattle.fieldfile.specs.Answers as field
 use Rattle.capi.specs.declared.state.Restored.{Restored}
 use Rattle.capi.specs.declared.state.Restored.the-variants as restored
-use Rattle.capi.specs.Rows.{Reply, refusedReply, acceptedReply, rowReply, packetReply, writtenReply, arrivalReply, parametersReply, textReply, begunReply, fieldWrittenReply, fieldReply, given, answerSize, stateSize}
+use Rattle.capi.specs.Rows.{Reply, refusedReply, acceptedReply, rowReply, packetReply, writtenReply, arrivalReply, parametersReply, fieldReply, given, answerSize, stateSize}
 use Rattle.capi.specs.State.{numbersOf, stateIn}
 
 -- `jibhotran_read`: its reply
@@ -48,11 +49,11 @@ headOf source type marker number timestamp f =
 
 -- `jibhotran_write`: its reply
 abbrev pub writeReply : Head → (cells out answer : List ℕ) → Reply
-writeReply head cells out answer = given answer (writtenReply (rtp.writtenOf (writeContent rfc8331 (rtp.contentOf head) cells (length out)))) rowReply
+writeReply head cells out answer = given answer (writtenReply (writtenOf (writeContent rfc8331 (rtp.contentOf head) cells (length out)))) rowReply
 
 -- the octets then
 abbrev pub writeOctets : Head → (cells out answer : List ℕ) → List ℕ
-writeOctets head cells out answer = given answer (rtp.octetsAfter (writeContent rfc8331 (rtp.contentOf head) cells (length out)) out) out
+writeOctets head cells out answer = given answer (octetsAfter (writeContent rfc8331 (rtp.contentOf head) cells (length out)) out) out
 
 -- are both rows long enough
 abbrev pub rowsFit : (state answer : ℕ) → Bool
@@ -132,27 +133,27 @@ vpidOf n = cond (leb n maxCode) (vpid.Code n) vpid.Absent
 
 -- `jibhotran_sdp_write`: its reply
 abbrev pub sdpWriteReply : (pairs : List ℕ) → (vpid : ℕ) → (out answer : List ℕ) → Reply
-sdpWriteReply pairs vpid out answer = given answer (textReply (fmtp.writtenOf (writeText (record { pairs = pairs; vpid = vpidOf vpid }) (length out)))) rowReply
+sdpWriteReply pairs vpid out answer = given answer (writtenReply (writtenOf (writeText (record { pairs = pairs; vpid = vpidOf vpid }) (length out)))) rowReply
 
 -- the octets then
 abbrev pub sdpText : (pairs : List ℕ) → (vpid : ℕ) → (out answer : List ℕ) → List ℕ
-sdpText pairs vpid out answer = given answer (overwrite (fmtp.writtenText (writeText (record { pairs = pairs; vpid = vpidOf vpid }) (length out))) out) out
+sdpText pairs vpid out answer = given answer (octetsAfter (writeText (record { pairs = pairs; vpid = vpidOf vpid }) (length out)) out) out
 
 -- `jibhotran_file_begin`: its reply
 abbrev pub beginReply : (out answer : List ℕ) → Reply
-beginReply out answer = given answer (begunReply (field.begunOf (file.writeHead (length out)))) rowReply
+beginReply out answer = given answer (writtenReply (writtenOf (file.writeHead (length out)))) rowReply
 
 -- the octets then
 abbrev pub beginOctets : (out answer : List ℕ) → List ℕ
-beginOctets out answer = given answer (field.octetsAfter (file.writeHead (length out)) out) out
+beginOctets out answer = given answer (octetsAfter (file.writeHead (length out)) out) out
 
 -- `jibhotran_file_write`: its reply
 abbrev pub fileWriteReply : (timestamp f : ℕ) → (cells out answer : List ℕ) → Reply
-fileWriteReply timestamp f cells out answer = given answer (fieldWrittenReply (field.writtenOf (file.writeField timestamp f cells (length out)))) rowReply
+fileWriteReply timestamp f cells out answer = given answer (writtenReply (writtenOf (file.writeField timestamp f cells (length out)))) rowReply
 
 -- the octets then
 abbrev pub fileOctets : (timestamp f : ℕ) → (cells out answer : List ℕ) → List ℕ
-fileOctets timestamp f cells out answer = given answer (field.octetsAfter (file.writeField timestamp f cells (length out)) out) out
+fileOctets timestamp f cells out answer = given answer (octetsAfter (file.writeField timestamp f cells (length out)) out) out
 
 -- `jibhotran_file_read`: its reply
 abbrev pub fileReadReply : (octets : List ℕ) → (at : ℕ) → (cells answer : List ℕ) → Reply

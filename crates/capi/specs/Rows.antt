@@ -12,22 +12,16 @@ use Rattle.sdp.specs.declared.parameters.Vpid.the-variants as vpid
 use Rattle.rtp.specs.declared.packet.Summary.{Summary}
 use Rattle.rtp.specs.declared.packet.Read.{Read}
 use Rattle.rtp.specs.declared.packet.Read.the-variants as read
-use Rattle.rtp.specs.declared.packet.Written.{Written}
-use Rattle.rtp.specs.declared.packet.Written.the-variants as written
+use Rattle.wire.specs.declared.written.Written.{Written}
+use Rattle.wire.specs.declared.written.Written.the-variants as written
 use Rattle.depacketizer.specs.declared.state.Answer.{Answer}
 use Rattle.depacketizer.specs.declared.state.Answer.the-variants as answer
 use Rattle.depacketizer.specs.declared.state.Field.{Field}
 use Rattle.fmtp.specs.declared.read.Reading.{Reading}
 use Rattle.fmtp.specs.declared.read.Reading.the-variants as reading
-use Rattle.fmtp.specs.declared.write.Written.{Written as TextWritten}
-use Rattle.fmtp.specs.declared.write.Written.the-variants as textWritten
 use Rattle.fieldfile.specs.declared.field.Summary.{Summary as FieldSummary}
 use Rattle.fieldfile.specs.declared.field.FieldRead.{FieldRead}
 use Rattle.fieldfile.specs.declared.field.FieldRead.the-variants as fieldRead
-use Rattle.fieldfile.specs.declared.field.Written.{Written as FieldWritten}
-use Rattle.fieldfile.specs.declared.field.Written.the-variants as fieldWritten
-use Rattle.fieldfile.specs.declared.field.Begun.{Begun}
-use Rattle.fieldfile.specs.declared.field.Begun.the-variants as begun
 
 -- numbers that an answer needs
 abbrev pub answerSize : ℕ
@@ -80,7 +74,7 @@ abbrev pub packetReply : Read → Reply
 packetReply (read.Refused x) = refusedReply x
 packetReply (read.Packet s) = acceptedReply (summaryRow s)
 
--- a packet written: its octets
+-- octets written: how many
 abbrev pub writtenReply : Written → Reply
 writtenReply (written.Refused x) = refusedReply x
 writtenReply (written.Octets n) = sizeReply (n .0)
@@ -120,21 +114,6 @@ parametersRow p = p .pairs ∷ hasCode (p .vpid) ∷ codeOr0 (p .vpid) ∷ []
 abbrev pub parametersReply : Reading → Reply
 parametersReply (reading.Refused x) = refusedReply x
 parametersReply (reading.Accepted p) = acceptedReply (parametersRow p)
-
--- a text written: its octets
-abbrev pub textReply : TextWritten → Reply
-textReply (textWritten.Refused x) = refusedReply x
-textReply (textWritten.Octets n) = sizeReply n
-
--- a file begun: the offset of its first field
-abbrev pub begunReply : Begun → Reply
-begunReply (begun.Refused x) = refusedReply x
-begunReply (begun.First n) = sizeReply (n .0)
-
--- a field written: its octets
-abbrev pub fieldWrittenReply : FieldWritten → Reply
-fieldWrittenReply (fieldWritten.Refused x) = refusedReply x
-fieldWrittenReply (fieldWritten.Octets n) = sizeReply (n .0)
 
 -- what a field of a file says: timestamp, F, records, cells, the offset after it
 abbrev pub fieldRow : FieldSummary → List ℕ

@@ -8,13 +8,11 @@ ghost use Rattle.capi.specs.Rows.{answerSize, fieldRow};
 use crate::row::ACCEPTED;
 use crate::row::ANSWER_SIZE;
 use crate::row::ROW_TOO_SHORT;
-use crate::row::accept_size;
 use crate::row::put;
 use crate::row::refuse;
-use fieldfile::field::Begun;
+use crate::row::reply;
 use fieldfile::field::FieldRead;
 use fieldfile::field::Summary;
-use fieldfile::field::Written;
 use wire::count::OctetCount;
 use wire::number::Timestamp;
 
@@ -28,11 +26,8 @@ pub extern "C" fn jibhotran_file_begin(out: &mut [u8], answer: &mut [u64]) -> u8
     if answer.len() < ANSWER_SIZE {
         return ROW_TOO_SHORT;
     }
-    let begun = fieldfile::begin(out);
-    match begun {
-        Begun::Refused(refusal) => refuse(refusal, answer),
-        Begun::First(offset) => accept_size(offset.0, answer),
-    }
+    let written = fieldfile::begin(out);
+    reply(written, answer)
 }
 
 // Writes one field with the records of the cells.
@@ -52,10 +47,7 @@ pub extern "C" fn jibhotran_file_write(
         return ROW_TOO_SHORT;
     }
     let written = fieldfile::write_field(Timestamp(timestamp), f, cells, out);
-    match written {
-        Written::Refused(refusal) => refuse(refusal, answer),
-        Written::Octets(octets) => accept_size(octets.0, answer),
-    }
+    reply(written, answer)
 }
 
 // Timestamp, F, records, cells, the offset after the field.

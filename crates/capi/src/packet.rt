@@ -8,14 +8,13 @@ ghost use Rattle.capi.specs.Rows.{answerSize, summaryRow};
 use crate::row::ACCEPTED;
 use crate::row::ANSWER_SIZE;
 use crate::row::ROW_TOO_SHORT;
-use crate::row::accept_size;
 use crate::row::flag;
 use crate::row::put;
 use crate::row::refuse;
+use crate::row::reply;
 use rtp::packet::Head;
 use rtp::packet::Read;
 use rtp::packet::Summary;
-use rtp::packet::Written;
 use wire::number::PacketNumber;
 use wire::number::Timestamp;
 
@@ -89,8 +88,5 @@ pub extern "C" fn jibhotran_write(
         f,
     };
     let written = rtp::write(head, cells, out);
-    match written {
-        Written::Refused(refusal) => refuse(refusal, answer),
-        Written::Octets(octets) => accept_size(octets.0, answer),
-    }
+    reply(written, answer)
 }

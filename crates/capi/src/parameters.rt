@@ -9,11 +9,10 @@ ghost use Rattle.capi.specs.Rows.{answerSize, codeOr0, hasCode, paramete
 use crate::row::ACCEPTED;
 use crate::row::ANSWER_SIZE;
 use crate::row::ROW_TOO_SHORT;
-use crate::row::accept_size;
 use crate::row::put;
 use crate::row::refuse;
+use crate::row::reply;
 use fmtp::read::Reading;
-use fmtp::write::Written;
 use sdp::parameters::Parameters;
 use sdp::parameters::Vpid;
 
@@ -94,10 +93,7 @@ pub extern "C" fn jibhotran_sdp_write(
         return ROW_TOO_SHORT;
     }
     let written = fmtp::write::write(pairs, vpid_of(vpid), out);
-    match written {
-        Written::Refused(refusal) => refuse(refusal, answer),
-        Written::Octets(octets) => accept_size(octets, answer),
-    }
+    reply(written, answer)
 }
 
 // 1 where a record of these numbers is wanted, and 0 where not.

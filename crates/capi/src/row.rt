@@ -3,8 +3,9 @@ ghost use mathlib.Core.Path.{_≡_};
 ghost use Prim.Native.Nat.{_≤_};
 ghost use lib.ListN.{length};
 ghost use Rattle.wire.specs.Bits.{bit, overwrite};
-ghost use Rattle.capi.specs.Rows.{answerSize, refusedReply, sizeReply};
+ghost use Rattle.capi.specs.Rows.{answerSize, refusedReply, sizeReply, writtenReply};
 use wire::refusal::Refusal;
+use wire::written::Written;
 
 // Numbers that an answer needs.
 pub const ANSWER_SIZE: usize = 8;
@@ -42,7 +43,7 @@ pub fn refuse(refusal: Refusal, answer: &mut [u64]) -> u8
 }
 
 // Accepts a call that returns one size.
-pub fn accept_size(size: usize, answer: &mut [u64]) -> u8
+fn accept_size(size: usize, answer: &mut [u64]) -> u8
     requires { ⌜ answerSize ≤ length (now answer) ⌝ }
     ensures { λ r. ⌜ r ≡ sizeReply size .number ⌝ }
     ensures { λ r. ⌜ now (answer .exit) ≡ overwrite (sizeReply size .row) (now (answer .entry)) ⌝ }
@@ -50,6 +51,18 @@ pub fn accept_size(size: usize, answer: &mut [u64]) -> u8
     let values = [size as u64];
     put(&values, answer);
     ACCEPTED
+}
+
+// What a writer answers: how many octets, or the refusal.
+pub fn reply(written: Written, answer: &mut [u64]) -> u8
+    requires { ⌜ answerSize ≤ length (now answer) ⌝ }
+    ensures { λ r. ⌜ r ≡ writtenReply written .number ⌝ }
+    ensures { λ r. ⌜ now (answer .exit) ≡ overwrite (writtenReply written .row) (now (answer .entry)) ⌝ }
+{
+    match written {
+        Written::Refused(refusal) => refuse(refusal, answer),
+        Written::Octets(octets) => accept_size(octets.0, answer),
+    }
 }
 
 // 1 for true and 0 for false.

@@ -21,11 +21,11 @@ use Rattle.wire.proofs.ResultLaws.{judge-accepts, then-accepts, accepted-inj, a
 use Rattle.wire.proofs.AncLaws.{length-run}
 use Rattle.wire.proofs.CellLaws.{list-iff}
 use Rattle.wire.proofs.Demand2.{run-cells}
+use Rattle.wire.specs.Written.{octetsAfter, writtenOf}
 use Rattle.cells.specs.Answers.{listedOf, listOctets}
 use Rattle.cells.specs.declared.check.Listed.the-variants as listed
 use Rattle.fieldfile.specs.File.{fieldHeaderSize, maxFieldRecords, maxFieldCells, headerFields, fieldOctets, fieldSize, fileFOk, roomChecks, recordsToWrite, writeField}
-use Rattle.fieldfile.specs.Answers.{octetsAfter, writtenOf}
-use Rattle.fieldfile.specs.declared.field.Written.the-variants as written
+use Rattle.wire.specs.declared.written.Written.the-variants as written
 use Rattle.fieldfile.proofs.FrontLaws.{length-field}
 
 -- what an answer about a list says of it

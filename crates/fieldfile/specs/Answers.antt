@@ -11,10 +11,6 @@ use Rattle.fieldfile.specs.File.{FieldContent}
 use Rattle.fieldfile.specs.declared.field.Summary.{Summary}
 use Rattle.fieldfile.specs.declared.field.FieldRead.{FieldRead}
 use Rattle.fieldfile.specs.declared.field.FieldRead.the-variants as read
-use Rattle.fieldfile.specs.declared.field.Written.{Written}
-use Rattle.fieldfile.specs.declared.field.Written.the-variants as written
-use Rattle.fieldfile.specs.declared.field.Begun.{Begun}
-use Rattle.fieldfile.specs.declared.field.Begun.the-variants as begun
 use Rattle.fieldfile.specs.declared.stage.Stage.{Stage}
 use Rattle.fieldfile.specs.declared.stage.Stage.the-variants as stage
 
@@ -45,16 +41,3 @@ readOf (accepted q) = read.Field (summaryOf q)
 abbrev pub cellsAfter : Result (FieldContent × ℕ) → List ℕ → List ℕ
 cellsAfter (refused x) cells = cells
 cellsAfter (accepted q) cells = overwrite (listOf (q .0 .records)) cells
-
--- a file begun: the offset of its first field; a field written: its octets; and what the lent octets then hold
-abbrev pub begunOf : Result (List ℕ) → Begun
-begunOf (refused x) = begun.Refused x
-begunOf (accepted o) = begun.First (record { 0 = length o })
-
-abbrev pub writtenOf : Result (List ℕ) → Written
-writtenOf (refused x) = written.Refused x
-writtenOf (accepted o) = written.Octets (record { 0 = length o })
-
-abbrev pub octetsAfter : Result (List ℕ) → List ℕ → List ℕ
-octetsAfter (refused x) octets = octets
-octetsAfter (accepted o) octets = overwrite o octets

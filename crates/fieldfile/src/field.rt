@@ -16,14 +16,3 @@ pub enum FieldRead {
     Field(Summary),
     Refused(Refusal),
 }
-
-pub enum Written {
-    Octets(OctetCount),
-    Refused(Refusal),
-}
-
-// A file that was begun, with the offset of its first field.
-pub enum Begun {
-    First(OctetCount),
-    Refused(Refusal),
-}

@@ -3,7 +3,8 @@
 // `begin`, `write_field` and `read_field` are the entry points, and `check::check` is `read_field` without the writing.
 ghost use mathlib.Core.Path.{_≡_};
 ghost use lib.ListN.{length};
-ghost use Rattle.fieldfile.specs.Answers.{begunOf, cellsAfter, octetsAfter, readOf, writtenOf};
+ghost use Rattle.wire.specs.Written.{octetsAfter, writtenOf};
+ghost use Rattle.fieldfile.specs.Answers.{cellsAfter, readOf};
 ghost use Rattle.fieldfile.specs.File.{readInto, writeField, writeHead};
 
 pub mod check;
@@ -16,32 +17,31 @@ use anc::read::read_run;
 use cells::check::Listed;
 use cells::write::write_run;
 use check::check;
-use field::Begun;
 use field::FieldRead;
-use field::Written;
 use format::HEAD_SIZE;
 use format::HEADER_SIZE;
 use wire::count::OctetCount;
 use wire::number::Timestamp;
 use wire::refusal::Refusal;
+use wire::written::Written;
 use words::octet::copy;
 use writing::measure;
 use writing::write_header;
 
 // Writes `ANF` and the version to the first octets of `out`.
-pub fn begin(out: &mut [u8]) -> Begun
-    ensures { λ r. ⌜ r ≡ begunOf (writeHead (length (now (out .entry)))) ⌝ }
+pub fn begin(out: &mut [u8]) -> Written
+    ensures { λ r. ⌜ r ≡ writtenOf (writeHead (length (now (out .entry)))) ⌝ }
     ensures { λ r. ⌜ now (out .exit) ≡ octetsAfter (writeHead (length (now (out .entry)))) (now (out .entry)) ⌝ }
 {
     if out.len() < HEAD_SIZE {
-        return Begun::Refused(Refusal {
+        return Written::Refused(Refusal {
             number: Refusal::ROOM_TOO_SMALL,
             index: 0,
         });
     }
     let head = [0x41, 0x4E, 0x46, 0, 1];
     copy(&head, out);
-    Begun::First(OctetCount(HEAD_SIZE))
+    Written::Octets(OctetCount(HEAD_SIZE))
 }
 
 // Writes a field with the records of the cells into the first octets of `out`.

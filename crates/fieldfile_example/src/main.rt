@@ -1,12 +1,11 @@
 // Writes a field file with the records A and B of 01, "Marked examples", to disk, reads it back through the entry points and
 // prints it: its octets in hex, then each field and its cells up to 54, and then some of the other refusals.
-use fieldfile::field::Begun;
 use fieldfile::field::FieldRead;
-use fieldfile::field::Written;
 use libc::STDOUT_FILENO;
 use wire::count::OctetCount;
 use wire::number::Timestamp;
 use wire::refusal::Refusal;
+use wire::written::Written;
 
 fn print(text: &[u8]) {
     io::write_all(STDOUT_FILENO, text);
@@ -55,8 +54,8 @@ fn begin(to: i32) {
     let mut out = [0u8; 64];
     let begun = fieldfile::begin(&mut out);
     match begun {
-        Begun::Refused(refusal) => print_refusal(refusal),
-        Begun::First(at) => {
+        Written::Refused(refusal) => print_refusal(refusal),
+        Written::Octets(at) => {
             let n = at.0;
             if n <= 64 {
                 io::write_all(to, &out[..n]);

@@ -15,8 +15,6 @@ use Rattle.sdp.specs.Reading.{itemOf, front, next}
 use Rattle.fmtp.specs.declared.read.Reading.{Reading}
 use Rattle.fmtp.specs.declared.read.Reading.the-variants as reading
 use Rattle.fmtp.specs.declared.read.Step.{Step}
-use Rattle.fmtp.specs.declared.write.Written.{Written}
-use Rattle.fmtp.specs.declared.write.Written.the-variants as written
 
 -- how many pairs, and the VPID code
 abbrev pub readingOf : Result Parameters → Reading
@@ -41,16 +39,6 @@ pub record Stepped (s : List ℕ) (r : Step) : Type 0 where
   pub more : r .more ≡ ltb (length (front s)) (length s)
   pub inside : r .used ≤ length s
   pub rest : drop (r .used) s ≡ next s
-
--- how many octets were written
-abbrev pub writtenOf : Result (List ℕ) → Written
-writtenOf (refused x) = written.Refused x
-writtenOf (accepted s) = written.Octets (length s)
-
--- the octets that were written
-abbrev pub writtenText : Result (List ℕ) → List ℕ
-writtenText (refused x) = []
-writtenText (accepted s) = s
 
 -- the `;` behind so many octets of a text: none at its start
 abbrev pub separator : ℕ → List ℕ

@@ -6,10 +6,13 @@ ghost use Rattle.wire.specs.Bits.{overwrite, splice};
 ghost use Rattle.sdp.specs.Grammar.{Content};
 ghost use Rattle.sdp.specs.Text.{maxPairs};
 ghost use Rattle.sdp.specs.Writing.{codeText, codeTexts, decimalText, digitText, joined, pairText, pairTexts, separated, textOf, writeText};
-ghost use Rattle.fmtp.specs.Answers.{following, separator, writtenOf, writtenText};
+ghost use Rattle.wire.specs.Written.{octetsAfter, writtenOf};
+ghost use Rattle.fmtp.specs.Answers.{following, separator};
 use sdp::parameters::Parameters;
 use sdp::parameters::Vpid;
+use wire::count::OctetCount;
 use wire::refusal::Refusal;
+use wire::written::Written;
 
 // Octets of `DID_SDID={0xhh,0xhh}`.
 const PAIR_OCTETS: usize = 20;
@@ -17,18 +20,10 @@ const PAIR_OCTETS: usize = 20;
 // With its `;`.
 const SEPARATED_PAIR_OCTETS: usize = PAIR_OCTETS + 1;
 
-pub enum Written {
-    // How many octets the text has.
-    Octets(usize),
-    Refused(Refusal),
-}
-
-impl Written {
-    fn refuse(number: u8, index: usize) -> Written
-        ensures { λ r. ⌜ r ≡ Written.Refused (record { number = number; index = index }) ⌝ }
-    {
-        Written::Refused(Refusal { number, index })
-    }
+fn refuse(number: u8) -> Written
+    ensures { λ r. ⌜ r ≡ Written.Refused (record { number = number; index = 0 }) ⌝ }
+{
+    Written::Refused(Refusal { number, index: 0 })
 }
 
 // A lower-case digit.
@@ -177,19 +172,19 @@ fn text_size(pairs: &[u8], vpid: Vpid) -> usize
 // Writes pairs, DID then SDID, and a VPID code as a text to the first octets of `out`.
 pub fn write(pairs: &[u8], vpid: Vpid, out: &mut [u8]) -> Written
     ensures { λ r. ⌜ r ≡ writtenOf (writeText (record { pairs = now (pairs .entry); vpid = vpid }) (length (now (out .entry)))) ⌝ }
-    ensures { λ r. ⌜ now (out .exit) ≡ overwrite (writtenText (writeText (record { pairs = now (pairs .entry); vpid = vpid }) (length (now (out .entry))))) (now (out .entry)) ⌝ }
+    ensures { λ r. ⌜ now (out .exit) ≡ octetsAfter (writeText (record { pairs = now (pairs .entry); vpid = vpid }) (length (now (out .entry)))) (now (out .entry)) ⌝ }
 {
     if pairs.len() % 2 != 0 {
-        return Written::refuse(Refusal::ITEM_MALFORMED, 0);
+        return refuse(Refusal::ITEM_MALFORMED);
     }
     if Parameters::MAX_PAIRS < pairs.len() / 2 {
-        return Written::refuse(Refusal::TOO_MANY_PAIRS, 0);
+        return refuse(Refusal::TOO_MANY_PAIRS);
     }
     let size = text_size(pairs, vpid);
     if out.len() < size {
-        return Written::refuse(Refusal::TEXT_ROOM_TOO_SMALL, 0);
+        return refuse(Refusal::TEXT_ROOM_TOO_SMALL);
     }
     let to = write_pairs(pairs, out);
     write_vpid(vpid, to, out);
-    Written::Octets(size)
+    Written::Octets(OctetCount(size))
 }

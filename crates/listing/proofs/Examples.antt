@@ -11,7 +11,7 @@ use Rattle.wire.specs.Packet.{packetRead, headerChecks, paddingChecks, payloadC
 use Rattle.wire.specs.Cells.{cellRecord, headInRange, cellChecks, recordsFrom}
 use Rattle.wire.proofs.PacketExamples.{frame7Octets, frame8Octets, frame10Octets}
 use Rattle.depacketizer.specs.Step.{step}
-use Rattle.text.specs.Text.{ascii, decimal, hex}
+use Rattle.text.specs.Text.{ascii, decimal, decimalIn, digits, hex}
 use Rattle.lines.specs.Lines.{lineText, placeText, dataText, wholeText, refusedText, countsText}
 use Rattle.listing.specs.Session.{turn, cutText, remaining, listing}
 
@@ -19,16 +19,16 @@ abbrev store : List ℕ
 store = replicate 9 0
 
 pub empty : listing store [] ≡ ascii "fieldlist 1\nfresh=0 late=0 missing=0\n"
-unfolding ascii decimal cutText remaining listing countsText
+unfolding ascii decimal decimalIn cutText remaining listing countsText
 empty = refl
 
 pub one-octet : listing store (7 ∷ []) ≡ ascii "fieldlist 1\ncut\nfresh=0 late=0 missing=0\n"
-unfolding ascii decimal cutText remaining listing countsText
+unfolding ascii decimal decimalIn cutText remaining listing countsText
 one-octet = refl
 
 -- a frame of length 0
 pub length-0 : listing store (0 ∷ 0 ∷ []) ≡ ascii "fieldlist 1\nrefused 2 0\nfresh=0 late=0 missing=0\n"
-unfolding toBits num bits bitsAt headerChecks readPacket readContent ascii decimal turn cutText remaining listing countsText refusedText
+unfolding toBits num bits bitsAt headerChecks readPacket readContent ascii decimal decimalIn turn cutText remaining listing countsText refusedText
 length-0 = refl
 
 -- "Numbers 7, 8, 8, 10; timestamps 1000, 2501, 2501, 5504; F 2, 3, 3, 3; each carries record A": whole output
@@ -37,5 +37,5 @@ input = 0 ∷ 32 ∷ (frame7Octets ++ (0 ∷ 32 ∷ (frame8Octets ++ (0 ∷ 32 �
 
 pub example : listing store input
     ≡ ascii "fieldlist 1\n7 skipped\n8 whole ts=2501 f=3 records=1\n y line=9 off=0 s=0/0 did=41 sdid=05 words=0\n8 late\n10 skipped\nfresh=3 late=1 missing=1\n"
-unfolding toBits num bits bitsAt rowAt headerWord checksumWord ancSize ancRecord headersOk checksumOk alignmentOk ancChecks readAnc readRun packetRead headerChecks paddingChecks payloadChecks readRecords readPacket readContent step cellRecord headInRange cellChecks recordsFrom ascii decimal hex turn cutText remaining listing lineText placeText dataText wholeText refusedText countsText
+unfolding toBits num bits bitsAt rowAt headerWord checksumWord ancSize ancRecord headersOk checksumOk alignmentOk ancChecks readAnc readRun packetRead headerChecks paddingChecks payloadChecks readRecords readPacket readContent step cellRecord headInRange cellChecks recordsFrom ascii decimal decimalIn hex digits turn cutText remaining listing lineText placeText dataText wholeText refusedText countsText
 example = refl

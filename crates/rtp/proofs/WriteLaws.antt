@@ -24,12 +24,13 @@ use Rattle.wire.proofs.AncLaws.{length-run}
 use Rattle.wire.proofs.CellLaws.{list-iff}
 use Rattle.wire.proofs.PacketLaws.{length-packet}
 use Rattle.wire.proofs.Demand2.{never-22}
+use Rattle.wire.specs.Written.{octetsAfter, writtenOf}
 use Rattle.cells.specs.Answers.{listedOf, listOctets}
 use Rattle.cells.specs.declared.check.Listed.the-variants as listed
 use Rattle.rtp.specs.declared.packet.Head.{Head}
-use Rattle.rtp.specs.declared.packet.Written.the-variants as written
+use Rattle.wire.specs.declared.written.Written.the-variants as written
 use Rattle.rtp.specs.declared.writing.Measured.the-variants as measured
-use Rattle.rtp.specs.Answers.{contentOf, measureOf, octetsAfter, writtenOf}
+use Rattle.rtp.specs.Answers.{contentOf, measureOf}
 use Rattle.rtp.specs.Front.{headOk, frontFields}
 
 -- the octets of a packet with these records

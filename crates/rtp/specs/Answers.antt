@@ -15,8 +15,6 @@ use Rattle.rtp.specs.declared.packet.Head.{Head}
 use Rattle.rtp.specs.declared.packet.Summary.{Summary}
 use Rattle.rtp.specs.declared.packet.Read.{Read}
 use Rattle.rtp.specs.declared.packet.Read.the-variants as read
-use Rattle.rtp.specs.declared.packet.Written.{Written}
-use Rattle.rtp.specs.declared.packet.Written.the-variants as written
 use Rattle.rtp.specs.declared.packet.Checked.{Checked}
 use Rattle.rtp.specs.declared.packet.Checked.the-variants as checked
 use Rattle.rtp.specs.declared.writing.Measured.{Measured}
@@ -87,15 +85,6 @@ readOf (accepted k) = read.Packet (summaryOf k)
 abbrev pub cellsAfter : Result Content → List ℕ → List ℕ
 cellsAfter (refused x) cells = cells
 cellsAfter (accepted k) cells = overwrite (listOf (k .records)) cells
-
--- a packet written, and what the lent octets then hold
-abbrev pub writtenOf : Result (List ℕ) → Written
-writtenOf (refused x) = written.Refused x
-writtenOf (accepted o) = written.Octets (record { 0 = length o })
-
-abbrev pub octetsAfter : Result (List ℕ) → List ℕ → List ℕ
-octetsAfter (refused x) octets = octets
-octetsAfter (accepted o) octets = overwrite o octets
 
 -- a packet to be written, measured: its records and the octets of their ANC data packets
 abbrev pub measureOf : Result (List ℕ) → Result (List Record) → Measured

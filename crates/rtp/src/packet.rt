@@ -1,7 +1,6 @@
 // What the reader returns and the writer takes (01, "Records in a lent list").
 ghost use mathlib.Core.Path.{_≡_};
 ghost use Rattle.rtp.specs.Answers.{checkedRefusal};
-use wire::count::OctetCount;
 use wire::number::PacketNumber;
 use wire::number::Timestamp;
 use wire::refusal::Refusal;
@@ -25,11 +24,6 @@ pub struct Summary {
 
 pub enum Read {
     Packet(Summary),
-    Refused(Refusal),
-}
-
-pub enum Written {
-    Octets(OctetCount),
     Refused(Refusal),
 }
 

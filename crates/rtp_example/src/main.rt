@@ -3,10 +3,10 @@
 use libc::STDOUT_FILENO;
 use rtp::packet::Head;
 use rtp::packet::Read;
-use rtp::packet::Written;
 use wire::number::PacketNumber;
 use wire::number::Timestamp;
 use wire::refusal::Refusal;
+use wire::written::Written;
 
 fn print(text: &[u8]) {
     io::write_all(STDOUT_FILENO, text);

@@ -5,12 +5,12 @@ ghost use Prim.Native.Nat.{_<_};
 use libc::STDOUT_FILENO;
 use rtp::packet::Head;
 use rtp::packet::Read;
-use rtp::packet::Written;
 use std::num::wrapping_add_u16;
 use wire::header::Header;
 use wire::number::PacketNumber;
 use wire::number::Timestamp;
 use wire::refusal::Refusal;
+use wire::written::Written;
 
 // Record A of 01.
 const A: [u16; 8] = [0, 9, 0, 0, 0, 0x41, 5, 0];

@@ -13,6 +13,7 @@ use Rattle.io.specs.Digits as io
 use Rattle.text.specs.Text.{ascii, digit, digits, decimalIn, decimal, decimalMost, hex}
 
 pub length-decimalIn : (m n : ℕ) → length (decimalIn m n) ≤ m
+unfolding decimalIn
 length-decimalIn zero n = omega arith
 length-decimalIn (suc m) n = go (ltb n 10) refl (length-decimalIn m (n / 10))
   where
@@ -30,6 +31,7 @@ power-positive (suc k) = omega (arith, pow-suc 10 k, power-positive k)
 
 -- the fewest digits are those that the definition writes
 fewest : (m k n : ℕ) → n < 10 ^ suc m → io.Fewest 10 1 n k → io.digits 10 k n ≡ decimalIn (suc m) n
+unfolding decimalIn
 fewest m zero n h f = absurd (omega (arith, f .0))
 fewest m (suc zero) n h f =
     let small : n < 10 = omega (arith, f .1) in
@@ -51,13 +53,13 @@ fewest-is k n h f = fewest 19 k n (omega arith) f
 
 -- two and three hex digits
 pub two-digits : (x : ℕ) → x < 256 → digit (x / 16) ∷ digit (x % 16) ∷ [] ≡ hex 2 x
-unfolding hex
+unfolding hex digits
 two-digits x h =
     let e : x / 16 % 16 ≡ x / 16 = omega arith in
     rw e
 
 pub word-digits : (w : ℕ) → w < 1024 → 0x20 ∷ digit (w / 256) ∷ digit (w / 16 % 16) ∷ digit (w % 16) ∷ [] ≡ ascii " " ++ hex 3 w
-unfolding ascii hex
+unfolding ascii hex digits
 word-digits w h =
     let e : w / 16 / 16 % 16 ≡ w / 256 = omega arith in
     rw e

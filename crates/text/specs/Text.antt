@@ -15,7 +15,7 @@ abbrev pub digit : ℕ → ℕ
 digit d = cond (ltb d 10) (0x30 + d) (0x57 + d)
 
 -- the last `k` digits in a base
-abbrev pub digits : (base k n : ℕ) → List ℕ
+unfoldable pub digits : (base k n : ℕ) → List ℕ
 digits base zero n = []
 digits base (suc k) n = digits base k (n / base) ++ (digit (n % base) ∷ [])
 
@@ -23,7 +23,7 @@ digits base (suc k) n = digits base k (n / base) ++ (digit (n % base) ∷ [])
 abbrev pub decimalMost : ℕ
 decimalMost = 20
 
-abbrev pub decimalIn : (most n : ℕ) → List ℕ
+unfoldable pub decimalIn : (most n : ℕ) → List ℕ
 decimalIn zero n = []
 decimalIn (suc m) n = cond (ltb n 10) (digit n ∷ []) (decimalIn m (n / 10) ++ (digit (n % 10) ∷ []))
 

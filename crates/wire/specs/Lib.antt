@@ -8,3 +8,4 @@ pub mod Cells
 pub mod Header
 pub mod Packet
 pub mod Writing
+pub mod Written

@@ -4,3 +4,4 @@ pub mod header;
 pub mod location;
 pub mod number;
 pub mod refusal;
+pub mod written;

@@ -8,7 +8,7 @@ use borrow.Author.Tests.{le-leb, lt-leb}
 use lib.ListN.{length}
 use Rattle.wire.specs.Bits.{overwrite}
 use Rattle.fieldfile.specs.File.{fileHeadSize}
-use Rattle.fieldfile.specs.declared.field.Begun.the-variants as begun
+use Rattle.wire.specs.declared.written.Written.the-variants as written
 use Rattle.fieldfile.proofs.HeadFields.{head-packed}
 use Rattle.fieldfile.proofs.begin.Statement.{statement}
 use Rattle.fieldfile.proofs.begin.Tie as tie
@@ -29,7 +29,7 @@ returns-2 : tie.Need-returns-2
 returns-2 c =
     let out = c .before .before .before .before .before .before .before .args .out .now in
     let h = le-leb fileHeadSize (length out) (c .before .before .before .before .before .if1 .left) in
-    (rw h (ap (λ (x : List ℕ). begun.First (record { 0 = length x })) head-packed), rw h (c .before .before .copy .ensures ∙ ap (λ (x : List ℕ). overwrite x out) head-packed))
+    (rw h (ap (λ (x : List ℕ). written.Octets (record { 0 = length x })) head-packed), rw h (c .before .before .copy .ensures ∙ ap (λ (x : List ℕ). overwrite x out) head-packed))
 
 pub begin-spec : {M : Type 1} → statement M
 begin-spec = tie.close (tie.spec returns slice-aggregate-copy copy-requires same-length returns-2)

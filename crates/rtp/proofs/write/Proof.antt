@@ -9,9 +9,10 @@ use lib.ListN.{length, length-take, length-drop}
 use Rattle.wire.specs.Result.{Result, IsAccepted}
 use Rattle.wire.specs.Layout.{rfc8331}
 use Rattle.wire.proofs.AncLaws.{length-run}
+use Rattle.wire.specs.Written.{writtenOf, octetsAfter}
 use Rattle.cells.specs.Answers.{listOctets}
-use Rattle.rtp.specs.Answers.{measureRefusal, writtenOf, octetsAfter}
-use Rattle.rtp.specs.declared.packet.Written.the-variants as written
+use Rattle.rtp.specs.Answers.{measureRefusal}
+use Rattle.wire.specs.declared.written.Written.the-variants as written
 use Rattle.rtp.proofs.WriteLaws.{Fitting, fitting, written-whole, written-length, refused-write}
 use Rattle.rtp.proofs.write.Statement.{statement}
 use Rattle.rtp.proofs.write.Tie as tie

@@ -1,11 +1,12 @@
 -- `jibhotran_write` writes a packet, or gives 255.
 -- By what the library gives, where the answer is long enough.
 use borrow.Author.Needs.{needs}
-use mathlib.Core.Path.{ap, sym, _∙_}
+use mathlib.Core.Path.{ap, _∙_}
 use borrow.Author.Tests.{le-leb, lt-leb}
 use lib.ListN.{length}
+use Rattle.wire.specs.declared.written.Written.{Written}
 use Rattle.wire.specs.Bits.{overwrite}
-use Rattle.capi.specs.Rows.{Reply, answerSize, writtenReply}
+use Rattle.capi.specs.Rows.{answerSize, writtenReply}
 use Rattle.capi.proofs.packet.jibhotran_write.Statement.{statement}
 use Rattle.capi.proofs.packet.jibhotran_write.Tie as tie
 
@@ -15,17 +16,8 @@ returns c = let h = lt-leb answerSize (length (c .before .before .before .before
 write-requires : tie.Need-write-requires
 write-requires c κs = search needs
 
-enum-known-written : tie.Need-enum-known-written
-enum-known-written c = search needs
-
-refuse-requires : tie.Need-refuse-requires
-refuse-requires c κs = search needs
-
-enum-known-written-2 : tie.Need-enum-known-written-2
-enum-known-written-2 c = search needs
-
-accept-size-requires : tie.Need-accept-size-requires
-accept-size-requires c κs = search needs
+reply-requires : tie.Need-reply-requires
+reply-requires c κs = search needs
 
 same-length : tie.Need-same-length
 same-length c = search needs
@@ -35,41 +27,12 @@ same-length-2 c = search needs
 
 returns-2 : tie.Need-returns-2
 returns-2 c =
-    let a = c .before .before .before .before .before .before .before .before .before .before .before .before .before .before .before .args in
-    let h = le-leb answerSize (length (a .answer .now)) (c .before .before .before .before .before .before .before .before .before .before .before .if1 .left) in
-    let e = ap writtenReply (sym (c .before .before .before .before .before .written .given .1) ∙ c .before .before .before .before .before .before .before .before .before .write .ensures .0) in (
-      rw h (c .before .before .refuse .ensures .0 ∙ ap (λ (y : Reply). y .number) e),
-      (rw h (c .before .before .before .before .before .before .before .before .before .write .ensures .1), rw h (c .before .before .refuse .ensures .1 ∙ ap (λ (y : Reply). overwrite (y .row) (a .answer .now)) e)),
-    )
-
-same-length-3 : tie.Need-same-length-3
-same-length-3 c = search needs
-
-same-length-4 : tie.Need-same-length-4
-same-length-4 c = search needs
-
-returns-3 : tie.Need-returns-3
-returns-3 c =
-    let a = c .before .before .before .before .before .before .before .before .before .before .before .before .before .before .before .args in
-    let h = le-leb answerSize (length (a .answer .now)) (c .before .before .before .before .before .before .before .before .before .before .before .if1 .left) in
-    let e = ap writtenReply (sym (c .before .before .before .before .before .written2 .given .1) ∙ c .before .before .before .before .before .before .before .before .before .write .ensures .0) in (
-      rw h (c .before .before .accept-size .ensures .0 ∙ ap (λ (y : Reply). y .number) e),
-      (rw h (c .before .before .before .before .before .before .before .before .before .write .ensures .1), rw h (c .before .before .accept-size .ensures .1 ∙ ap (λ (y : Reply). overwrite (y .row) (a .answer .now)) e)),
-    )
+    let a = c .before .before .before .before .before .before .before .before .before .before .before .before .args in
+    let h = le-leb answerSize (length (a .answer .now)) (c .before .before .before .before .before .before .before .before .if1 .left) in
+    let w = c .before .before .before .before .before .before .write .ensures in
+    let r = c .before .before .reply .ensures in
+    (rw h (r .0 ∙ ap (λ (x : Written). writtenReply x .number) (w .0)), (rw h (w .1), rw h (r .1 ∙ ap (λ (x : Written). overwrite (writtenReply x .row) (a .answer .now)) (w .0))))
 
 pub jibhotran-write-spec : {M : Type 1} → statement M
 jibhotran-write-spec =
-    tie.close
-    (tie.spec
-    returns
-    write-requires
-    enum-known-written
-    refuse-requires
-    enum-known-written-2
-    accept-size-requires
-    same-length
-    same-length-2
-    returns-2
-    same-length-3
-    same-length-4
-    returns-3)
+    tie.close (tie.spec returns write-requires reply-requires same-length same-length-2 returns-2)

@@ -11,23 +11,24 @@ use borrow.Author.Tests.{le-leb, lt-leb, eq-eqb, ne-eqb}
 use Rattle.wire.specs.Bits.{overwrite, splice}
 use Rattle.wire.specs.Result.{Result, accepted, refuse}
 use Rattle.wire.proofs.ListLaws.{length-splice, splice-append}
+use Rattle.wire.specs.Written.{writtenOf, octetsAfter}
 use Rattle.sdp.specs.declared.parameters.Vpid.{Vpid}
 use Rattle.sdp.specs.Text.{maxPairs}
 use Rattle.sdp.specs.Grammar.{Content}
 use Rattle.sdp.specs.Writing.{pairTexts, codeTexts, joined, textOf, writeText}
-use Rattle.fmtp.specs.declared.write.Written.the-variants as written
-use Rattle.fmtp.specs.declared.write.Written.{Written}
-use Rattle.fmtp.specs.Answers.{writtenOf, writtenText, following}
+use Rattle.wire.specs.declared.written.Written.the-variants as written
+use Rattle.wire.specs.declared.written.Written.{Written}
+use Rattle.fmtp.specs.Answers.{following}
 use Rattle.fmtp.proofs.TextLaws.{joined-append}
 use Rattle.fmtp.proofs.write.write.Statement.{statement}
 use Rattle.fmtp.proofs.write.write.Tie as tie
 
 -- the answer, and the octets of the text
 abbrev Answers : Written → Content → List ℕ → List ℕ → Type 0
-Answers w k new old = (w ≡ writtenOf (writeText k (length old))) × (new ≡ overwrite (writtenText (writeText k (length old))) old)
+Answers w k new old = (w ≡ writtenOf (writeText k (length old))) × (new ≡ octetsAfter (writeText k (length old)) old)
 
-answers : (k : Content) (old : List ℕ) (v : Result (List ℕ)) → writeText k (length old) ≡ v → Answers (writtenOf v) k (overwrite (writtenText v) old) old
-answers k old v e = (ap writtenOf (sym e), ap (λ (w : Result (List ℕ)). overwrite (writtenText w) old) (sym e))
+answers : (k : Content) (old : List ℕ) (v : Result (List ℕ)) → writeText k (length old) ≡ v → Answers (writtenOf v) k (octetsAfter v old) old
+answers k old v e = (ap writtenOf (sym e), ap (λ (w : Result (List ℕ)). octetsAfter w old) (sym e))
 
 module _ (l : List ℕ) (v : Vpid) (old : List ℕ) where
   abbrev Text : Content
@@ -115,7 +116,7 @@ returns-4 : tie.Need-returns-4
 returns-4 c =
     let r = (subst (λ (n : ℕ). n ≤ length (c .before .before .before .before .before .before .before .before .before .before .before .before .before .before .args .out .now)) (c .before .before .before .before .before .before .before .before .before .text-size .ensures) (c .before .before .before .before .before .before .before .before .if3 .left)) in
     let a = answers (Text (c .before .before .before .before .before .before .before .before .before .before .before .before .before .before .args .pairs .now) (c .before .before .before .before .before .before .before .before .before .before .before .before .before .before .args .vpid) (c .before .before .before .before .before .before .before .before .before .before .before .before .before .before .args .out .now)) (c .before .before .before .before .before .before .before .before .before .before .before .before .before .before .args .out .now) _ (fits (c .before .before .before .before .before .before .before .before .before .before .before .before .before .before .args .pairs .now) (c .before .before .before .before .before .before .before .before .before .before .before .before .before .before .args .vpid) (c .before .before .before .before .before .before .before .before .before .before .before .before .before .before .args .out .now) (c .before .before .before .before .before .before .before .before .before .before .before .if1 .left) (omega (arith, c .before .before .before .before .before .before .before .before .before .before .if2 .left, c .before .before .before .before .before .before .before .before .before .before .before .if1 .left)) r) in
-    (ap written.Octets (c .before .before .before .before .before .before .before .before .before .text-size .ensures) ∙ a .0, all (c .before .before .before .before .before .before .before .before .before .before .before .before .before .before .args .pairs .now) (c .before .before .before .before .before .before .before .before .before .before .before .before .before .before .args .vpid) (c .before .before .before .before .before .before .before .before .before .before .before .before .before .before .args .out .now) r _ _ (c .before .before .before .before .before .before .write-pairs .ensures .0) (c .before .before .before .before .before .before .write-pairs .ensures .1) _ (c .before .before .write-vpid .ensures) ∙ a .1)
+    (ap (λ (n : ℕ). written.Octets (record { 0 = n })) (c .before .before .before .before .before .before .before .before .before .text-size .ensures) ∙ a .0, all (c .before .before .before .before .before .before .before .before .before .before .before .before .before .before .args .pairs .now) (c .before .before .before .before .before .before .before .before .before .before .before .before .before .before .args .vpid) (c .before .before .before .before .before .before .before .before .before .before .before .before .before .before .args .out .now) r _ _ (c .before .before .before .before .before .before .write-pairs .ensures .0) (c .before .before .before .before .before .before .write-pairs .ensures .1) _ (c .before .before .write-vpid .ensures) ∙ a .1)
 
 pub write-spec : {M : Type 1} → statement M
 write-spec =
