@@ -4,12 +4,13 @@ ghost use Prim.Native.Nat.{_+_, _*_, _<_, _≤_, _^_};
 ghost use lib.ListN.{length};
 ghost use Rattle.wire.specs.Anc.{alignmentOk, ancSize, checksumOk, dataCount, headersOk, readAnc, readRun};
 ghost use Rattle.wire.specs.Layout.{leastSize, rfc8331};
-ghost use Rattle.wire.specs.Words.{HeaderTable, isHeaderWord, wordBits};
+ghost use Rattle.wire.specs.Words.{isHeaderWord, wordBits};
 ghost use Rattle.anc.specs.Answers.{runOf, runRefusal, verdictOf};
 use wire::count::OctetCount;
 use wire::count::WordCount;
 use wire::header::Header;
 use wire::refusal::Refusal;
+use words::parity::header_word;
 use words::size::packet_size;
 use words::sum::checksum_word;
 use words::sum::sum_octets;
@@ -27,26 +28,24 @@ pub enum Run {
     Refused(Refusal),
 }
 
-fn is_header_word(w: u16, table: &[u16; 256]) -> bool
-    requires { ⌜ HeaderTable (now table) ⌝ }
+fn is_header_word(w: u16) -> bool
     ensures { λ r. ⌜ r ≡ isHeaderWord w ⌝ }
 {
-    let x = (w % 256) as usize;
-    w == table[x]
+    w == header_word(w % 256)
 }
 
 // DID, SDID and Data_Count.
-fn header_words_ok(octets: &[u8], table: &[u16; 256]) -> bool
-    requires { ⌜ HeaderTable (now table) × (leastSize rfc8331 ≤ length (now octets)) ⌝ }
+fn header_words_ok(octets: &[u8]) -> bool
+    requires { ⌜ leastSize rfc8331 ≤ length (now octets) ⌝ }
     ensures { λ r. ⌜ r ≡ headersOk rfc8331 (now (octets .entry)) ⌝ }
 {
-    if !is_header_word(fetch(octets, 32), table) {
+    if !is_header_word(fetch(octets, 32)) {
         return false;
     }
-    if !is_header_word(fetch(octets, 42), table) {
+    if !is_header_word(fetch(octets, 42)) {
         return false;
     }
-    is_header_word(fetch(octets, 52), table)
+    is_header_word(fetch(octets, 52))
 }
 
 fn checksum_ok(octets: &[u8], words: WordCount) -> bool
@@ -104,14 +103,13 @@ impl Verdict {
 }
 
 // The packet at the front of the octets, the run's packet `index`.
-fn check_packet(octets: &[u8], index: usize, table: &[u16; 256]) -> Verdict
-    requires { ⌜ HeaderTable (now table) ⌝ }
+fn check_packet(octets: &[u8], index: usize) -> Verdict
     ensures { λ r. ⌜ r ≡ verdictOf (readAnc rfc8331 index (now (octets .entry))) ⌝ }
 {
     if octets.len() < 12 {
         return Verdict::refuse(Refusal::ANC_CUT, index);
     }
-    if !header_words_ok(octets, table) {
+    if !header_words_ok(octets) {
         return Verdict::refuse(Refusal::HEADER_WORD_MALFORMED, index);
     }
     let words = WordCount((fetch(octets, 52) % 256) as u8);
@@ -132,14 +130,13 @@ fn check_packet(octets: &[u8], index: usize, table: &[u16; 256]) -> Verdict
 pub fn check_run(octets: &[u8], count: u8) -> Run
     ensures { λ r. ⌜ r ≡ runOf (readRun rfc8331 0 count (now (octets .entry))) ⌝ }
 {
-    let table = words::table::header_words();
     let n = count as usize;
     let mut rest = octets;
     let mut used: usize = 0;
     let mut cells: usize = 0;
     let mut i: usize = 0;
     while i < n {
-        let verdict = check_packet(rest, i, &table);
+        let verdict = check_packet(rest, i);
         match verdict {
             Verdict::Refused(refusal) => {
                 return Run::Refused(refusal);

@@ -56,18 +56,17 @@ fn head_in_range(cells: &[u16]) -> bool
         & (cells[7] < 256)
 }
 
-// Each word fits ten bits.
+// Each word fits ten bits. It looks at all of them, so that the compiler looks at eight at once.
 fn words_in_range(words: &[u16]) -> bool
     ensures { λ r. ⌜ r ≡ allBelow (2 ^ wordBits) (now (words .entry)) ⌝ }
 {
+    let mut fit = true;
     let mut k: usize = 0;
     while k < words.len() {
-        if words[k] >= 1024 {
-            return false;
-        }
+        fit = fit & (words[k] < 1024);
         k += 1;
     }
-    true
+    fit
 }
 
 // The record at the front of the cells.

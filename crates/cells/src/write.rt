@@ -14,6 +14,7 @@ use crate::header::header_at;
 use crate::header::write_location;
 use wire::count::WordCount;
 use wire::header::Header;
+use words::row::write_singly;
 use words::row::write_words;
 use words::size::packet_size;
 use words::sum::checksum_word;
@@ -49,7 +50,7 @@ fn write_packet(cells: &[u16], octets: &mut [u8], table: &[u16; 256]) -> WordCou
     let sdid = h.sdid as usize;
     let head = [table[did], table[sdid], table[n]];
     let user = &cells[Header::CELLS..Header::CELLS + n];
-    write_words(&head, octets, 32);
+    write_singly(&head, octets, 32);
     write_words(user, octets, 62);
     let sum = sum_cells(&head) + sum_cells(user);
     store(octets, 62 + 10 * n, checksum_word(sum));

@@ -50,6 +50,16 @@ num-part b p n t h =
     ∙ rw (length-append x y, lx, ly, num-append x y, ly, pow-add 2 n t) (omega arith) in
     sym (ap (λ (z : ℕ). z / 2 ^ t % 2 ^ n) e ∙ ap (λ (z : ℕ). z % 2 ^ n) (high (num (take p b) * 2 ^ n + num x) t hy) ∙ low (num (take p b)) n hx)
 
+-- a part of a run of bits is a quotient of the run's number
+pub bitsAt-part : (s : List ℕ) (k m p n t : ℕ) → p + n + t ≡ m → k + m ≤ 8 * length s → bitsAt s (k + p) n ≡ bitsAt s k m / 2 ^ t % 2 ^ n
+unfolding bitsAt
+bitsAt-part s k m p n t h l =
+    let b = drop k (bits s) in
+    let lb : length (take m b) ≡ m = length-take-le m b (rw (length-drop k (bits s), length-bits s) (omega arith)) in
+    ap (λ (x : List Bool). num (take n x)) (sym (drop-drop p k (bits s)))
+    ∙ ap num (sym (take-drop-take p n m b (omega arith)))
+    ∙ num-part (take m b) p n t (h ∙ sym lb)
+
 -- octets as one number
 abbrev pub number : List ℕ → ℕ
 number [] = 0

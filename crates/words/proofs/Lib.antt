@@ -1,3 +1,5 @@
+pub mod Fields
+pub mod Groups
 pub mod Rows
 pub mod TableRule
 pub mod Unit

@@ -1,8 +1,10 @@
 // Numbers of whole octets, most significant first.
 ghost use mathlib.Core.Path.{_≡_};
-ghost use Prim.Native.Nat.{_+_, _*_, _<_, _≤_};
+ghost use mathlib.Core.List.{[], _∷_};
+ghost use Prim.Native.Nat.{_+_, _*_, _/_, _%_, _^_, _<_, _≤_};
 ghost use lib.ListN.{length};
-ghost use Rattle.wire.specs.Bits.{bitsAt, overwrite};
+ghost use Rattle.wire.specs.Bits.{bits, bitsAt, overwrite, splice, toBits};
+ghost use Rattle.words.specs.Row.{quadOf, turnedOf};
 
 pub fn wide(x: u8) -> usize
     ensures { λ r. ⌜ r ≡ x ⌝ }
@@ -25,17 +27,66 @@ pub fn pair_at(octets: &[u8], at: usize) -> usize
 }
 
 fn quad(a: u8, b: u8, c: u8, d: u8) -> u32
-    ensures { λ r. ⌜ r ≡ ((a * 256 + b) * 256 + c) * 256 + d ⌝ }
+    ensures { λ r. ⌜ r ≡ quadOf a b c d ⌝ }
 {
     (((a as u32) * 256 + (b as u32)) * 256 + (c as u32)) * 256 + (d as u32)
 }
 
-// The four octets at `at`.
+// The four octets at `at`, the last one most significant.
+fn back_at(octets: &[u8], at: usize) -> u32
+    requires { ⌜ at + 4 ≤ length (now octets) ⌝ }
+    ensures { λ r. ⌜ turnedOf r ≡ bitsAt (now (octets .entry)) (8 * at) 32 ⌝ }
+{
+    quad(octets[at + 3], octets[at + 2], octets[at + 1], octets[at])
+}
+
+// The four octets of a number, in the other order.
+fn turned(x: u32) -> u32
+    ensures { λ r. ⌜ r ≡ turnedOf x ⌝ }
+{
+    x % 256 * 16777216 + x / 256 % 256 * 65536 + x / 65536 % 256 * 256 + x / 16777216
+}
+
+// The four octets at `at`. Two steps, which the compiler makes one load and one turn of.
 pub fn quad_at(octets: &[u8], at: usize) -> u32
     requires { ⌜ at + 4 ≤ length (now octets) ⌝ }
     ensures { λ r. ⌜ r ≡ bitsAt (now (octets .entry)) (8 * at) 32 ⌝ }
 {
-    quad(octets[at], octets[at + 1], octets[at + 2], octets[at + 3])
+    turned(back_at(octets, at))
+}
+
+fn joined(q: u32, o: u8) -> u64
+    ensures { λ r. ⌜ r ≡ q * 256 + o ⌝ }
+{
+    (q as u64) * 256 + (o as u64)
+}
+
+// The five octets at `at`.
+pub fn five_at(octets: &[u8], at: usize) -> u64
+    requires { ⌜ at + 5 ≤ length (now octets) ⌝ }
+    ensures { λ r. ⌜ r ≡ bitsAt (now (octets .entry)) (8 * at) 40 ⌝ }
+{
+    joined(quad_at(octets, at), octets[at + 4])
+}
+
+// Stores the four octets of a number from `at` on, the last one most significant.
+fn store_back(octets: &mut [u8], at: usize, x: u32)
+    requires { ⌜ at + 4 ≤ length (now octets) ⌝ }
+    ensures { λ r. ⌜ now (octets .exit) ≡ splice (now (octets .entry)) at (x % 256 ∷ x / 256 % 256 ∷ x / 65536 % 256 ∷ x / 16777216 ∷ []) ⌝ }
+{
+    octets[at] = (x % 256) as u8;
+    octets[at + 1] = (x / 256 % 256) as u8;
+    octets[at + 2] = (x / 65536 % 256) as u8;
+    octets[at + 3] = (x / 16777216) as u8;
+}
+
+// Stores a number of five octets from `at` on. The compiler makes one turn and one store of the first four.
+pub fn store_five(octets: &mut [u8], at: usize, x: u64)
+    requires { ⌜ (at + 5 ≤ length (now octets)) × (x < 2 ^ 40) ⌝ }
+    ensures { λ r. ⌜ bits (now (octets .exit)) ≡ splice (bits (now (octets .entry))) (8 * at) (toBits 40 x) ⌝ }
+{
+    store_back(octets, at, turned((x / 256) as u32));
+    octets[at + 4] = (x % 256) as u8;
 }
 
 // Writes all of `from` to the first octets of `to`.

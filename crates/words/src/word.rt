@@ -1,6 +1,6 @@
 // One ten-bit word, fetched from or stored to the two neighbouring octets that hold it.
 ghost use mathlib.Core.Path.{_≡_};
-ghost use Prim.Native.Nat.{_+_, _*_, _^_, _%_, _<_, _≤_};
+ghost use Prim.Native.Nat.{ℕ, _+_, _*_, _/_, _^_, _%_, _<_, _≤_};
 ghost use lib.ListN.{length};
 ghost use Rattle.wire.specs.Bits.{bits, bitsAt, toBits, splice};
 ghost use Rattle.wire.specs.Words.{wordBits};
@@ -22,22 +22,41 @@ pub fn fetch(octets: &[u8], bit: usize) -> u16
     (pair(octets[i], octets[i + 1]) >> (6 - bit % 8)) % 1024
 }
 
-// Sixteen bits `x` with the ten that end `m` bits before the last replaced by `w`.
-fn replace(x: u16, m: usize, w: u16) -> u16
+// The first of the two octets that hold a word: `a`, with its last bits replaced by the first of `w`, which ends `m` bits before the second.
+fn first_octet(a: u8, m: usize, w: u16) -> u8
     requires { ⌜ (m ≤ 6) × (w < 2 ^ wordBits) ⌝ }
-    ensures { λ r. ⌜ r ≡ replaced x m w ⌝ }
+    ensures { λ r. ⌜ ((b : ℕ) → b < 256 → r ≡ replaced (a * 256 + b) m w / 256) ⌝ }
 {
-    let u: u16 = 1 << m;
-    (x / u / 1024 * 1024 + w) * u + x % u
+    let u: u16 = 4 << m;
+    ((a as u16) / u * u + (w << m) / 256) as u8
 }
 
-// Stores `w` in the ten bits from the bit `bit` on; every other bit stays.
+// The second: `b`, with its first bits replaced by the last of `w`.
+fn second_octet(b: u8, m: usize, w: u16) -> u8
+    requires { ⌜ (m ≤ 6) × (w < 2 ^ wordBits) ⌝ }
+    ensures { λ r. ⌜ ((a : ℕ) → r ≡ replaced (a * 256 + b) m w % 256) ⌝ }
+{
+    let u: u16 = 1 << m;
+    ((w << m) % 256 + (b as u16) % u) as u8
+}
+
+// Stores `w` in the ten bits from the bit `bit` on; every other bit stays. Octet by octet, since what stands there was often just stored so.
 pub fn store(octets: &mut [u8], bit: usize, w: u16)
     requires { ⌜ WordsFit (now octets) bit 1 × (w < 2 ^ wordBits) ⌝ }
     ensures { λ r. ⌜ bits (now (octets .exit)) ≡ splice (bits (now (octets .entry))) bit (toBits wordBits w) ⌝ }
 {
     let i = bit / 8;
-    let y = replace(pair(octets[i], octets[i + 1]), 6 - bit % 8, w);
-    octets[i] = (y / 256) as u8;
-    octets[i + 1] = (y % 256) as u8;
+    let m = 6 - bit % 8;
+    let a = first_octet(octets[i], m, w);
+    let b = second_octet(octets[i + 1], m, w);
+    octets[i] = a;
+    octets[i + 1] = b;
+}
+
+// Words from the bit `bit` on before the first that starts an octet.
+pub fn words_before_octet(bit: usize) -> usize
+    requires { ⌜ bit % 2 ≡ 0 ⌝ }
+    ensures { λ r. ⌜ (r ≤ 3) × ((bit + 10 * r) % 8 ≡ 0) ⌝ }
+{
+    (8 - bit % 8) / 2 % 4
 }

@@ -226,13 +226,13 @@ fn measure(input: &Input, what: &str, archive: Step, reference: Step) {
     let name = format!("{} {what}", input.name);
     let (fields, octets) = (input.fields as f64, input.octets() as f64);
     println!(
-        "{name:<25}{:>10.0}{:>8.0}{:>11.0}{:>8.0}{:>12.2}{:>8.1}",
+        "{name:<25}{:>10.0}{:>8.0}{:>11.0}{:>8.0}{:>12.2}{:>8.3}",
         fields / ours,
         octets / ours / 1e6,
         octets / theirs / 1e6,
         octets / copied / 1e6,
-        ours / theirs,
-        ours / copied,
+        theirs / ours,
+        copied / ours,
     );
 }
 
@@ -256,10 +256,10 @@ fn main() {
     }
     println!("Best of {ROUNDS} rounds. No side clears its buffers between calls.");
     println!("MB/s: millions of packet octets a second. The last two: the archive's");
-    println!("time by the reference's, and by that of copying the octets.\n");
+    println!("speed as a multiple of the reference's, and of copying the octets.\n");
     println!(
         "{:<25}{:>10}{:>8}{:>11}{:>8}{:>12}{:>8}",
-        "archive", "fields/s", "MB/s", "ref. MB/s", "copy", "by ref.", "by copy"
+        "archive", "fields/s", "MB/s", "ref. MB/s", "copy", "of ref.", "of copy"
     );
     for input in &inputs {
         measure(input, "reader", archive_read, reference_read);

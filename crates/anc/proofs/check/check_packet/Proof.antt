@@ -41,8 +41,8 @@ returns-2 c =
 fetch-requires : tie.Need-fetch-requires
 fetch-requires c κs = search needs
 
-cast-t11 : tie.Need-cast-t11
-cast-t11 c = search needs
+cast-t10 : tie.Need-cast-t10
+cast-t10 c = search needs
 
 packet-size-requires : tie.Need-packet-size-requires
 packet-size-requires c κs = search needs
@@ -121,7 +121,7 @@ check-packet-spec =
     refuse-requires-2
     returns-2
     fetch-requires
-    cast-t11
+    cast-t10
     packet-size-requires
     refuse-requires-3
     returns-3

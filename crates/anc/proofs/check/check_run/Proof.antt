@@ -10,7 +10,7 @@ use lib.ListN.{length, drop, length-take, length-drop}
 use Rattle.wire.specs.Anc.{readRun, ancSize}
 use Rattle.wire.specs.Layout.{rfc8331}
 use Rattle.wire.specs.Cells.{headCells}
-use Rattle.wire.specs.Words.{HeaderTable, headerNumbers}
+use Rattle.wire.specs.Words.{headerNumbers}
 use Rattle.wire.proofs.ListLaws.{part-all}
 use Rattle.anc.specs.Answers.{runOf}
 use Rattle.anc.proofs.RunLaws.{tally, tally-none, refused-next, Next, accepted-next}
@@ -18,42 +18,39 @@ use Rattle.anc.proofs.check.check_run.Statement.{statement}
 use Rattle.anc.proofs.check.check_run.Tie as tie
 
 abbrev Inv-loop : tie.InvT-loop
-Inv-loop octets count table n rest₀ used₀ cells₀ i₀ rest used cells i =
-    (i ≤ n) × (n < headerNumbers) × HeaderTable table × (used + length rest ≡ length octets) × (cells ≤ (headCells + headerNumbers) * i)
+Inv-loop octets count n rest₀ used₀ cells₀ i₀ rest used cells i =
+    (i ≤ n) × (n < headerNumbers) × (used + length rest ≡ length octets) × (cells ≤ (headCells + headerNumbers) * i)
     × (tally used cells (readRun rfc8331 i (n - i) rest) ≡ runOf (readRun rfc8331 0 n octets))
 
 abbrev μ-loop : tie.MeasureT-loop
-μ-loop octets count table n rest₀ used₀ cells₀ i₀ rest used cells i = n - i
+μ-loop octets count n rest₀ used₀ cells₀ i₀ rest used cells i = n - i
 
 -- the packet of this turn was accepted
 next : (c : tie.After-known-told2 Inv-loop μ-loop)
-    → let l = c .before .before .before .before .before .before .loop in
-    Next (l .rest .now) (l .i) (c .before .before .before .before .before .before .before .before .before .args .count - (l .i + 1)) (l .used) (l .cells) (c .before .verdict2 .given .0 .0)
+    → let l = c .before .before .before .before .before .loop in
+    Next (l .rest .now) (l .i) (c .before .before .before .before .before .before .before .args .count - (l .i + 1)) (l .used) (l .cells) (c .before .verdict2 .given .0 .0)
 next c =
-    let l = c .before .before .before .before .before .before .loop in
+    let l = c .before .before .before .before .before .loop in
     accepted-next (l .rest .now) (l .i) _ (l .used) (l .cells) _ (sym (c .before .before .before .check-packet .ensures) ∙ c .before .verdict2 .given .1)
-
-header-words-requires : tie.Need-header-words-requires Inv-loop μ-loop
-header-words-requires c κs = search needs
 
 loop-holds : tie.Need-loop-holds Inv-loop μ-loop
 loop-holds c =
-    let a = c .before .before .args in
-    (omega arith, c .before .before .fits .count .fits, c .header-words .ensures, zero-add _, omega arith, rw (sub-zero (a .count)) (tally-none (readRun rfc8331 0 (a .count) (a .octets .now))))
+    let a = c .before .args in
+    (omega arith, c .before .fits .count .fits, zero-add _, omega arith, rw (sub-zero (a .count)) (tally-none (readRun rfc8331 0 (a .count) (a .octets .now))))
 
 check-packet-requires : tie.Need-check-packet-requires Inv-loop μ-loop
-check-packet-requires c κs = c .before .before .loop .inv .2
+check-packet-requires c κs = search needs
 
 enum-known-verdict : tie.Need-enum-known-verdict Inv-loop μ-loop
 enum-known-verdict c = search needs
 
 returns : tie.Need-returns Inv-loop μ-loop
 returns c =
-    let a = c .before .before .before .before .before .before .before .before .before .args in
-    let l = c .before .before .before .before .before .before .loop in
+    let a = c .before .before .before .before .before .before .before .args in
+    let l = c .before .before .before .before .before .loop in
     let n : a .count - l .i ≡ suc (a .count - (l .i + 1)) = omega arith in
     sym (refused-next (l .rest .now) (l .i) (a .count - (l .i + 1)) (l .used) (l .cells) _ (sym (c .before .before .before .check-packet .ensures) ∙ c .before .verdict .given .1))
-    ∙ (rw n at (l .inv .5))
+    ∙ (rw n at (l .inv .4))
 
 enum-known-verdict-2 : tie.Need-enum-known-verdict-2 Inv-loop μ-loop
 enum-known-verdict-2 c = search needs
@@ -90,8 +87,8 @@ loop-less c = search needs
 
 loop-again : tie.Need-loop-again Inv-loop μ-loop
 loop-again c =
-    let a = c .before .before .before .before .before .before .before .before .before .before .before .before .args in
-    let l = c .before .before .before .before .before .before .before .before .before .loop in
+    let a = c .before .before .before .before .before .before .before .before .before .before .args in
+    let l = c .before .before .before .before .before .before .before .before .loop in
     let s = l .rest .now in
     let z = c .before .before .packet-size .result .0 in
     let w = c .before .before .before .before .verdict2 .given .0 .0 .0 in
@@ -101,21 +98,20 @@ loop-again c =
     let e : z ≡ ancSize rfc8331 w = c .before .before .packet-size .ensures in (
       omega arith,
       l .inv .1,
-      l .inv .2,
       omega (arith, ap length (part-all z s), length-drop z s, t .fits),
       omega arith,
       ap (λ (x : List ℕ). tally (l .used + z) (l .cells + (headCells + w)) (readRun rfc8331 (l .i + 1) m x)) (part-all z s)
           ∙ ap (λ (x : ℕ). tally (l .used + x) (l .cells + (headCells + w)) (readRun rfc8331 (l .i + 1) m (drop x s))) e
           ∙ sym (t .goes)
-          ∙ (rw n at (l .inv .5)),
+          ∙ (rw n at (l .inv .4)),
     )
 
 returns-2 : tie.Need-returns-2 Inv-loop μ-loop
 unfolding readRun
 returns-2 c =
     let l = c .before .loop in
-    let e : c .before .before .before .before .args .count - l .i ≡ 0 = omega arith in
-    rw (add-zero (l .used), add-zero (l .cells)) at (rw e at (l .inv .5))
+    let e : c .before .before .before .args .count - l .i ≡ 0 = omega arith in
+    rw (add-zero (l .used), add-zero (l .cells)) at (rw e at (l .inv .4))
 
 pub check-run-spec : {M : Type 1} → statement M
 check-run-spec =
@@ -123,7 +119,6 @@ check-run-spec =
     (tie.spec
     Inv-loop
     μ-loop
-    header-words-requires
     loop-holds
     check-packet-requires
     enum-known-verdict

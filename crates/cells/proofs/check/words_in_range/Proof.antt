@@ -1,7 +1,7 @@
 -- `words_in_range` tells whether each word fits ten bits.
--- Invariant: the test of all words is the test of those that are left.
+-- Invariant: the test of those that were seen, with the test of those that are left, is the test of all words.
 use borrow.Author.Needs.{needs}
-use borrow.Author.Tests.{lt-ltb, le-ltb}
+use mathlib.Core.Bool.{_&&_, and-assoc, and-true}
 use mathlib.Core.Path.{_≡_, refl, sym, _∙_}
 use Prim.Native.Nat.{_≤_, _-_, _^_}
 use native.Mathlib.Numerals.{add-one}
@@ -14,26 +14,20 @@ use Rattle.cells.proofs.check.words_in_range.Statement.{statement}
 use Rattle.cells.proofs.check.words_in_range.Tie as tie
 
 abbrev Inv-loop : tie.InvT-loop
-Inv-loop words k₀ k =
-    (k ≤ length words) × (allBelow (2 ^ wordBits) words ≡ allBelow (2 ^ wordBits) (drop k words))
+Inv-loop words fit₀ k₀ fit k =
+    (k ≤ length words) × (fit && allBelow (2 ^ wordBits) (drop k words) ≡ allBelow (2 ^ wordBits) words)
 
 abbrev μ-loop : tie.MeasureT-loop
-μ-loop words k₀ k = length words - k
+μ-loop words fit₀ k₀ fit k = length words - k
 
 loop-holds : tie.Need-loop-holds Inv-loop μ-loop
 loop-holds c = (omega arith, refl)
 
-mul-if1 : tie.Need-mul-if1 Inv-loop μ-loop
-mul-if1 c = search needs
+mul-fit : tie.Need-mul-fit Inv-loop μ-loop
+mul-fit c = search needs
 
-shared-slice-read-if1 : tie.Need-shared-slice-read-if1 Inv-loop μ-loop
-shared-slice-read-if1 c = search needs
-
-returns : tie.Need-returns Inv-loop μ-loop
-returns c =
-    let w = c .before .before .before .before .args .words .now in
-    let l = c .before .before .before .loop in
-    sym (l .inv .1 ∙ rw (drop-cons w (l .k) 0 search, le-ltb _ _ (c .if1 .taken)))
+shared-slice-read-fit : tie.Need-shared-slice-read-fit Inv-loop μ-loop
+shared-slice-read-fit c = search needs
 
 add-k : tie.Need-add-k Inv-loop μ-loop
 add-k c = search needs
@@ -43,15 +37,16 @@ loop-less c = search needs
 
 loop-again : tie.Need-loop-again Inv-loop μ-loop
 loop-again c =
-    let w = c .before .before .before .before .args .words .now in
-    let l = c .before .before .before .loop in
-    (omega arith, l .inv .1 ∙ rw (add-one (l .k), drop-cons w (l .k) 0 search, lt-ltb _ _ (c .if1 .left)))
+    let w = c .before .before .before .args .words .now in
+    let l = c .before .before .loop in
+    (omega arith, rw (add-one (l .k)) (and-assoc (l .fit) _ _ ∙ (rw (drop-cons w (l .k) 0 search) at (l .inv .1))))
 
-returns-2 : tie.Need-returns-2 Inv-loop μ-loop
-returns-2 c =
+returns : tie.Need-returns Inv-loop μ-loop
+returns c =
     let w = c .before .before .args .words .now in
-    let e : c .before .loop .k ≡ length w = omega arith in
-    sym (c .before .loop .inv .1 ∙ rw (e, drop-length w))
+    let l = c .before .loop in
+    let e : l .k ≡ length w = omega arith in
+    sym (and-true (l .fit)) ∙ (rw (e, drop-length w) at (l .inv .1))
 
 pub words-in-range-spec : {M : Type 1} → statement M
 words-in-range-spec =
@@ -60,10 +55,9 @@ words-in-range-spec =
     Inv-loop
     μ-loop
     loop-holds
-    mul-if1
-    shared-slice-read-if1
-    returns
+    mul-fit
+    shared-slice-read-fit
     add-k
     loop-less
     loop-again
-    returns-2)
+    returns)

@@ -134,11 +134,11 @@ part-user-end c =
     let h = header (c .before .before .before .before .before .before .before) in
     omega (arith, h .before .before .before .pre, cell-is h)
 
-slice-aggregate-write-words : tie.Need-slice-aggregate-write-words
-slice-aggregate-write-words c = search needs
+slice-aggregate-write-singly : tie.Need-slice-aggregate-write-singly
+slice-aggregate-write-singly c = search needs
 
-write-words-requires : tie.Need-write-words-requires
-write-words-requires c κs =
+write-singly-requires : tie.Need-write-singly-requires
+write-singly-requires c κs =
     let w = c .before .before .before .before .before .before .before .before .before .before in
     let h = header w in
     let f = formed h in (
@@ -146,23 +146,23 @@ write-words-requires c κs =
       subst (Below 1024) (sym (head-is h)) (header-lt _ (f .did), (header-lt _ (f .sdid), (header-lt _ (f .count), tt))),
     )
 
-abbrev location : tie.After-write-words → tie.After-write-location
+abbrev location : tie.After-write-singly → tie.After-write-location
 location c = c .before .before .before .before .before .before .before .before .before .before .before
 
-long-3 : (c : tie.After-write-words) → length (c .write-words .last .1 .0) ≡ length (old (header (location c)))
-long-3 c = c .write-words .kept .1 .0 ∙ long-2 (location c)
+long-3 : (c : tie.After-write-singly) → length (c .write-singly .last .1 .0) ≡ length (old (header (location c)))
+long-3 c = c .write-singly .kept .1 .0 ∙ long-2 (location c)
 
-write-words-requires-2 : tie.Need-write-words-requires-2
-write-words-requires-2 c κs =
+write-words-requires : tie.Need-write-words-requires
+write-words-requires c κs =
     let w = c .before .before .before in
     let h = header (location w) in
     (omega (arith, long-3 w, inside h, count-is h, ap length (user-is h)), subst (Below 1024) (sym (user-is h)) (formed h .words))
 
-abbrev heads : tie.After-write-words2 → tie.After-write-words
+abbrev heads : tie.After-write-words → tie.After-write-singly
 heads c = c .before .before .before .before
 
-long-4 : (c : tie.After-write-words2) → length (c .write-words2 .last .1 .0) ≡ length (old (header (location (heads c))))
-long-4 c = c .write-words2 .kept .1 .0 ∙ long-3 (heads c)
+long-4 : (c : tie.After-write-words) → length (c .write-words .last .1 .0) ≡ length (old (header (location (heads c))))
+long-4 c = c .write-words .kept .1 .0 ∙ long-3 (heads c)
 
 slice-aggregate-sum-cells : tie.Need-slice-aggregate-sum-cells
 slice-aggregate-sum-cells c = search needs
@@ -173,7 +173,7 @@ sum-cells-requires c κs = search needs
 sum-cells-requires-2 : tie.Need-sum-cells-requires-2
 sum-cells-requires-2 c κs = search needs
 
-abbrev users : tie.After-sum-cells2 → tie.After-write-words2
+abbrev users : tie.After-sum-cells2 → tie.After-write-words
 users c = c .before .before .before .before .before
 
 sums-are : (c : tie.After-sum-cells2)
@@ -218,8 +218,8 @@ returns c =
     let c₂ = location c₃ in
     let c₁ = c₂ .before .before .before .before in
     let w₅ = c .before .before .store in
-    let w₄ = c₄ .write-words2 in
-    let w₃ = c₃ .write-words in
+    let w₄ = c₄ .write-words in
+    let w₃ = c₃ .write-singly in
     let w₂ = c₂ .write-location in
     let w₁ = c₁ .clear-end in
     let h = header c₂ in
@@ -257,9 +257,9 @@ write-packet-spec =
     sub-user
     part-user-start
     part-user-end
-    slice-aggregate-write-words
+    slice-aggregate-write-singly
+    write-singly-requires
     write-words-requires
-    write-words-requires-2
     slice-aggregate-sum-cells
     sum-cells-requires
     sum-cells-requires-2

@@ -1,86 +1,84 @@
 -- `read_words` writes the words from a bit on to the first cells, and no other cell.
--- Invariant: the words that are left, written behind those that are, make all of them written.
+-- By its three rows: to the first word that starts an octet, eight words a turn, and the words that are left.
 use borrow.Author.Needs.{needs}
-use mathlib.Core.Path.{_≡_, refl, sym, _∙_}
-use Prim.Native.Nat.{suc, _≤_, _+_, _-_, _*_}
-use native.Mathlib.Nat.{add-zero, sub-zero, mul-zero}
+use mathlib.Core.Path.{_≡_}
+use Prim.Native.Nat.{_+_, _-_, _*_, _/_}
 use native.Mathlib.Omega.{arith}
-use lib.ListN.{length, length-set}
-use Rattle.wire.specs.Bits.{rowAt, overwrite, splice}
-use Rattle.wire.specs.Words.{wordBits}
-use Rattle.wire.proofs.ListLaws.{splice-set, splice-none}
+use Rattle.words.proofs.Rows.{splice-three}
 use Rattle.words.proofs.row.read_words.Statement.{statement}
 use Rattle.words.proofs.row.read_words.Tie as tie
 
-abbrev Inv-loop : tie.InvT-loop
-Inv-loop octets bit count cells₀ k₀ cells k =
-    (k ≤ count) × (length cells ≡ length cells₀)
-    × (splice cells k (rowAt wordBits octets (bit + 10 * k) (count - k)) ≡ overwrite (rowAt wordBits octets bit count) cells₀)
+words-before-octet-requires : tie.Need-words-before-octet-requires
+words-before-octet-requires c κs = search needs
 
-abbrev μ-loop : tie.MeasureT-loop
-μ-loop octets bit count cells₀ k₀ cells k = count - k
+read-singly-requires : tie.Need-read-singly-requires
+read-singly-requires c κs = search needs
 
-loop-holds : tie.Need-loop-holds Inv-loop μ-loop
-loop-holds c = (omega arith, refl, simp (mul-zero, add-zero, sub-zero))
-
-mul-fetch : tie.Need-mul-fetch Inv-loop μ-loop
-mul-fetch c = search needs
-
-add-fetch : tie.Need-add-fetch Inv-loop μ-loop
-add-fetch c = search needs
-
-fetch-requires : tie.Need-fetch-requires Inv-loop μ-loop
-fetch-requires c κs = search needs
-
-mul-cells : tie.Need-mul-cells Inv-loop μ-loop
-mul-cells c = search needs
-
-slice-write-cells : tie.Need-slice-write-cells Inv-loop μ-loop
-slice-write-cells c = search needs
-
-add-k : tie.Need-add-k Inv-loop μ-loop
-add-k c = search needs
-
-loop-less : tie.Need-loop-less Inv-loop μ-loop
-loop-less c = search needs
-
-loop-again : tie.Need-loop-again Inv-loop μ-loop
-unfolding rowAt
-loop-again c =
-    let a = c .before .before .before .before .before .args in
-    let l = c .before .before .loop in
-    let n : a .count - l .k ≡ suc (a .count - (l .k + 1)) = omega arith in
-    let b : a .bit + 10 * l .k + 10 ≡ a .bit + 10 * (l .k + 1) = omega arith in
-    let left = rowAt wordBits (a .octets .now) (a .bit + 10 * (l .k + 1)) (a .count - (l .k + 1)) in (
-      omega arith,
-      simp length-set (omega arith),
-      splice-set (l .cells) (l .k) (c .fetch .result) left (omega arith) ∙ rw (c .fetch .ensures) (rw (n, b) at (l .inv .2)),
-    )
-
-same-length : tie.Need-same-length Inv-loop μ-loop
+same-length : tie.Need-same-length
 same-length c = search needs
 
-returns : tie.Need-returns Inv-loop μ-loop
-unfolding rowAt
-returns c =
-    let l = c .before .loop in
-    let e : c .before .before .before .before .args .count - l .k ≡ 0 = omega arith in
-    sym (splice-none (l .cells) (l .k)) ∙ (rw e at (l .inv .2))
+returns : tie.Need-returns
+returns c = search needs
+
+mul-last : tie.Need-mul-last
+mul-last c = search needs
+
+add-last : tie.Need-add-last
+add-last c = search needs
+
+read-singly-requires-2 : tie.Need-read-singly-requires-2
+read-singly-requires-2 c κs = search needs
+
+mul-read-eights : tie.Need-mul-read-eights
+mul-read-eights c = search needs
+
+add-read-eights : tie.Need-add-read-eights
+add-read-eights c = search needs
+
+read-eights-requires : tie.Need-read-eights-requires
+read-eights-requires c κs = search needs
+
+mul-read-singly : tie.Need-mul-read-singly
+mul-read-singly c = search needs
+
+add-read-singly : tie.Need-add-read-singly
+add-read-singly c = search needs
+
+sub-read-singly : tie.Need-sub-read-singly
+sub-read-singly c = search needs
+
+read-singly-requires-3 : tie.Need-read-singly-requires-3
+read-singly-requires-3 c κs = search needs
+
+same-length-2 : tie.Need-same-length-2
+same-length-2 c = search needs
+
+returns-2 : tie.Need-returns-2
+returns-2 c =
+    let a = c .before .before .before .before .before .before .before .before .before .before .before .before .before .before .before .before .args in
+    let first = c .before .before .before .before .before .before .before .before .before .before .before .before .before .words-before-octet .result in
+    let eights = (a .count - first) / 8 in
+    let b : 8 * ((a .bit + 10 * first) / 8) ≡ a .bit + 10 * first = omega arith in
+    rw (c .before .before .read-singly3 .ensures, c .before .before .before .before .before .before .read-eights .ensures, c .before .before .before .before .before .before .before .before .before .before .read-singly2 .ensures, b)
+    (splice-three (a .cells .now) (a .octets .now) (a .bit) first (8 * eights) (a .count - (first + 8 * eights)) (a .count) (omega arith))
 
 pub read-words-spec : {M : Type 1} → statement M
 read-words-spec =
     tie.close
     (tie.spec
-    Inv-loop
-    μ-loop
-    loop-holds
-    mul-fetch
-    add-fetch
-    fetch-requires
-    mul-cells
-    slice-write-cells
-    add-k
-    loop-less
-    loop-again
+    words-before-octet-requires
+    read-singly-requires
     same-length
-    returns)
+    returns
+    mul-last
+    add-last
+    read-singly-requires-2
+    mul-read-eights
+    add-read-eights
+    read-eights-requires
+    mul-read-singly
+    add-read-singly
+    sub-read-singly
+    read-singly-requires-3
+    same-length-2
+    returns-2)

@@ -1,75 +1,105 @@
 -- `sum_octets` is the sum of the low nine bits of the words from a bit on.
--- Invariant: what was summed, and the sum of what is left, make the whole sum.
+-- By its three rows: to the first word that starts an octet, four words a turn, and the words that are left.
 use borrow.Author.Needs.{needs}
 use mathlib.Core.Path.{_≡_}
-use Prim.Native.Nat.{suc, _≤_, _+_, _-_, _*_}
-use native.Mathlib.Nat.{zero-add, add-zero, sub-zero, mul-zero}
+use Prim.Native.Nat.{_+_, _-_, _*_, _/_}
 use native.Mathlib.Omega.{arith}
-use Rattle.wire.specs.Bits.{rowAt}
-use Rattle.wire.specs.Words.{wordBits, sumLow}
+use Rattle.words.proofs.Rows.{sum-small, sum-three}
 use Rattle.words.proofs.sum.sum_octets.Statement.{statement}
 use Rattle.words.proofs.sum.sum_octets.Tie as tie
 
-abbrev Inv-loop : tie.InvT-loop
-Inv-loop octets bit count sum₀ k₀ sum k =
-    (k ≤ count) × (sum ≤ 511 * k)
-    × (sum + sumLow (rowAt wordBits octets (bit + 10 * k) (count - k)) ≡ sumLow (rowAt wordBits octets bit count))
+words-before-octet-requires : tie.Need-words-before-octet-requires
+words-before-octet-requires c κs = search needs
 
-abbrev μ-loop : tie.MeasureT-loop
-μ-loop octets bit count sum₀ k₀ sum k = count - k
+sum-singly-requires : tie.Need-sum-singly-requires
+sum-singly-requires c κs = search needs
 
-loop-holds : tie.Need-loop-holds Inv-loop μ-loop
-loop-holds c = (omega arith, omega arith, simp (zero-add, mul-zero, add-zero, sub-zero))
+returns : tie.Need-returns
+returns c = search needs
 
-mul-fetch : tie.Need-mul-fetch Inv-loop μ-loop
-mul-fetch c = search needs
+mul-last : tie.Need-mul-last
+mul-last c = search needs
 
-add-fetch : tie.Need-add-fetch Inv-loop μ-loop
-add-fetch c = search needs
+add-last : tie.Need-add-last
+add-last c = search needs
 
-fetch-requires : tie.Need-fetch-requires Inv-loop μ-loop
-fetch-requires c κs = search needs
+sum-singly-requires-2 : tie.Need-sum-singly-requires-2
+sum-singly-requires-2 c κs = search needs
 
-low-requires : tie.Need-low-requires Inv-loop μ-loop
-low-requires c κs = search needs
+mul-sum-fours : tie.Need-mul-sum-fours
+mul-sum-fours c = search needs
 
-add-sum : tie.Need-add-sum Inv-loop μ-loop
-add-sum c = search needs
+add-sum-fours : tie.Need-add-sum-fours
+add-sum-fours c = search needs
 
-add-k : tie.Need-add-k Inv-loop μ-loop
-add-k c = search needs
+sum-fours-requires : tie.Need-sum-fours-requires
+sum-fours-requires c κs = search needs
 
-loop-less : tie.Need-loop-less Inv-loop μ-loop
-loop-less c = search needs
-
-loop-again : tie.Need-loop-again Inv-loop μ-loop
-unfolding rowAt
-loop-again c =
+add-result : tie.Need-add-result
+add-result c =
     let a = c .before .before .before .before .before .args in
-    let l = c .before .before .before .loop in
-    let n : a .count - l .k ≡ suc (a .count - (l .k + 1)) = omega arith in
-    let b : a .bit + 10 * l .k + 10 ≡ a .bit + 10 * (l .k + 1) = omega arith in
-    (omega arith, omega arith, omega (arith, rw (n, b) at (l .inv .2)))
+    let first = c .before .before .before .words-before-octet .result in
+    omega (
+      arith,
+      c .before .sum-singly2 .ensures,
+      c .sum-fours .ensures,
+      sum-small (a .octets .now) (a .bit) first,
+      sum-small (a .octets .now) (8 * ((a .bit + 10 * first) / 8)) (4 * ((a .count - first) / 4)),
+    )
 
-returns : tie.Need-returns Inv-loop μ-loop
-unfolding rowAt
-returns c =
-    let e : c .before .before .before .args .count - c .before .loop .k ≡ 0 = omega arith in
-    omega (arith, rw e at (c .before .loop .inv .2))
+mul-sum-singly : tie.Need-mul-sum-singly
+mul-sum-singly c = search needs
+
+add-sum-singly : tie.Need-add-sum-singly
+add-sum-singly c = search needs
+
+sub-sum-singly : tie.Need-sub-sum-singly
+sub-sum-singly c = search needs
+
+sum-singly-requires-3 : tie.Need-sum-singly-requires-3
+sum-singly-requires-3 c κs = search needs
+
+add-result-2 : tie.Need-add-result-2
+add-result-2 c =
+    let a = c .before .before .before .before .before .before .args in
+    let first = c .before .before .before .before .words-before-octet .result in
+    let fours = (a .count - first) / 4 in
+    omega (
+      arith,
+      c .before .before .sum-singly2 .ensures,
+      c .before .sum-fours .ensures,
+      c .sum-singly3 .ensures,
+      sum-small (a .octets .now) (a .bit) first,
+      sum-small (a .octets .now) (8 * ((a .bit + 10 * first) / 8)) (4 * fours),
+      sum-small (a .octets .now) (a .bit + 10 * (first + 4 * fours)) (a .count - (first + 4 * fours)),
+    )
+
+returns-2 : tie.Need-returns-2
+returns-2 c =
+    let a = c .before .before .before .before .before .before .args in
+    let first = c .before .before .before .before .words-before-octet .result in
+    let fours = (a .count - first) / 4 in
+    let b : 8 * ((a .bit + 10 * first) / 8) ≡ a .bit + 10 * first = omega arith in
+    rw (c .sum-singly3 .ensures, c .before .sum-fours .ensures, c .before .before .sum-singly2 .ensures, b)
+    (sum-three (a .octets .now) (a .bit) first (4 * fours) (a .count - (first + 4 * fours)) (a .count) (omega arith))
 
 pub sum-octets-spec : {M : Type 1} → statement M
 sum-octets-spec =
     tie.close
     (tie.spec
-    Inv-loop
-    μ-loop
-    loop-holds
-    mul-fetch
-    add-fetch
-    fetch-requires
-    low-requires
-    add-sum
-    add-k
-    loop-less
-    loop-again
-    returns)
+    words-before-octet-requires
+    sum-singly-requires
+    returns
+    mul-last
+    add-last
+    sum-singly-requires-2
+    mul-sum-fours
+    add-sum-fours
+    sum-fours-requires
+    add-result
+    mul-sum-singly
+    add-sum-singly
+    sub-sum-singly
+    sum-singly-requires-3
+    add-result-2
+    returns-2)

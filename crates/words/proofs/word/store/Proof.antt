@@ -1,38 +1,33 @@
 -- `store` changes the ten bits from a bit on, and no other.
 -- By the law of a field stored in two octets.
 use borrow.Author.Needs.{needs}
+use Prim.Native.Nat.{ℕ, _+_, _/_, _<_}
 use native.Mathlib.Omega.{arith}
-use lib.ListN.{length-set}
+use lib.ListN.{getD, length-set}
 use Rattle.wire.proofs.Store.{store-ten}
 use Rattle.words.proofs.word.store.Statement.{statement}
 use Rattle.words.proofs.word.store.Tie as tie
 
-slice-read-pair : tie.Need-slice-read-pair
-slice-read-pair c = search needs
+sub-m : tie.Need-sub-m
+sub-m c = search needs
 
-add-pair : tie.Need-add-pair
-add-pair c = search needs
+slice-read-first-octet : tie.Need-slice-read-first-octet
+slice-read-first-octet c = search needs
 
-slice-read-pair-2 : tie.Need-slice-read-pair-2
-slice-read-pair-2 c = search needs
+first-octet-requires : tie.Need-first-octet-requires
+first-octet-requires c κs = search needs
 
-pair-requires : tie.Need-pair-requires
-pair-requires c κs = search needs
+add-second-octet : tie.Need-add-second-octet
+add-second-octet c = search needs
 
-sub-replace : tie.Need-sub-replace
-sub-replace c = search needs
+slice-read-second-octet : tie.Need-slice-read-second-octet
+slice-read-second-octet c = search needs
 
-replace-requires : tie.Need-replace-requires
-replace-requires c κs = search needs
-
-cast-octets : tie.Need-cast-octets
-cast-octets c = search needs
+second-octet-requires : tie.Need-second-octet-requires
+second-octet-requires c κs = search needs
 
 slice-write-octets : tie.Need-slice-write-octets
 slice-write-octets c = search needs
-
-cast-octets-2 : tie.Need-cast-octets-2
-cast-octets-2 c = search needs
 
 add-octets : tie.Need-add-octets
 add-octets c = search needs
@@ -47,22 +42,23 @@ returns : tie.Need-returns
 returns c =
     let a = c .before .before .before .before .before .args in
     let p = c .before .before .before .before .before .pre in
-    rw (c .replace .ensures, c .before .pair .ensures)
-    (store-ten (a .octets .now) (λ j. c .before .before .slice-known3 .given j .fits) (a .bit) (a .w) (omega arith) (omega arith) (p .1))
+    let s = a .octets .now in
+    let i = a .bit / 8 in
+    let octet : (j : ℕ) → getD s j 0 < 256 = λ j. c .before .slice-known3 .given j .fits in
+    rw (c .before .before .first-octet .ensures (getD s (i + 1) 0) (octet (i + 1)), c .second-octet .ensures (getD s i 0))
+    (store-ten s octet (a .bit) (a .w) (omega arith) (omega arith) (p .1))
 
 pub store-spec : {M : Type 1} → statement M
 store-spec =
     tie.close
     (tie.spec
-    slice-read-pair
-    add-pair
-    slice-read-pair-2
-    pair-requires
-    sub-replace
-    replace-requires
-    cast-octets
+    sub-m
+    slice-read-first-octet
+    first-octet-requires
+    add-second-octet
+    slice-read-second-octet
+    second-octet-requires
     slice-write-octets
-    cast-octets-2
     add-octets
     slice-write-octets-2
     same-length

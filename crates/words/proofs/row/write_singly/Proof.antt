@@ -1,4 +1,4 @@
--- `write_words` stores the words from a bit on, and changes no other bit.
+-- `write_singly` stores the words from a bit on, and changes no other bit.
 -- Invariant: the words that are left, stored behind those that are, make all of them stored.
 use borrow.Author.Needs.{needs}
 use mathlib.Core.Path.{_≡_, refl, sym, _∙_}
@@ -13,8 +13,8 @@ use Rattle.wire.specs.Words.{wordBits}
 use Rattle.wire.proofs.BitLaws.{below-at, length-bits}
 use Rattle.wire.proofs.ListLaws.{splice-none}
 use Rattle.words.proofs.Rows.{store-next}
-use Rattle.words.proofs.row.write_words.Statement.{statement}
-use Rattle.words.proofs.row.write_words.Tie as tie
+use Rattle.words.proofs.row.write_singly.Statement.{statement}
+use Rattle.words.proofs.row.write_singly.Tie as tie
 
 abbrev Inv-loop : tie.InvT-loop
 Inv-loop words octets₀ bit k₀ octets k =
@@ -79,8 +79,8 @@ returns c =
     let a = c .before .before .before .before .args in
     sym (splice-none (bits (l .octets)) (a .bit + 10 * length w)) ∙ (rw (e, drop-length w) at (l .inv .2))
 
-pub write-words-spec : {M : Type 1} → statement M
-write-words-spec =
+pub write-singly-spec : {M : Type 1} → statement M
+write-singly-spec =
     tie.close
     (tie.spec
     Inv-loop
