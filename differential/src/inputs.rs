@@ -1,7 +1,7 @@
 //! Random calls of every entry point, with the memory lent to them: the
 //! reference's generators, and what the boundary adds.
 
-use reference::keeper::State;
+use reference::depacketizer::State;
 use reference::random::{self, Random};
 
 use crate::call::{Call, Lengths, Memory};

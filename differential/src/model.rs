@@ -1,6 +1,6 @@
 //! The boundary over the reference: its rows, and nothing else of its own.
 
-use reference::keeper::{arrive, open, Answer, State, FILLING};
+use reference::depacketizer::{arrive, open, Answer, State, FILLING};
 use reference::{file, packet, sdp, Refusal};
 
 use crate::{Head, Side, ANSWER, HELD, MIXED, OVERFULL, ROW, SKIPPED, STATE, WHOLE};

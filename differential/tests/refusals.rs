@@ -8,7 +8,7 @@ use differential::call::{compare, Call, Lengths, Memory};
 use differential::model::row_of;
 use differential::{Head, ANSWER, NO_VPID, STATE};
 use reference::anc::packet_octets;
-use reference::keeper::{open, State, FILLING, LOST, READY};
+use reference::depacketizer::{open, State, FILLING, LOST, READY};
 use reference::packet;
 use reference::random::{file_field, Parts, Random};
 use reference::runs::{cells, changed, records, A, HEAD};

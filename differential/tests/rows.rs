@@ -5,7 +5,7 @@ use differential::call::{compare, Call, Lengths, Memory};
 use differential::inputs::BOUNDED;
 use differential::model::row_of;
 use differential::{Head, ANSWER, NO_VPID, ROW, STATE};
-use reference::keeper::open;
+use reference::depacketizer::open;
 use reference::random::Random;
 use reference::runs::{A, HEAD};
 

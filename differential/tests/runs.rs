@@ -4,7 +4,7 @@
 use differential::call::{compare, Call, Lengths, Memory};
 use differential::model::row_of;
 use differential::{Archive, Head, Side, ANSWER, STATE};
-use reference::keeper::{open, State, READY};
+use reference::depacketizer::{open, State, READY};
 use reference::packet::{self, Summary};
 use reference::random::Random;
 use reference::runs::{cells, changed, records, Sides, A, A_AT, A_OCTETS, HEAD};

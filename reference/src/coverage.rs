@@ -2,7 +2,7 @@
 
 use std::collections::BTreeMap;
 
-use crate::keeper::{arrive, open, Answer};
+use crate::depacketizer::{arrive, open, Answer};
 use crate::packet::{self, check};
 use crate::random::*;
 use crate::refusal::Refusal;
@@ -13,7 +13,7 @@ use crate::{file, frames, sdp};
 #[derive(Debug, Default)]
 pub struct Coverage {
     pub counts: BTreeMap<(&'static str, u8, usize), u64>,
-    /// The keeper's answers by name.
+    /// The depacketizer's answers by name.
     pub answers: BTreeMap<(&'static str, &'static str), u64>,
 }
 
@@ -111,17 +111,17 @@ fn cover_files(r: &mut Random, c: &mut Coverage) {
     c.add("file begin", file::begin(&mut vec![0; r.below(10)]));
 }
 
-/// The frames of a `fieldlist` input, given to a keeper as it does.
+/// The frames of a `fieldlist` input, given to a depacketizer as it does.
 fn cover_frames(r: &mut Random, c: &mut Coverage) {
     let input = framed(r);
-    let mut keeper = None;
+    let mut depacketizer = None;
     let mut store = vec![0; crate::anc::MAX_CELLS];
     for frame in frames::Frames::new(&input) {
         let frames::Frame::Packet(octets) = frame else {
             *c.answers.entry(("frames", "cut")).or_default() += 1;
             continue;
         };
-        let state = match (keeper, check(octets)) {
+        let state = match (depacketizer, check(octets)) {
             (Some(state), _) => state,
             (None, Ok(accepted)) => {
                 let summary = accepted.summary;
@@ -133,7 +133,7 @@ fn cover_frames(r: &mut Random, c: &mut Coverage) {
             }
         };
         let (state, answer) = arrive(state, octets, &mut store);
-        keeper = Some(state);
+        depacketizer = Some(state);
         c.add_answer("frames", answer);
     }
 }

@@ -3,8 +3,8 @@
 use std::fmt::Write;
 
 use crate::anc::{MAX_CELLS, RECORD_HEAD};
+use crate::depacketizer::{arrive, open, Answer, State};
 use crate::frames::{Frame, Frames};
-use crate::keeper::{arrive, open, Answer, State};
 use crate::packet::check;
 use crate::refusal::Refusal;
 
@@ -23,7 +23,7 @@ pub fn fieldlist(input: &[u8]) -> String {
 
 struct Listing {
     text: String,
-    keeper: Option<State>,
+    depacketizer: Option<State>,
     store: Vec<u16>,
 }
 
@@ -31,7 +31,7 @@ impl Listing {
     fn new() -> Listing {
         Listing {
             text: String::from("fieldlist 1\n"),
-            keeper: None,
+            depacketizer: None,
             store: vec![0; MAX_CELLS],
         }
     }
@@ -46,13 +46,13 @@ impl Listing {
         self.line(format_args!("refused {number} {index}"));
     }
 
-    /// The first packet that passes 1 to 13 opens the keeper.
+    /// The first packet that passes 1 to 13 opens the depacketizer.
     fn packet(&mut self, octets: &[u8]) {
         let summary = match check(octets) {
             Ok(accepted) => accepted.summary,
             Err(refusal) => return self.refused(refusal),
         };
-        let opened = match self.keeper {
+        let opened = match self.depacketizer {
             Some(state) => Ok(state),
             None => open(summary.source, summary.payload_type),
         };
@@ -64,7 +64,7 @@ impl Listing {
 
     fn arrival(&mut self, number: u32, state: State, octets: &[u8]) {
         let (state, answer) = arrive(state, octets, &mut self.store);
-        self.keeper = Some(state);
+        self.depacketizer = Some(state);
         match answer {
             Answer::Skipped => self.line(format_args!("{number} skipped")),
             Answer::Held => self.line(format_args!("{number} held")),
@@ -97,9 +97,9 @@ impl Listing {
         }
     }
 
-    /// Without a keeper the counts are 0.
+    /// Without a depacketizer the counts are 0.
     fn counts(&mut self) {
-        let [fresh, late, missing] = match self.keeper {
+        let [fresh, late, missing] = match self.depacketizer {
             Some(state) => [state.fresh, state.late, state.missing],
             None => [0; 3],
         };

@@ -8,10 +8,10 @@
 
 pub mod anc;
 pub mod coverage;
+pub mod depacketizer;
 pub mod fieldlist;
 pub mod file;
 pub mod frames;
-pub mod keeper;
 pub mod packet;
 pub mod random;
 pub mod realistic;

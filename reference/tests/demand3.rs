@@ -4,9 +4,9 @@
 
 use std::ops::Range;
 
+use reference::depacketizer::{arrive, open, Answer, State};
 use reference::fieldlist;
 use reference::frames::put_frame;
-use reference::keeper::{arrive, open, Answer, State};
 use reference::random::*;
 
 /// Places in the stream of each arrival that is fresh.

@@ -2,7 +2,7 @@
 -- One store after the other is one store of both.
 use mathlib.Core.Path.{_≡_, ap, _∙_}
 use mathlib.Core.List.{List, _++_}
-use Prim.Native.Nat.{ℕ, _+_, _-_, _<_, _≤_, zero-le}
+use Prim.Native.Nat.{ℕ, _-_, _<_, zero-le}
 use lib.ListN.{length, take, drop}
 use Rattle.wire.specs.Bits.{overwrite, splice}
 use Rattle.wire.specs.Anc.{Record}

@@ -1,7 +1,7 @@
 -- A run checked or read packet by packet: the first packet, and the run behind it.
 -- By cases on what the first packet is.
 use mathlib.Core.Path.{_≡_, refl, ap, ap₂, sym, _∙_, subst, subst₃}
-use mathlib.Core.List.{List, [], _∷_, _++_}
+use mathlib.Core.List.{List, _∷_, _++_}
 use Prim.Native.Nat.{ℕ, suc, _+_, _-_, _≤_}
 use native.Mathlib.Nat.{zero-add}
 use native.Mathlib.Omega.{arith}
@@ -10,7 +10,7 @@ use borrow.Author.Tests.{leb-true}
 use Rattle.wire.specs.declared.refusal.Refusal.{Refusal}
 use Rattle.wire.specs.declared.count.WordCount.{WordCount}
 use Rattle.wire.specs.Bits.{overwrite, splice}
-use Rattle.wire.specs.Result.{Result, refused, accepted, judge, _then_, IsAccepted}
+use Rattle.wire.specs.Result.{Result, refused, accepted, _then_, IsAccepted}
 use Rattle.wire.specs.Layout.{rfc8331}
 use Rattle.wire.specs.Anc.{Record, ancRecord, ancSize, dataCount, ancChecks, readAnc, readRun, behind, runSize}
 use Rattle.wire.specs.Cells.{headCells, cellsOf, listOf}
@@ -19,7 +19,6 @@ use Rattle.wire.proofs.ResultLaws.{judge-accepts}
 use Rattle.wire.proofs.AncLaws.{count-read, record-read}
 use Rattle.anc.proofs.PacketLaws.{length-words}
 use Rattle.anc.specs.Answers.{verdictOf, runOf, runCells}
-use Rattle.anc.specs.declared.check.Verdict.{Verdict}
 use Rattle.anc.specs.declared.check.Verdict.the-variants as verdict
 use Rattle.anc.specs.declared.check.Run.{Run}
 use Rattle.anc.specs.declared.check.Run.the-variants as run

@@ -3,7 +3,7 @@ use mathlib.Core.List.{List, []}
 use Prim.Native.Nat.{ℕ}
 use lib.ListN.{length}
 use Rattle.wire.specs.declared.refusal.Refusal.{Refusal}
-use Rattle.wire.specs.Result.{Result, refused, accepted}
+use Rattle.wire.specs.Result.{Result, refused, accepted, noRefusal}
 use Rattle.wire.specs.Layout.{rfc8331}
 use Rattle.wire.specs.Anc.{Record, runSize}
 use Rattle.wire.specs.Cells.{listOf}
@@ -12,21 +12,22 @@ use Rattle.anc.specs.declared.check.Verdict.the-variants as verdict
 use Rattle.anc.specs.declared.check.Run.{Run}
 use Rattle.anc.specs.declared.check.Run.the-variants as run
 
--- one packet: its Data_Count
+-- one packet (01, "Order of reading": 9 to 12): its Data_Count, which "counts ten-bit words"
 abbrev pub verdictOf : Result Record → Verdict
 verdictOf (refused x) = verdict.Refused x
 verdictOf (accepted r) = verdict.Accepted (record { 0 = length (r .words) })
 
--- a run: the octets of its packets, and the cells of its records
+-- a run: the octets of its packets, as "Length counts octets", and the cells of its records, for 14: "lent list shorter than the records need"
 abbrev pub runOf : Result (List Record × List ℕ) → Run
 runOf (refused x) = run.Refused x
 runOf (accepted q) = run.Accepted (record { 0 = runSize rfc8331 (q .0) }) (length (listOf (q .0)))
 
+-- the refusal of a run: "its number and an index from 0: the ANC packet for 9 to 12"
 abbrev pub runRefusal : Run → Refusal
 runRefusal (run.Refused x) = x
-runRefusal (run.Accepted o c) = record { number = 0; index = 0 }
+runRefusal (run.Accepted o c) = noRefusal
 
--- the cells of a run's records
+-- the cells of a run's records (01, "Records in a lent list")
 abbrev pub runCells : Result (List Record × List ℕ) → List ℕ
 runCells (refused x) = []
 runCells (accepted q) = listOf (q .0)

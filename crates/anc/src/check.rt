@@ -1,19 +1,27 @@
 // Packets checked, without writing anything (01, "Order of reading").
 ghost use mathlib.Core.Path.{_≡_};
-ghost use Prim.Native.Nat.{_+_, _*_, _<_, _≤_, _^_};
+ghost use Prim.Native.Nat.{_≤_};
 ghost use lib.ListN.{length};
 ghost use Rattle.wire.specs.Anc.{alignmentOk, ancSize, checksumOk, dataCount, headersOk, readAnc, readRun};
 ghost use Rattle.wire.specs.Layout.{leastSize, rfc8331};
-ghost use Rattle.wire.specs.Words.{isHeaderWord, wordBits};
+ghost use Rattle.wire.specs.Words.{isHeaderWord};
 ghost use Rattle.anc.specs.Answers.{runOf, runRefusal, verdictOf};
+use rows::sum::sum_octets;
 use wire::count::OctetCount;
 use wire::count::WordCount;
 use wire::header::Header;
+use wire::layout::DATA_COUNT_AT;
+use wire::layout::DID_AT;
+use wire::layout::FIXED_BITS;
+use wire::layout::LEAST_SIZE;
+use wire::layout::SDID_AT;
+use wire::layout::WORD_BITS;
+use wire::layout::WORDS_AT;
 use wire::refusal::Refusal;
+use words::checksum::checksum_word;
+use words::octet::quad_at;
 use words::parity::header_word;
 use words::size::packet_size;
-use words::sum::checksum_word;
-use words::sum::sum_octets;
 use words::word::fetch;
 
 // What one packet is.
@@ -39,13 +47,13 @@ fn header_words_ok(octets: &[u8]) -> bool
     requires { ⌜ leastSize rfc8331 ≤ length (now octets) ⌝ }
     ensures { λ r. ⌜ r ≡ headersOk rfc8331 (now (octets .entry)) ⌝ }
 {
-    if !is_header_word(fetch(octets, 32)) {
+    if !is_header_word(fetch(octets, DID_AT)) {
         return false;
     }
-    if !is_header_word(fetch(octets, 42)) {
+    if !is_header_word(fetch(octets, SDID_AT)) {
         return false;
     }
-    is_header_word(fetch(octets, 52))
+    is_header_word(fetch(octets, DATA_COUNT_AT))
 }
 
 fn checksum_ok(octets: &[u8], words: WordCount) -> bool
@@ -53,15 +61,8 @@ fn checksum_ok(octets: &[u8], words: WordCount) -> bool
     ensures { λ r. ⌜ r ≡ checksumOk rfc8331 (now (octets .entry)) ⌝ }
 {
     let n = words.0 as usize;
-    let sum = sum_octets(octets, 32, 3 + n);
-    fetch(octets, 62 + 10 * n) == checksum_word(sum)
-}
-
-// Four octets as one number.
-fn quad(a: u8, b: u8, c: u8, d: u8) -> u32
-    ensures { λ r. ⌜ r ≡ ((a * 256 + b) * 256 + c) * 256 + d ⌝ }
-{
-    (((a as u32) * 256 + (b as u32)) * 256 + (c as u32)) * 256 + (d as u32)
+    let sum = sum_octets(octets, DID_AT, 3 + n);
+    fetch(octets, WORDS_AT + WORD_BITS * n) == checksum_word(sum)
 }
 
 // The alignment bits stand last in the packet's last four octets.
@@ -71,9 +72,8 @@ fn alignment_ok(octets: &[u8], words: WordCount) -> bool
 {
     let size = packet_size(words);
     let n = words.0 as usize;
-    let i = size.0 - 4;
-    let unit: u32 = 1 << (8 * size.0 - (72 + 10 * n));
-    quad(octets[i], octets[i + 1], octets[i + 2], octets[i + 3]) % unit == 0
+    let unit: u32 = 1 << (8 * size.0 - (FIXED_BITS + WORD_BITS * n));
+    quad_at(octets, size.0 - 4) % unit == 0
 }
 
 impl Run {
@@ -106,13 +106,13 @@ impl Verdict {
 fn check_packet(octets: &[u8], index: usize) -> Verdict
     ensures { λ r. ⌜ r ≡ verdictOf (readAnc rfc8331 index (now (octets .entry))) ⌝ }
 {
-    if octets.len() < 12 {
+    if octets.len() < LEAST_SIZE {
         return Verdict::refuse(Refusal::ANC_CUT, index);
     }
     if !header_words_ok(octets) {
         return Verdict::refuse(Refusal::HEADER_WORD_MALFORMED, index);
     }
-    let words = WordCount((fetch(octets, 52) % 256) as u8);
+    let words = WordCount((fetch(octets, DATA_COUNT_AT) % 256) as u8);
     let size = packet_size(words);
     if octets.len() < size.0 {
         return Verdict::refuse(Refusal::ANC_CUT, index);

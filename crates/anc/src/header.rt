@@ -1,4 +1,5 @@
-// What stands before a packet's words: from octets, and to cells.
+// What stands before a packet's words: from octets, and to cells. `read_header` asks for the least octets of a packet, `store_header` for the cells
+// before a record's words.
 ghost use mathlib.Core.Path.{_≡_};
 ghost use Prim.Native.Nat.{_≤_};
 ghost use lib.ListN.{length};
@@ -9,10 +10,16 @@ ghost use Rattle.wire.specs.Header.{headerCells, headerOf};
 ghost use Rattle.wire.specs.Layout.{leastSize, rfc8331};
 use wire::count::WordCount;
 use wire::header::Header;
+use wire::layout::DATA_COUNT_AT;
+use wire::layout::DID_AT;
+use wire::layout::SDID_AT;
 use wire::location::Line;
 use wire::location::Location;
 use wire::location::Offset;
 use words::word::fetch;
+
+// The cell n of a record (01, "Records in a lent list").
+const COUNT_CELL: usize = 7;
 
 fn wide(x: u8) -> u16
     ensures { λ r. ⌜ r ≡ x ⌝ }
@@ -27,7 +34,7 @@ fn flag(b: bool) -> u16
 }
 
 // The header of the packet at the front of the octets.
-pub fn read_header(octets: &[u8]) -> Header
+pub(crate) fn read_header(octets: &[u8]) -> Header
     requires { ⌜ leastSize rfc8331 ≤ length (now octets) ⌝ }
     ensures { λ r. ⌜ r ≡ headerOf (ancRecord rfc8331 (now (octets .entry))) ⌝ }
 {
@@ -43,14 +50,14 @@ pub fn read_header(octets: &[u8]) -> Header
         },
         s: o3 / 128 == 1,
         stream: (o3 % 128) as u8,
-        did: (fetch(octets, 32) % 256) as u8,
-        sdid: (fetch(octets, 42) % 256) as u8,
-        words: WordCount((fetch(octets, 52) % 256) as u8),
+        did: (fetch(octets, DID_AT) % 256) as u8,
+        sdid: (fetch(octets, SDID_AT) % 256) as u8,
+        words: WordCount((fetch(octets, DATA_COUNT_AT) % 256) as u8),
     }
 }
 
 // Writes the header to the first cells.
-pub fn store_header(h: Header, cells: &mut [u16])
+pub(crate) fn store_header(h: Header, cells: &mut [u16])
     requires { ⌜ headCells ≤ length (now cells) ⌝ }
     ensures { λ r. ⌜ now (cells .exit) ≡ overwrite (headerCells h) (now (cells .entry)) ⌝ }
 {
@@ -65,5 +72,5 @@ pub fn store_header(h: Header, cells: &mut [u16])
     cells[4] = wide(h.stream);
     cells[5] = wide(h.did);
     cells[6] = wide(h.sdid);
-    cells[7] = wide(words.0);
+    cells[COUNT_CELL] = wide(words.0);
 }

@@ -10,9 +10,10 @@ ghost use Rattle.wire.specs.Result.{IsAccepted};
 ghost use Rattle.anc.specs.Answers.{runCells};
 use crate::header::read_header;
 use crate::header::store_header;
+use rows::row::read_words;
 use wire::count::WordCount;
 use wire::header::Header;
-use words::row::read_words;
+use wire::layout::WORDS_AT;
 use words::size::packet_size;
 
 // Writes the record of the packet at the front of the octets to the first cells; its Data_Count.
@@ -25,7 +26,8 @@ fn read_packet(octets: &[u8], cells: &mut [u16]) -> WordCount
     let h = read_header(octets);
     store_header(h, cells);
     let words = h.words;
-    read_words(octets, 62, words.0 as usize, &mut cells[Header::CELLS..]);
+    let n = words.0 as usize;
+    read_words(octets, WORDS_AT, n, &mut cells[Header::CELLS..]);
     words
 }
 

@@ -5,8 +5,8 @@ use mathlib.Core.List.{[], _∷_}
 use lib.ListN.{replicate}
 use Rattle.depacketizer.specs.Step.{openState}
 use Rattle.sdp.specs.declared.parameters.Vpid.the-variants as vpid
-use Rattle.capi.specs.declared.state.Restored.the-variants as restored
-use Rattle.capi.specs.State.{isState, stateIn}
+use Rattle.boundary.specs.declared.state.Restored.the-variants as restored
+use Rattle.boundary.specs.State.{isState, stateIn}
 use Rattle.capi.specs.Calls.{arrive, openNumbers, openReply, readReply, vpidOf}
 
 -- an answer of seven numbers, and a state of eleven

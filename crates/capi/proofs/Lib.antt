@@ -1,3 +1,3 @@
 pub mod Examples
+pub mod KeptLaws
 pub mod RowLaws
-pub mod StateLaws

@@ -6,7 +6,7 @@ use Prim.Native.Nat.{ℕ, _≤_}
 use lib.Dec.{leb}
 use borrow.Author.Tests.{leb-true}
 use Rattle.wire.proofs.ResultLaws.{and-true}
-use Rattle.capi.specs.Rows.{answerSize, stateSize}
+use Rattle.boundary.specs.Rows.{answerSize, stateSize}
 use Rattle.capi.specs.Calls.{rowsFit}
 
 pub rows-long : (state answer : ℕ) → rowsFit state answer ≡ true → (stateSize ≤ state) × (answerSize ≤ answer)

@@ -11,6 +11,7 @@ use Rattle.wire.specs.Writing.{writeContent}
 use Rattle.wire.specs.Written.{octetsAfter, writtenOf}
 use Rattle.rtp.specs.declared.packet.Head.{Head}
 use Rattle.rtp.specs.Answers as rtp
+use Rattle.packetizer.specs.Answers as packetizer
 use Rattle.depacketizer.specs.declared.state.Opened.{Opened}
 use Rattle.depacketizer.specs.declared.state.Opened.the-variants as opened
 use Rattle.depacketizer.specs.Step.{Step, step, openOf}
@@ -22,10 +23,10 @@ use Rattle.sdp.specs.Writing.{writeText}
 use Rattle.fmtp.specs.Answers as fmtp
 use Rattle.fieldfile.specs.File as file
 use Rattle.fieldfile.specs.Answers as field
-use Rattle.capi.specs.declared.state.Restored.{Restored}
-use Rattle.capi.specs.declared.state.Restored.the-variants as restored
-use Rattle.capi.specs.Rows.{Reply, refusedReply, acceptedReply, rowReply, packetReply, writtenReply, arrivalReply, parametersReply, fieldReply, given, answerSize, stateSize}
-use Rattle.capi.specs.State.{numbersOf, stateIn}
+use Rattle.boundary.specs.declared.state.Restored.{Restored}
+use Rattle.boundary.specs.declared.state.Restored.the-variants as restored
+use Rattle.boundary.specs.Rows.{Reply, refusedReply, acceptedReply, rowReply, packetReply, writtenReply, arrivalReply, parametersReply, fieldReply, given, answerSize, stateSize}
+use Rattle.boundary.specs.State.{numbersOf, stateIn}
 
 -- `jibhotran_read`: its reply
 abbrev pub readReply : (octets cells answer : List ℕ) → Reply
@@ -49,11 +50,11 @@ headOf source type marker number timestamp f =
 
 -- `jibhotran_write`: its reply
 abbrev pub writeReply : Head → (cells out answer : List ℕ) → Reply
-writeReply head cells out answer = given answer (writtenReply (writtenOf (writeContent rfc8331 (rtp.contentOf head) cells (length out)))) rowReply
+writeReply head cells out answer = given answer (writtenReply (writtenOf (writeContent rfc8331 (packetizer.contentOf head) cells (length out)))) rowReply
 
 -- the octets then
 abbrev pub writeOctets : Head → (cells out answer : List ℕ) → List ℕ
-writeOctets head cells out answer = given answer (octetsAfter (writeContent rfc8331 (rtp.contentOf head) cells (length out)) out) out
+writeOctets head cells out answer = given answer (octetsAfter (writeContent rfc8331 (packetizer.contentOf head) cells (length out)) out) out
 
 -- are both rows long enough
 abbrev pub rowsFit : (state answer : ℕ) → Bool

@@ -1,50 +1,13 @@
 // SDP format parameters, and whether a record is wanted.
 ghost use mathlib.Core.Path.{_≡_};
-ghost use Prim.Native.Nat.{_≤_};
-ghost use lib.ListN.{length};
 ghost use Rattle.wire.specs.Bits.{bit, overwrite};
 ghost use Rattle.filter.specs.Wanted.{wantedIn};
 ghost use Rattle.capi.specs.Calls.{sdpPairs, sdpReadReply, sdpText, sdpWriteReply, vpidOf};
-ghost use Rattle.capi.specs.Rows.{answerSize, codeOr0, hasCode, parametersRow};
-use crate::row::ACCEPTED;
-use crate::row::ANSWER_SIZE;
-use crate::row::ROW_TOO_SHORT;
-use crate::row::put;
-use crate::row::refuse;
-use crate::row::reply;
-use fmtp::read::Reading;
-use sdp::parameters::Parameters;
+use crate::length::ANSWER_SIZE;
+use crate::length::ROW_TOO_SHORT;
+use boundary::answer::reply_reading;
+use boundary::answer::reply_written;
 use sdp::parameters::Vpid;
-
-// 1 where there is a code.
-fn has_code(vpid: Vpid) -> u64
-    ensures { λ r. ⌜ r ≡ hasCode vpid ⌝ }
-{
-    match vpid {
-        Vpid::Code(_) => 1,
-        Vpid::Absent => 0,
-    }
-}
-
-// The code, or 0 where there is none.
-fn code_or_0(vpid: Vpid) -> u64
-    ensures { λ r. ⌜ r ≡ codeOr0 vpid ⌝ }
-{
-    match vpid {
-        Vpid::Code(code) => code as u64,
-        Vpid::Absent => 0,
-    }
-}
-
-// Pairs, whether there is a VPID code, the code.
-fn put_parameters(parameters: Parameters, answer: &mut [u64])
-    requires { ⌜ answerSize ≤ length (now answer) ⌝ }
-    ensures { λ r. ⌜ now (answer .exit) ≡ overwrite (parametersRow parameters) (now (answer .entry)) ⌝ }
-{
-    let vpid = parameters.vpid;
-    let values = [parameters.pairs as u64, has_code(vpid), code_or_0(vpid)];
-    put(&values, answer);
-}
 
 // Reads SDP format parameters, the pairs into octets, DID then SDID.
 #[no_mangle]
@@ -57,13 +20,7 @@ pub extern "C" fn jibhotran_sdp_read(text: &[u8], pairs: &mut [u8], answer: &mut
         return ROW_TOO_SHORT;
     }
     let reading = fmtp::read::read(text, pairs);
-    match reading {
-        Reading::Refused(refusal) => refuse(refusal, answer),
-        Reading::Accepted(parameters) => {
-            put_parameters(parameters, answer);
-            ACCEPTED
-        }
-    }
+    reply_reading(reading, answer)
 }
 
 // A number up to the largest code is a VPID code; any other is none.
@@ -93,7 +50,7 @@ pub extern "C" fn jibhotran_sdp_write(
         return ROW_TOO_SHORT;
     }
     let written = fmtp::write::write(pairs, vpid_of(vpid), out);
-    reply(written, answer)
+    reply_written(written, answer)
 }
 
 // 1 where a record of these numbers is wanted, and 0 where not.

@@ -1,36 +1,37 @@
 -- What the answers say in the papers' terms: the refusal, or what was found.
-use mathlib.Core.Bool.{cond}
 use mathlib.Core.List.{List, []}
 use Prim.Native.Nat.{ℕ}
 use lib.ListN.{length}
 use Rattle.wire.specs.declared.refusal.Refusal.{Refusal}
-use Rattle.wire.specs.Result.{Result, refused, accepted, judge}
+use Rattle.wire.specs.Result.{Result, refused, accepted, noRefusal, judge}
 use Rattle.wire.specs.Layout.{rfc8331}
 use Rattle.wire.specs.Anc.{Record, runSize, runOctets}
-use Rattle.wire.specs.Cells.{cellChecks, cellCount, cellRecord}
+use Rattle.wire.specs.Cells.{cellChecks, cellRecord}
 use Rattle.cells.specs.declared.check.Front.{Front}
 use Rattle.cells.specs.declared.check.Front.the-variants as front
 use Rattle.cells.specs.declared.check.Listed.{Listed}
 use Rattle.cells.specs.declared.check.Listed.the-variants as listed
 
+-- a record, by its n; or 20: "list malformed", the same for all of its cases
 abbrev pub frontFrom : Result Record → Front
 frontFrom (refused x) = front.Malformed
 frontFrom (accepted r) = front.Record (record { 0 = length (r .words) })
 
--- the record at the front: its n
+-- the record at the front of the cells
 abbrev pub frontOf : List ℕ → Front
 frontOf l = frontFrom (judge 0 (cellChecks l) (accepted (cellRecord l)))
 
--- a list: how many records, and the octets of their packets
+-- a list: how many records, for 21, and the octets of their packets, for 22 and 23
 abbrev pub listedOf : Result (List Record) → Listed
 listedOf (refused x) = listed.Refused x
 listedOf (accepted rs) = listed.Records (length rs) (record { 0 = runSize rfc8331 rs })
 
+-- the refusal of a list: "its number and an index from 0: .. the record for 20"
 abbrev pub listRefusal : Listed → Refusal
 listRefusal (listed.Refused x) = x
-listRefusal (listed.Records n o) = record { number = 0; index = 0 }
+listRefusal (listed.Records n o) = noRefusal
 
--- the octets of a list's records
+-- the octets of a list's records (01, "The packet": each ANC packet)
 abbrev pub listOctets : Result (List Record) → List ℕ
 listOctets (refused x) = []
 listOctets (accepted rs) = runOctets rfc8331 rs

@@ -5,6 +5,7 @@ ghost use lib.ListN.{length};
 ghost use Rattle.wire.specs.Cells.{allBelow, headCells, headInRange, readList};
 ghost use Rattle.wire.specs.Words.{wordBits};
 ghost use Rattle.cells.specs.Answers.{frontOf, listRefusal, listedOf};
+use crate::header::COUNT_CELL;
 use wire::count::OctetCount;
 use wire::count::WordCount;
 use wire::header::Header;
@@ -53,7 +54,7 @@ fn head_in_range(cells: &[u16]) -> bool
         & (cells[4] < 128)
         & (cells[5] < 256)
         & (cells[6] < 256)
-        & (cells[7] < 256)
+        & (cells[COUNT_CELL] < 256)
 }
 
 // Each word fits ten bits. It looks at all of them, so that the compiler looks at eight at once.
@@ -79,7 +80,7 @@ fn check_record(cells: &[u16]) -> Front
     if !head_in_range(cells) {
         return Front::Malformed;
     }
-    let n = cells[7] as usize;
+    let n = cells[COUNT_CELL] as usize;
     let end = Header::CELLS + n;
     if cells.len() < end {
         return Front::Malformed;

@@ -1,4 +1,5 @@
-// What stands before a record's words: from cells, and to octets.
+// What stands before a record's words: from cells, and to octets. `header_at` asks for a record that was checked, `write_location` for numbers that fit
+// their fields and the four octets.
 ghost use mathlib.Core.Path.{_≡_};
 ghost use Prim.Native.Nat.{_+_, _≤_};
 ghost use lib.ListN.{length};
@@ -13,6 +14,9 @@ use wire::location::Line;
 use wire::location::Location;
 use wire::location::Offset;
 
+// The cell n of a record (01, "Records in a lent list").
+pub(crate) const COUNT_CELL: usize = 7;
+
 fn flag(b: bool) -> u16
     ensures { λ r. ⌜ r ≡ bit b ⌝ }
 {
@@ -20,7 +24,7 @@ fn flag(b: bool) -> u16
 }
 
 // The header of the record at the front of the cells.
-pub fn header_at(cells: &[u16]) -> Header
+pub(crate) fn header_at(cells: &[u16]) -> Header
     requires { ⌜ WellFormed rfc8331 (cellRecord (now cells)) × (headCells + cellCount (now cells) ≤ length (now cells)) ⌝ }
     ensures { λ r. ⌜ r ≡ headerOf (cellRecord (now (cells .entry))) ⌝ }
 {
@@ -34,12 +38,12 @@ pub fn header_at(cells: &[u16]) -> Header
         stream: cells[4] as u8,
         did: cells[5] as u8,
         sdid: cells[6] as u8,
-        words: WordCount(cells[7] as u8),
+        words: WordCount(cells[COUNT_CELL] as u8),
     }
 }
 
 // Writes the four octets before DID.
-pub fn write_location(h: Header, octets: &mut [u8])
+pub(crate) fn write_location(h: Header, octets: &mut [u8])
     requires { ⌜ Fit (locationFields h) × (4 ≤ length (now octets)) ⌝ }
     ensures { λ r. ⌜ now (octets .exit) ≡ overwrite (pack (locationFields h)) (now (octets .entry)) ⌝ }
 {

@@ -1,24 +1,28 @@
-// Records that were checked, written as octets. Both functions ask that the check accepted what they write.
+// Records that were checked, written as octets. Each function asks that the check accepted what it writes, and for the room.
 ghost use mathlib.Core.Path.{_≡_};
-ghost use Prim.Native.Nat.{_+_, _-_, _≤_};
+ghost use Prim.Native.Nat.{_+_, _-_, _^_, _<_, _≤_};
 ghost use mathlib.Core.List.{[], _∷_};
 ghost use lib.ListN.{length};
-ghost use Rattle.wire.specs.Anc.{WellFormed, ancOctets, ancSize};
-ghost use Rattle.wire.specs.Bits.{overwrite, splice};
+ghost use Rattle.wire.specs.Anc.{WellFormed, ancOctets, ancSize, didAt, wordsAt};
+ghost use Rattle.wire.specs.Bits.{Below, bits, fieldBits, overwrite, row, splice};
 ghost use Rattle.wire.specs.Cells.{cellCount, cellRecord, headCells, readList};
-ghost use Rattle.wire.specs.Layout.{rfc8331};
+ghost use Rattle.wire.specs.Layout.{leastSize, rfc8331};
 ghost use Rattle.wire.specs.Result.{IsAccepted};
-ghost use Rattle.wire.specs.Words.{HeaderTable};
+ghost use Rattle.wire.specs.Words.{HeaderTable, headerNumbers, sumLow, wordBits};
 ghost use Rattle.cells.specs.Answers.{listOctets};
+ghost use Rattle.cells.specs.Packet.{headWords, summed};
 use crate::header::header_at;
 use crate::header::write_location;
+use rows::row::write_singly;
+use rows::row::write_words;
+use rows::sum::sum_cells;
 use wire::count::WordCount;
 use wire::header::Header;
-use words::row::write_singly;
-use words::row::write_words;
+use wire::layout::DID_AT;
+use wire::layout::WORD_BITS;
+use wire::layout::WORDS_AT;
+use words::checksum::checksum_word;
 use words::size::packet_size;
-use words::sum::checksum_word;
-use words::sum::sum_cells;
 use words::word::store;
 
 // Clears the last four octets of a packet, where its alignment bits stand.
@@ -32,6 +36,38 @@ fn clear_end(octets: &mut [u8], size: usize)
     octets[size - 1] = 0;
 }
 
+// Stores DID, SDID and Data_Count as header words; the sum of their low nine bits.
+fn write_header_words(
+    did: u8,
+    sdid: u8,
+    words: WordCount,
+    octets: &mut [u8],
+    table: &[u16; 256],
+) -> u32
+    requires { ⌜ HeaderTable (now table) × (leastSize rfc8331 ≤ length (now octets)) ⌝ }
+    ensures { λ r. ⌜ r ≡ sumLow (headWords did sdid (words .0)) ⌝ }
+    ensures { λ r. ⌜ bits (now (octets .exit)) ≡ splice (bits (now (octets .entry))) (didAt rfc8331) (fieldBits (row wordBits (headWords did sdid (words .0)))) ⌝ }
+{
+    let did = did as usize;
+    let sdid = sdid as usize;
+    let n = words.0 as usize;
+    let head = [table[did], table[sdid], table[n]];
+    write_singly(&head, octets, DID_AT);
+    sum_cells(&head)
+}
+
+// Stores the user data words, and the checksum word behind them; `sum` is that of the words before them.
+fn write_user_words(words: &[u16], octets: &mut [u8], sum: u32)
+    requires { ⌜ (length (now words) < headerNumbers) × Below (2 ^ wordBits) (now words) × (sum < 2 ^ 16) ⌝ }
+    requires { ⌜ ancSize rfc8331 (length (now words)) ≤ length (now octets) ⌝ }
+    ensures { λ r. ⌜ bits (now (octets .exit)) ≡ splice (bits (now (octets .entry))) (wordsAt rfc8331) (fieldBits (summed (now (words .entry)) sum)) ⌝ }
+{
+    write_words(words, octets, WORDS_AT);
+    let all = sum + sum_cells(words);
+    let at = WORDS_AT + WORD_BITS * words.len();
+    store(octets, at, checksum_word(all));
+}
+
 // Writes the record at the front of the cells as the packet at the front of the octets; its Data_Count.
 fn write_packet(cells: &[u16], octets: &mut [u8], table: &[u16; 256]) -> WordCount
     requires { ⌜ HeaderTable (now table) × WellFormed rfc8331 (cellRecord (now cells)) ⌝ }
@@ -42,18 +78,12 @@ fn write_packet(cells: &[u16], octets: &mut [u8], table: &[u16; 256]) -> WordCou
 {
     let h = header_at(cells);
     let words = h.words;
-    let n = words.0 as usize;
     let size = packet_size(words);
+    let end = Header::CELLS + (words.0 as usize);
     clear_end(octets, size.0);
     write_location(h, octets);
-    let did = h.did as usize;
-    let sdid = h.sdid as usize;
-    let head = [table[did], table[sdid], table[n]];
-    let user = &cells[Header::CELLS..Header::CELLS + n];
-    write_singly(&head, octets, 32);
-    write_words(user, octets, 62);
-    let sum = sum_cells(&head) + sum_cells(user);
-    store(octets, 62 + 10 * n, checksum_word(sum));
+    let sum = write_header_words(h.did, h.sdid, words, octets, table);
+    write_user_words(&cells[Header::CELLS..end], octets, sum);
     words
 }
 

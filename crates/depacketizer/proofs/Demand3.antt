@@ -11,16 +11,17 @@ use borrow.Author.Tests.{leb-true, leb-false, le-leb}
 use Rattle.wire.specs.declared.refusal.Refusal.{Refusal}
 use Rattle.wire.specs.Result.{Result}
 use Rattle.wire.specs.Anc.{Each}
+use Rattle.wire.specs.Cells.{allBelow}
 use Rattle.wire.specs.Packet.{Content}
 use Rattle.wire.specs.Writing.{maxType}
 use Rattle.depacketizer.specs.declared.state.Answer.the-variants as answer
 use Rattle.depacketizer.specs.declared.state.Opened.the-variants as opened
 use Rattle.depacketizer.specs.Step.{Step, packetStep, admit, admittedStep, openOf}
-use Rattle.depacketizer.specs.Stream.{sent, Stream, contentAt, Fits, WellFormedStream, Arriving, other, packet, OfStream, Call, Calls, none, _before_, Proper, Run, octetsOf, done, callStep, run, listed, arrived, allBelow, listedFresh, fresh, span, Demand3}
+use Rattle.depacketizer.specs.Stream.{sent, Stream, contentAt, Fits, WellFormedStream, Arriving, other, packet, OfStream, Call, Calls, none, _before_, Proper, Run, octetsOf, done, callStep, run, listed, arrived, listedFresh, fresh, span, Demand3}
 use Rattle.depacketizer.proofs.WalkLaws.{packetAt, handedBefore, handed-idle, handed-all}
 use Rattle.depacketizer.proofs.NumberLaws.{admit-numbered}
 use Rattle.depacketizer.proofs.StepLaws.{sound-step, admitted-not-35}
-use Rattle.depacketizer.proofs.RunInvariant.{top, Counted, Invariant, invariant-open, lentIn, invariant-refused, late-step, invariant-late, sound-run}
+use Rattle.depacketizer.proofs.RunInvariant.{top, Counted, Invariant, invariant-open, storeIn, invariant-refused, late-step, invariant-late, sound-run}
 use Rattle.depacketizer.proofs.FreshLaws.{invariant-fresh}
 
 -- what an arrival's octets are read as
@@ -29,9 +30,9 @@ reading s a = admit (s .source) (s .type) (octetsOf s a)
 
 -- a call passes 35, and reads with the opened source and type
 call-step : (s : Stream) (js l : List ℕ) (r : Run) (c : Call) → WellFormedStream s → Each (Fits (c .store)) (s .fields) → Invariant s js l r
-    → callStep s r c ≡ admittedStep (r .state) (reading s (c .arriving)) (lentIn r (c .store))
+    → callStep s r c ≡ admittedStep (r .state) (reading s (c .arriving)) (storeIn r (c .store))
 call-step s js l r c w e v =
-    let t : List ℕ = lentIn r (c .store) in
+    let t : List ℕ = storeIn r (c .store) in
     let o : List ℕ = octetsOf s (c .arriving) in
     sound-step (r .state) o t (sound-run s js l r (c .store) w e v)
     ∙ ap₂ (λ (source type : ℕ). admittedStep (r .state) (admit source type o) t) (v .source) (v .type)
@@ -39,20 +40,20 @@ call-step s js l r c w e v =
 invariant-packet : (s : Stream) (js l : List ℕ) (r : Run) (i : ℕ) (offered : List ℕ) → WellFormedStream s → i < length (sent (s .fields))
     → Each (Fits offered) (s .fields) → Invariant s js l r
     → Invariant s (i ∷ js) (cond (allBelow i js) (i ∷ l) l)
-    (done r (packetStep (r .state .heard) (r .state) (contentAt s i (packetAt (sent (s .fields)) i)) (lentIn r offered)))
+    (done r (packetStep (r .state .heard) (r .state) (contentAt s i (packetAt (sent (s .fields)) i)) (storeIn r offered)))
 invariant-packet s js l r i offered w h e v = go (leb (top l) i) refl
   where
     go : (t : Bool) → leb (top l) i ≡ t
         → Invariant s (i ∷ js) (cond (allBelow i js) (i ∷ l) l)
-        (done r (packetStep (r .state .heard) (r .state) (contentAt s i (packetAt (sent (s .fields)) i)) (lentIn r offered)))
+        (done r (packetStep (r .state .heard) (r .state) (contentAt s i (packetAt (sent (s .fields)) i)) (storeIn r offered)))
     go true q = rw (v .newer i, q) (invariant-fresh s js l r i offered w e v (leb-true (top l) i q) h)
     go false q =
         let b : i < top l = leb-false (top l) i q in
-        rw (v .newer i, q, late-step s js l r i (lentIn r offered) w v b) (invariant-late s js l r i offered e b v)
+        rw (v .newer i, q, late-step s js l r i (storeIn r offered) w v b) (invariant-late s js l r i offered e b v)
 
 invariant-admitted : (s : Stream) (js l : List ℕ) (r : Run) (a : Arriving) (offered : List ℕ) → WellFormedStream s → OfStream s a
     → Each (Fits offered) (s .fields) → Invariant s js l r
-    → Invariant s (listed a js) (listedFresh a js l) (done r (admittedStep (r .state) (reading s a) (lentIn r offered)))
+    → Invariant s (listed a js) (listedFresh a js l) (done r (admittedStep (r .state) (reading s a) (storeIn r offered)))
 invariant-admitted s js l r (other o) offered w h e v = rw (h .1) (invariant-refused s js l r offered (h .0) e v)
 invariant-admitted s js l r (packet i) offered w h e v = rw (w .accepts i h) (invariant-packet s js l r i offered w h e v)
 
@@ -91,7 +92,7 @@ pub never-35 : (s : Stream) → WellFormedStream s → (cs : Calls) (c : Call) �
 never-35 s w cs c p x e n =
     let v = invariant-run s cs w (p .0) in
     let q = call-step s (arrived cs) (fresh cs) (run s cs) c w (p .2) v in
-    admitted-not-35 (run s cs .state) (reading s (c .arriving)) (lentIn (run s cs) (c .store)) x
+    admitted-not-35 (run s cs .state) (reading s (c .arriving)) (storeIn (run s cs) (c .store)) x
     (admit-numbered (s .source) (s .type) (octetsOf s (c .arriving)))
     (sym (ap (λ (z : Step). z .answer) q) ∙ e)
     n

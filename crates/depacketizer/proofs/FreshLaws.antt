@@ -10,14 +10,15 @@ use lib.ListN.{length}
 use borrow.Author.Tests.{le-leb, leb-true, eq-eqb, ne-eqb}
 use Rattle.wire.specs.Anc.{Each}
 use Rattle.wire.specs.Packet.{Content}
+use Rattle.rtp.specs.Answers.{summaryOf}
 use Rattle.depacketizer.specs.declared.state.Depacketizer.{Depacketizer as State}
-use Rattle.depacketizer.specs.Step.{_⊞_, Gathered, lost, ready, filling, gatheredIn, gathered, phaseOf, timestampOf, fOf, recordsOf, cellsOf, Gather, follow, classify, distance, classStep, freshStep, packetStep}
+use Rattle.depacketizer.specs.Step.{_⊞_, Gathered, lost, ready, filling, gatheredIn, gathered, phaseOf, timestampOf, fOf, gatheredRecords, gatheredCells, Gather, follow, appended, classify, distance, classStep, freshStep, packetStep}
 use Rattle.depacketizer.specs.Stream.{Field, cellsIn, Sent, isLast, sent, Stream, contentAt, Within, Fits, WellFormedStream, Handed, handedBy, onlyIf, Run, done}
 use Rattle.depacketizer.proofs.DistanceLaws.{classAhead, class-ahead}
 use Rattle.depacketizer.proofs.WalkLaws.{packetAt, unbroken, handedBefore, NoneFrom, unbroken-below, handed-below, handed-idle, unbroken-idle}
 use Rattle.depacketizer.proofs.PlaceLaws.{upTo, entering, leaving, Holds, part-at, field-at, followed-at, followed-holds}
 use Rattle.depacketizer.proofs.JoinLaws.{marked-last, part-joins}
-use Rattle.depacketizer.proofs.RunInvariant.{top, LastHeard, gatheredAfter, cellsAfter, Counted, Invariant, lent-holds, lentIn}
+use Rattle.depacketizer.proofs.RunInvariant.{top, LastHeard, gatheredAfter, cellsAfter, Counted, Invariant, store-holds, storeIn}
 
 -- what packet `i` finds gathered, and how many are missing before it
 abbrev found : List ℕ → ℕ → Gathered → Gathered
@@ -93,15 +94,17 @@ dropped-holds xs true store c = tt
 dropped-holds xs false store c = tt
 
 -- what a fresh packet leaves, where `g` says whether nothing is missing before it
-record AfterFresh (xs : List Field) (x : Sent) (g : Bool) (z : Gather) : Type 0 where
+record AfterFresh (xs : List Field) (x : Sent) (g : Bool) (z : Gather) (store : List ℕ) : Type 0 where
   gathers : z .gathered ≡ cond (isLast x || g) (leaving x) lost
-  holds : Holds xs (z .gathered) (z .store) (cellsIn (upTo x))
-  handed : handedBy (z .answer) (z .store) ≡ onlyIf (isLast x && g) (x .field)
+  holds : Holds xs (z .gathered) store (cellsIn (upTo x))
+  handed : handedBy (z .answer) store ≡ onlyIf (isLast x && g) (x .field)
 
 fresh-leaves : (s : Stream) (i : ℕ) (store : List ℕ) (g : Bool) → i < length (sent (s .fields)) → Each Within (s .fields) → Each (Fits store) (s .fields)
     → (g ≡ true → Holds (s .fields) (entering (packetAt (sent (s .fields)) i)) store (cellsIn (packetAt (sent (s .fields)) i .before)))
-    → AfterFresh (s .fields) (packetAt (sent (s .fields)) i) g
-    (follow (cond g (entering (packetAt (sent (s .fields)) i)) lost) (contentAt s i (packetAt (sent (s .fields)) i)) store)
+    → let x : Sent = packetAt (sent (s .fields)) i in
+    let k : Content = contentAt s i x in
+    let z : Gather = follow (cond g (entering x) lost) (summaryOf k) (length store) in
+    AfterFresh (s .fields) x g z (appended (z .append) (cond g (entering x) lost) k store)
 fresh-leaves s i store true b w e h =
     let x = packetAt (sent (s .fields)) i in
     let j =
@@ -137,7 +140,7 @@ leb-and-more a b k h = go (leb b k) refl
     go false e = refl
 
 -- a state built of what is gathered has that gathered
-gathered-after : (g : Gathered) → gatheredIn (phaseOf g) (timestampOf g) (fOf g) (recordsOf g) (cellsOf g) ≡ g
+gathered-after : (g : Gathered) → gatheredIn (phaseOf g) (timestampOf g) (fOf g) (gatheredRecords g) (gatheredCells g) ≡ g
 gathered-after lost = refl
 gathered-after ready = refl
 gathered-after (filling t f r c) = refl
@@ -153,13 +156,16 @@ module _ (s : Stream) (js l : List ℕ) (r : Run) (i : ℕ) (offered : List ℕ)
   k = contentAt s i x
 
   abbrev store : List ℕ
-  store = lentIn r offered
+  store = storeIn r offered
 
   abbrev from : Gathered
   from = cond (unbroken ps l i) (entering x) lost
 
   abbrev z : Gather
-  z = follow from k store
+  z = follow from (summaryOf k) (length store)
+
+  abbrev left : List ℕ
+  left = appended (z .append) from k store
 
   few : i < 2 ^ 31
   few = omega (arith, w .few)
@@ -171,9 +177,9 @@ module _ (s : Stream) (js l : List ℕ) (r : Run) (i : ℕ) (offered : List ℕ)
       (ap (λ (g : Gathered). found l i g) (v .gathers) ∙ finds (s .fields) l i h b (v .noneAbove))
 
   lends : Holds (s .fields) (gathered (r .state)) store (cellsAfter ps l) × Each (Fits store) (s .fields)
-  lends = lent-holds (s .fields) (gathered (r .state)) (r .store) offered (cellsAfter ps l) (v .holds) e
+  lends = store-holds (s .fields) (gathered (r .state)) (r .store) offered (cellsAfter ps l) (v .holds) e
 
-  leaves : AfterFresh (s .fields) x (unbroken ps l i) z
+  leaves : AfterFresh (s .fields) x (unbroken ps l i) z left
   leaves =
       fresh-leaves s i store (unbroken ps l i) b (w .within) (lends .1)
       (λ g.
@@ -200,10 +206,10 @@ module _ (s : Stream) (js l : List ℕ) (r : Run) (i : ℕ) (offered : List ℕ)
         source = v .source;
         type = v .type;
         heard = (refl, refl);
-        records = ap recordsOf (sym (gathered-after (z .gathered)));
-        cells = ap cellsOf (sym (gathered-after (z .gathered)));
+        records = ap gatheredRecords (sym (gathered-after (z .gathered)));
+        cells = ap gatheredCells (sym (gathered-after (z .gathered)));
         gathers = gathered-after (z .gathered) ∙ rw (is-elem, unbroken-below ps l i i (omega arith)) (leaves .gathers);
-        holds = subst (λ (g : Gathered). Holds (s .fields) g (z .store) (cellsIn (upTo x))) (sym (gathered-after (z .gathered))) (leaves .holds);
+        holds = subst (λ (g : Gathered). Holds (s .fields) g left (cellsIn (upTo x))) (sym (gathered-after (z .gathered))) (leaves .holds);
         handed =
             rw (is-elem, unbroken-below ps l i i (omega arith), handed-below ps l i i (omega arith), idle)
             (ap₂ (λ (p q : List Handed). p ++ q) (v .handed) (leaves .handed));

@@ -11,16 +11,17 @@ use borrow.Author.Tests.{le-leb, eq-eqb}
 use Rattle.wire.specs.Anc.{Each}
 use Rattle.wire.specs.Bits.{splice}
 use Rattle.wire.specs.Cells.{listOf}
-use Rattle.wire.specs.Packet.{Content}
-use Rattle.wire.specs.Writing.{maxRecords, maxCells}
+use Rattle.wire.specs.Writing.{maxFieldRecords, maxFieldCells}
 use Rattle.wire.proofs.ListLaws.{length-splice, take-splice}
+use Rattle.rtp.specs.declared.packet.Summary.{Summary}
+use Rattle.rtp.specs.Answers.{summaryOf}
 use Rattle.depacketizer.specs.declared.state.Answer.the-variants as answer
-use Rattle.depacketizer.specs.Step.{Gathered, ready, filling, recordsOf, cellsOf, marked, Gather, taken, fits, join, follow}
+use Rattle.depacketizer.specs.Step.{Gathered, ready, filling, gatheredRecords, gatheredCells, marked, Gather, taken, fits, join, follow, appended}
 use Rattle.depacketizer.specs.Stream.{Part, Field, parts, recordCount, cellsIn, Sent, isLast, Stream, contentAt, Within, Fits, handedBy, onlyIf}
 use Rattle.depacketizer.proofs.PlaceLaws.{upTo, gatheredOf, entering, leaving, Holds, PartOf, records-append, cells-append, gathered-snoc}
 
 -- a packet is marked where it is its field's last
-pub marked-last : (s : Stream) (i : ℕ) (x : Sent) → marked (contentAt s i x) ≡ isLast x
+pub marked-last : (s : Stream) (i : ℕ) (x : Sent) → marked (summaryOf (contentAt s i x)) ≡ isLast x
 marked-last s i x = go (isLast x)
   where
     go : (b : Bool) → eqb (cond b 1 0) 1 ≡ b
@@ -28,10 +29,10 @@ marked-last s i x = go (isLast x)
     go false = refl
 
 -- what a packet leaves where nothing is missing before it: what is gathered, its cells in the store, and what is handed out
-pub record Joined (xs : List Field) (x : Sent) (z : Gather) : Type 0 where
+pub record Joined (xs : List Field) (x : Sent) (z : Gather) (store : List ℕ) : Type 0 where
   pub gathered : z .gathered ≡ leaving x
-  pub holds : Holds xs (z .gathered) (z .store) (cellsIn (upTo x))
-  pub handed : handedBy (z .answer) (z .store) ≡ onlyIf (isLast x) (x .field)
+  pub holds : Holds xs (z .gathered) store (cellsIn (upTo x))
+  pub handed : handedBy (z .answer) store ≡ onlyIf (isLast x) (x .field)
 
 fits-cast : (store new : List ℕ) → length new ≡ length store → (xs : List Field) → Each (Fits store) xs → Each (Fits new) xs
 fits-cast store new e [] h = tt
@@ -50,10 +51,14 @@ nil-of-last x e = go (x .behind) e
     go (q ∷ b) h = absurd (true≢false (sym h))
 
 -- a packet with the field's timestamp and F joins what is gathered of it
-follow-joins : (x : Field) (b : List Part) (k : Content) (store : List ℕ) → x .timestamp ≡ k .timestamp → x .f ≡ k .f
-    → follow (gatheredOf x b) k store ≡ join (recordCount b) (length (cellsIn b)) k store
-follow-joins x [] k store t f = refl
-follow-joins x (q ∷ b) k store t f = rw (eq-eqb (x .timestamp) (k .timestamp) t, eq-eqb (x .f) (k .f) f)
+follow-joins : (x : Field) (b : List Part) (s : Summary) (room : ℕ) → x .timestamp ≡ s .head .timestamp .0 → x .f ≡ s .head .f
+    → follow (gatheredOf x b) s room ≡ join (recordCount b) (length (cellsIn b)) s room
+follow-joins x [] s room t f = refl
+follow-joins x (q ∷ b) s room t f = rw (eq-eqb (x .timestamp) (s .head .timestamp .0) t, eq-eqb (x .f) (s .head .f) f)
+
+gathered-cells : (x : Field) (b : List Part) → gatheredCells (gatheredOf x b) ≡ length (cellsIn b)
+gathered-cells x [] = refl
+gathered-cells x (q ∷ b) = refl
 
 module _ (x : Sent) (store : List ℕ) (of : PartOf x) (within : Within (x .field)) (room : Fits store (x .field)) where
   abbrev cellsBefore : ℕ
@@ -85,18 +90,18 @@ module _ (x : Sent) (store : List ℕ) (of : PartOf x) (within : Within (x .fiel
   fits-up : fits (recordCount (upTo x)) (length (cellsIn (upTo x))) (length store) ≡ true
   fits-up =
       rw (
-        le-leb (recordCount (upTo x)) maxRecords (omega (arith, records-fit)),
-        le-leb (length (cellsIn (upTo x))) maxCells (omega (arith, cells-fit)),
+        le-leb (recordCount (upTo x)) maxFieldRecords (omega (arith, records-fit)),
+        le-leb (length (cellsIn (upTo x))) maxFieldCells (omega (arith, cells-fit)),
         le-leb (length (cellsIn (upTo x))) (length store) (omega (arith, cells-fit)),
       )
 
   -- what is gathered after the packet is within the limits and the store
-  pub leaving-fits : fits (recordsOf (leaving x)) (cellsOf (leaving x)) (length store) ≡ true
+  pub leaving-fits : fits (gatheredRecords (leaving x)) (gatheredCells (leaving x)) (length store) ≡ true
   leaving-fits = rw (gathered-snoc (x .field) (x .before) (x .part)) (go (isLast x))
     where
       go : (b : Bool)
           → (let g : Gathered = cond b ready (filling (x .field .timestamp) (x .field .f) (recordCount (upTo x)) (length (cellsIn (upTo x)))) in
-          fits (recordsOf g) (cellsOf g) (length store) ≡ true)
+          fits (gatheredRecords g) (gatheredCells g) (length store) ≡ true)
       go true = rw (le-leb 0 (length store) (omega arith))
       go false = fits-up
 
@@ -141,15 +146,17 @@ module _ (x : Sent) (store : List ℕ) (of : PartOf x) (within : Within (x .fiel
   hands-up e false l = refl
 
   follow-taken : (s : Stream) (i : ℕ)
-      → follow (entering x) (contentAt s i x) store ≡ taken (recordCount (upTo x)) (length (cellsIn (upTo x))) (contentAt s i x) written
-  follow-taken s i = follow-joins (x .field) (x .before) (contentAt s i x) store refl refl ∙ rw (records-up, length-up, fits-up)
+      → follow (entering x) (summaryOf (contentAt s i x)) (length store)
+      ≡ taken (summaryOf (contentAt s i x)) (recordCount (upTo x)) (length (cellsIn (upTo x)))
+  follow-taken s i = follow-joins (x .field) (x .before) (summaryOf (contentAt s i x)) (length store) refl refl ∙ rw (records-up, length-up, fits-up)
 
   -- a packet with nothing missing before it joins its field
   pub part-joins : (s : Stream) (i : ℕ) (xs : List Field) → Each (Fits store) xs → Holds xs (entering x) store (cellsIn (x .before))
-      → Joined xs x (follow (entering x) (contentAt s i x) store)
+      → let z : Gather = follow (entering x) (summaryOf (contentAt s i x)) (length store) in
+      Joined xs x z (appended (z .append) (entering x) (contentAt s i x) store)
   part-joins s i xs each h =
       let e = holds-take xs (x .field) store (x .before) h in
-      rw (follow-taken s i, marked-last s i x)
+      rw (follow-taken s i, marked-last s i x, gathered-cells (x .field) (x .before))
       (record {
         gathered = rw (gathered-snoc (x .field) (x .before) (x .part));
         holds = holds-up xs each e (isLast x);

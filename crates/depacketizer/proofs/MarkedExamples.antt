@@ -1,6 +1,6 @@
 -- The marked examples of 01, together: each over the definitions, of this crate and of those below.
 -- By computation, where the definitions stand.
-use mathlib.Core.Path.{_≡_, refl}
+use mathlib.Core.Path.{_≡_}
 use mathlib.Core.List.{List, [], _∷_}
 use Prim.Native.Nat.{ℕ}
 use lib.IntN.{pos}

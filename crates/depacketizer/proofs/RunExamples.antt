@@ -19,7 +19,7 @@ use Rattle.depacketizer.specs.declared.state.Phase.the-variants as phase
 use Rattle.depacketizer.specs.declared.state.Answer.{Answer}
 use Rattle.depacketizer.specs.declared.state.Answer.the-variants as answer
 use Rattle.depacketizer.specs.Step.{distance, late, next, gap, classify, admit, step}
-use Rattle.depacketizer.specs.Stream.{Field, Stream, nth, contentAt, Fits, WellFormedStream, other, packet, Call, Calls, none, _before_, Proper, callStep, run, Kept}
+use Rattle.depacketizer.specs.Stream.{Field, Stream, nth, contentAt, Fits, WellFormedStream, other, packet, Call, Calls, none, _before_, Proper, callStep, run, Demand3After}
 use Rattle.depacketizer.proofs.Demand3.{demand3}
 
 -- "Last FFFFFFFF: 0 is distance 1. Last 0: 7FFFFFFF is fresh, 80000000 is late."
@@ -101,7 +101,7 @@ proper =
     (((((tt, omega arith, room), (record { number = 2; index = 0 }, refuses), room), omega arith, room), omega arith, room), omega arith, room)
 
 -- so demand 3 holds of them
-pub kept : Kept stream calls
+pub kept : Demand3After stream calls
 kept = demand3 stream formed calls proper
 
 -- handed out is the field of packet 8, alone

@@ -3,7 +3,7 @@
 use mathlib.Core.Path.{_≡_, refl, _∙_, ap, ap₂, sym}
 use mathlib.Core.Bool.{Bool, true, false, cond, _&&_, _||_, or-true}
 use mathlib.Core.List.{List, [], _∷_, append-nil}
-use Prim.Native.Nat.{ℕ, suc, _+_, _-_, _^_, _%_, _≤_, _<_, min}
+use Prim.Native.Nat.{ℕ, suc, _+_, _^_, _%_, _≤_, _<_, min}
 use native.Mathlib.Nat.{not-suc-le-zero}
 use native.Mathlib.Omega.{arith}
 use lib.Dec.{eqb, leb}
@@ -11,12 +11,13 @@ use lib.ListN.{length}
 use borrow.Author.Tests.{le-leb, lt-leb, leb-false}
 use Rattle.wire.specs.declared.refusal.Refusal.{Refusal}
 use Rattle.wire.specs.Anc.{Each}
+use Rattle.wire.specs.Cells.{allBelow}
 use Rattle.wire.specs.Packet.{Content}
 use Rattle.depacketizer.specs.declared.state.Depacketizer.{Depacketizer as State}
 use Rattle.depacketizer.specs.declared.state.Phase.{Phase}
 use Rattle.depacketizer.specs.declared.state.Phase.the-variants as phase
-use Rattle.depacketizer.specs.Step.{Gathered, lost, ready, filling, gatheredIn, gathered, phaseOf, recordsOf, cellsOf, fits, isFilling, isLost, sound, classify, distance, classStep, lateStep, packetStep, openState}
-use Rattle.depacketizer.specs.Stream.{Field, cellsIn, Sent, sent, Stream, contentAt, Within, Fits, WellFormedStream, Run, lent, done, allBelow, lowest}
+use Rattle.depacketizer.specs.Step.{maxCount, Gathered, lost, ready, filling, gatheredIn, gathered, phaseOf, gatheredRecords, gatheredCells, fits, isFilling, isLost, sound, classify, distance, classStep, lateStep, packetStep, openState}
+use Rattle.depacketizer.specs.Stream.{Field, cellsIn, Sent, sent, Stream, contentAt, Within, Fits, WellFormedStream, Run, storeFor, done, earliest}
 use Rattle.depacketizer.proofs.DistanceLaws.{class-late}
 use Rattle.depacketizer.proofs.WalkLaws.{packetAt, unbroken, handedBefore, NoneFrom}
 use Rattle.depacketizer.proofs.PlaceLaws.{upTo, leaving, Holds, part-at, field-at}
@@ -46,7 +47,7 @@ cellsAfter ps (m ∷ l) = cellsIn (upTo (packetAt ps m))
 -- fresh and missing together
 abbrev pub Counted : List ℕ → ℕ → Type 0
 Counted [] a = a ≡ 0
-Counted (m ∷ l) a = a + lowest m l ≡ suc m
+Counted (m ∷ l) a = a + earliest m l ≡ suc m
 
 -- after arrivals of the packets `js`, of them `l` fresh, each with the latest first
 pub record Invariant (s : Stream) (js l : List ℕ) (r : Run) : Type 0 where
@@ -56,8 +57,8 @@ pub record Invariant (s : Stream) (js l : List ℕ) (r : Run) : Type 0 where
   pub source : r .state .source ≡ s .source
   pub type : r .state .«payload_type» ≡ s .type
   pub heard : LastHeard s l (r .state .heard) (r .state .last .0)
-  pub records : r .state .records ≡ recordsOf (gathered (r .state))
-  pub cells : r .state .cells ≡ cellsOf (gathered (r .state))
+  pub records : r .state .records ≡ gatheredRecords (gathered (r .state))
+  pub cells : r .state .cells ≡ gatheredCells (gathered (r .state))
   pub gathers : gathered (r .state) ≡ gatheredAfter (sent (s .fields)) l
   pub holds : Holds (s .fields) (gathered (r .state)) (r .store) (cellsAfter (sent (s .fields)) l)
   pub handed : r .handed ≡ handedBefore (sent (s .fields)) l (top l)
@@ -65,7 +66,7 @@ pub record Invariant (s : Stream) (js l : List ℕ) (r : Run) : Type 0 where
   pub missing : Counted l (r .state .fresh + r .state .missing)
   pub older : ℕ
   pub olderIs : length js ≡ length l + older
-  pub late : r .state .late ≡ min older (2 ^ 64 - 1)
+  pub late : r .state .late ≡ min older maxCount
 
 -- it holds of a state just opened
 pub invariant-open : (s : Stream) → Invariant s [] [] (record { state = openState (s .source) (s .type); store = []; handed = [] })
@@ -90,19 +91,19 @@ invariant-open s =
     }
 
 -- the store that a call is lent holds what is gathered, and the fields fit it
-pub lent-holds : (xs : List Field) (g : Gathered) (left offered c : List ℕ) → Holds xs g left c → Each (Fits offered) xs
-    → Holds xs g (lent g left offered) c × Each (Fits (lent g left offered)) xs
-lent-holds xs lost left offered c h e = (tt, e)
-lent-holds xs ready left offered c h e = (tt, e)
-lent-holds xs (filling t f r n) left offered c h e = (h, h .1)
+pub store-holds : (xs : List Field) (g : Gathered) (left offered c : List ℕ) → Holds xs g left c → Each (Fits offered) xs
+    → Holds xs g (storeFor g left offered) c × Each (Fits (storeFor g left offered)) xs
+store-holds xs lost left offered c h e = (tt, e)
+store-holds xs ready left offered c h e = (tt, e)
+store-holds xs (filling t f r n) left offered c h e = (h, h .1)
 
 -- the store that a call is lent
-abbrev pub lentIn : Run → List ℕ → List ℕ
-lentIn r offered = lent (gathered (r .state)) (r .store) offered
+abbrev pub storeIn : Run → List ℕ → List ℕ
+storeIn r offered = storeFor (gathered (r .state)) (r .store) offered
 
 -- a step that changes nothing
 pub invariant-refused : (s : Stream) (js l : List ℕ) (r : Run) (offered : List ℕ) (x : Refusal) → Each (Fits offered) (s .fields)
-    → Invariant s js l r → Invariant s js l (done r (unchanged (r .state) (lentIn r offered) x))
+    → Invariant s js l r → Invariant s js l (done r (unchanged (r .state) (storeIn r offered) x))
 invariant-refused s js l r offered x e v =
     record {
       sentBefore = v .sentBefore;
@@ -114,7 +115,7 @@ invariant-refused s js l r offered x e v =
       records = v .records;
       cells = v .cells;
       gathers = v .gathers;
-      holds = (lent-holds (s .fields) (gathered (r .state)) (r .store) offered _ (v .holds) e) .0;
+      holds = (store-holds (s .fields) (gathered (r .state)) (r .store) offered _ (v .holds) e) .0;
       handed = append-nil _ ∙ v .handed;
       fresh = v .fresh;
       missing = v .missing;
@@ -142,7 +143,7 @@ late-step s js (m ∷ l) r i store w v h =
 
 -- a late packet
 pub invariant-late : (s : Stream) (js l : List ℕ) (r : Run) (i : ℕ) (offered : List ℕ) → Each (Fits offered) (s .fields) → i < top l
-    → Invariant s js l r → Invariant s (i ∷ js) l (done r (lateStep (r .state) (lentIn r offered)))
+    → Invariant s js l r → Invariant s (i ∷ js) l (done r (lateStep (r .state) (storeIn r offered)))
 invariant-late s js l r i offered e h v =
     record {
       sentBefore = v .sentBefore;
@@ -154,7 +155,7 @@ invariant-late s js l r i offered e h v =
       records = v .records;
       cells = v .cells;
       gathers = v .gathers;
-      holds = (lent-holds (s .fields) (gathered (r .state)) (r .store) offered _ (v .holds) e) .0;
+      holds = (store-holds (s .fields) (gathered (r .state)) (r .store) offered _ (v .holds) e) .0;
       handed = append-nil _ ∙ v .handed;
       fresh = v .fresh;
       missing = v .missing;
@@ -166,15 +167,15 @@ invariant-late s js l r i offered e h v =
 -- check 35 by what is gathered
 abbrev soundIn : Gathered → Bool → ℕ → Bool
 soundIn g heard room =
-    fits (recordsOf g) (cellsOf g) room
-    && ((isFilling (phaseOf g) || (eqb (recordsOf g) 0 && eqb (cellsOf g) 0)) && (heard || isLost (phaseOf g)))
+    fits (gatheredRecords g) (gatheredCells g) room
+    && ((isFilling (phaseOf g) || (eqb (gatheredRecords g) 0 && eqb (gatheredCells g) 0)) && (heard || isLost (phaseOf g)))
 
 phase-gathered : (p : Phase) (t f r c : ℕ) → phaseOf (gatheredIn p t f r c) ≡ p
 phase-gathered phase.Lost t f r c = refl
 phase-gathered phase.Ready t f r c = refl
 phase-gathered phase.Filling t f r c = refl
 
-sound-gathered : (st : State) (room : ℕ) → st .records ≡ recordsOf (gathered st) → st .cells ≡ cellsOf (gathered st)
+sound-gathered : (st : State) (room : ℕ) → st .records ≡ gatheredRecords (gathered st) → st .cells ≡ gatheredCells (gathered st)
     → sound st room ≡ soundIn (gathered st) (st .heard) room
 sound-gathered st room r c =
     let g : Gathered = gathered st in
@@ -182,14 +183,14 @@ sound-gathered st room r c =
     ap₂ (λ (a b : ℕ). fits a b room && ((isFilling (st .phase) || (eqb a 0 && eqb b 0)) && (st .heard || isLost (st .phase)))) r c
     ∙ ap
     (λ (q : Phase).
-    fits (recordsOf g) (cellsOf g) room
-    && ((isFilling q || (eqb (recordsOf g) 0 && eqb (cellsOf g) 0)) && (st .heard || isLost q)))
+    fits (gatheredRecords g) (gatheredCells g) room
+    && ((isFilling q || (eqb (gatheredRecords g) 0 && eqb (gatheredCells g) 0)) && (st .heard || isLost q)))
     (sym p)
 
 sound-lost : (heard : Bool) (room : ℕ) → soundIn lost heard room ≡ true
 sound-lost heard room = rw (le-leb 0 room (omega arith), or-true heard)
 
-sound-heard : (g : Gathered) (room : ℕ) → fits (recordsOf g) (cellsOf g) room ≡ true → soundIn g true room ≡ true
+sound-heard : (g : Gathered) (room : ℕ) → fits (gatheredRecords g) (gatheredCells g) room ≡ true → soundIn g true room ≡ true
 sound-heard lost room h = rw h
 sound-heard ready room h = rw h
 sound-heard (filling t f r c) room h = rw h
@@ -209,12 +210,12 @@ sound-after s (m ∷ l) store heard last w e b h = rw (h .0) (go (unbroken (sent
 
 -- check 35 passes
 pub sound-run : (s : Stream) (js l : List ℕ) (r : Run) (offered : List ℕ) → WellFormedStream s → Each (Fits offered) (s .fields)
-    → Invariant s js l r → sound (r .state) (length (lentIn r offered)) ≡ true
+    → Invariant s js l r → sound (r .state) (length (storeIn r offered)) ≡ true
 sound-run s js l r offered w e v =
-    let t : List ℕ = lentIn r offered in
+    let t : List ℕ = storeIn r offered in
     sound-gathered (r .state) (length t) (v .records) (v .cells)
     ∙ ap (λ (g : Gathered). soundIn g (r .state .heard) (length t)) (v .gathers)
     ∙ sound-after s l t (r .state .heard) (r .state .last .0) w
-    ((lent-holds (s .fields) (gathered (r .state)) (r .store) offered _ (v .holds) e) .1)
+    ((store-holds (s .fields) (gathered (r .state)) (r .store) offered _ (v .holds) e) .1)
     (v .sentBefore)
     (v .heard)

@@ -8,15 +8,17 @@ use native.Mathlib.Omega.{arith}
 use lib.Dec.{eqb}
 use lib.ListN.{length}
 use Rattle.wire.specs.declared.refusal.Refusal.{Refusal}
-use Rattle.wire.specs.Result.{Result, refused, accepted}
-use Rattle.wire.specs.Cells.{listOf}
+use Rattle.wire.specs.Result.{Result, refused, accepted, refuse}
 use Rattle.wire.specs.Packet.{Content}
+use Rattle.rtp.specs.declared.packet.Summary.{Summary}
+use Rattle.rtp.specs.Answers.{summaryOf}
 use Rattle.depacketizer.specs.declared.state.Depacketizer.{Depacketizer as State}
 use Rattle.depacketizer.specs.declared.state.Field.{Field}
 use Rattle.depacketizer.specs.declared.state.Answer.{Answer}
 use Rattle.depacketizer.specs.declared.state.Answer.the-variants as answer
 use Rattle.depacketizer.specs.Step.{Gathered, lost, ready, filling, gathered, marked, taken, dropped, fits, join, follow, Class, late, next, gap, classify, distance, Step, lateStep, classStep, packetStep, admit, admittedStep, sound, step}
-use Rattle.depacketizer.proofs.NumberLaws.{Numbered, isAdmission, admit-numbered}
+use Rattle.wire.proofs.ResultLaws.{Numbered}
+use Rattle.depacketizer.proofs.NumberLaws.{isAdmission, admit-numbered}
 
 abbrev isRefusal : Answer → Bool
 isRefusal answer.Skipped = false
@@ -30,21 +32,21 @@ taken-answers : (x : Field) (b : Bool) → isRefusal (cond b (answer.Whole x) an
 taken-answers x true = refl
 taken-answers x false = refl
 
-join-answers : (r c : ℕ) (k : Content) (store : List ℕ) → isRefusal (join r c k store .answer) ≡ false
-join-answers r c k store = go (fits (r + length (k .records)) (c + length (listOf (k .records))) (length store)) _ _ _
+join-answers : (r c : ℕ) (s : Summary) (room : ℕ) → isRefusal (join r c s room .answer) ≡ false
+join-answers r c s room = go (fits (r + s .records) (c + s .cells) room)
   where
-    go : (b : Bool) (n m : ℕ) (new : List ℕ) → isRefusal ((cond b (taken n m k new) (dropped answer.Overfull k store)) .answer) ≡ false
-    go true n m new = taken-answers _ (marked k)
-    go false n m new = refl
+    go : (b : Bool) → isRefusal ((cond b (taken s (r + s .records) (c + s .cells)) (dropped answer.Overfull (marked s))) .answer) ≡ false
+    go true = taken-answers (record { timestamp = s .head .timestamp; f = s .head .f; records = r + s .records; cells = c + s .cells }) (marked s)
+    go false = refl
 
 -- a fresh packet is not refused
-follow-answers : (g : Gathered) (k : Content) (store : List ℕ) → isRefusal (follow g k store .answer) ≡ false
-follow-answers lost k store = refl
-follow-answers ready k store = join-answers 0 0 k store
-follow-answers (filling t f r c) k store = go (eqb t (k .timestamp) && eqb f (k .f))
+follow-answers : (g : Gathered) (s : Summary) (room : ℕ) → isRefusal (follow g s room .answer) ≡ false
+follow-answers lost s room = refl
+follow-answers ready s room = join-answers 0 0 s room
+follow-answers (filling t f r c) s room = go (eqb t (s .head .timestamp .0) && eqb f (s .head .f))
   where
-    go : (b : Bool) → isRefusal ((cond b (join r c k store) (dropped answer.Mixed k store)) .answer) ≡ false
-    go true = join-answers r c k store
+    go : (b : Bool) → isRefusal ((cond b (join r c s room) (dropped answer.Mixed (marked s))) .answer) ≡ false
+    go true = join-answers r c s room
     go false = refl
 
 not-refused : (a : Answer) (x : Refusal) → isRefusal a ≡ false → a ≡ answer.Refused x → ⊥
@@ -53,13 +55,13 @@ not-refused a x h e = true≢false (sym (ap isRefusal e) ∙ h)
 class-refuses : (c : Class) (st : State) (k : Content) (store : List ℕ) (x : Refusal) → classStep c st k store .answer ≡ answer.Refused x
     → classStep c st k store ≡ lateStep st store
 class-refuses late st k store x e = refl
-class-refuses next st k store x e = absurd (not-refused _ x (follow-answers (gathered st) k store) e)
-class-refuses (gap n) st k store x e = absurd (not-refused _ x (follow-answers lost k store) e)
+class-refuses next st k store x e = absurd (not-refused _ x (follow-answers (gathered st) (summaryOf k) (length store)) e)
+class-refuses (gap n) st k store x e = absurd (not-refused _ x (follow-answers lost (summaryOf k) (length store)) e)
 
 -- a packet of the opened source and type is refused only where it is late
 packet-refuses : (b : Bool) (st : State) (k : Content) (store : List ℕ) (x : Refusal) → packetStep b st k store .answer ≡ answer.Refused x
     → packetStep b st k store ≡ lateStep st store
-packet-refuses false st k store x e = absurd (not-refused _ x (follow-answers lost k store) e)
+packet-refuses false st k store x e = absurd (not-refused _ x (follow-answers lost (summaryOf k) (length store)) e)
 packet-refuses true st k store x e = class-refuses (classify (distance (st .last .0) (k .number))) st k store x e
 
 refusal-inj : {x y : Refusal} → answer.Refused x ≡ answer.Refused y → x ≡ y
@@ -95,8 +97,8 @@ admitted-refuses st (refused y) store x h e = unchanged-refuses st store x y (no
 admitted-refuses st (accepted k) store x h e = late-refuses st store x _ (packet-refuses (st .heard) st k store x e) e
 
 checked-refuses : (b : Bool) (st : State) (r : Result Content) (store : List ℕ) (x : Refusal) → Numbered isAdmission r
-    → cond b (admittedStep st r store) (unchanged st store (record { number = 35; index = 0 })) .answer ≡ answer.Refused x
-    → Refuses st store x (cond b (admittedStep st r store) (unchanged st store (record { number = 35; index = 0 })))
+    → admittedStep st (cond b r (refuse 35 0)) store .answer ≡ answer.Refused x
+    → Refuses st store x (admittedStep st (cond b r (refuse 35 0)) store)
 checked-refuses true st r store x h e = admitted-refuses st r store x h e
 checked-refuses false st r store x h e = unchanged-refuses st store x (record { number = 35; index = 0 }) (λ n. omega arith) e
 

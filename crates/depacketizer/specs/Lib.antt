@@ -1,3 +1,3 @@
-pub mod Decide
+pub mod Answers
 pub mod Step
 pub mod Stream

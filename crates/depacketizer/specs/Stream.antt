@@ -1,20 +1,20 @@
--- Demand 3: what is sent, what arrives, what a run is, and what is to be handed out (01, "The keeper", its last two paragraphs).
+-- Demand 3 (00, demand 3; 01, "The keeper", its last two paragraphs): what is sent, what arrives, what a run is, and what is to be handed out.
 use mathlib.Core.Path.{_≡_}
 use mathlib.Core.Bool.{Bool, true, false, cond, _&&_, _||_}
 use mathlib.Core.List.{List, [], _∷_, _++_}
 use Prim.Native.Nat.{ℕ, zero, suc, _+_, _-_, _^_, _%_, _≤_, _<_, min}
-use lib.Dec.{eqb, ltb}
+use lib.Dec.{eqb}
 use lib.ListN.{length, take, getD}
 use Rattle.wire.specs.declared.refusal.Refusal.{Refusal}
 use Rattle.wire.specs.Result.{refused, accepted}
 use Rattle.wire.specs.Anc.{Record, Each}
-use Rattle.wire.specs.Cells.{listOf}
+use Rattle.wire.specs.Cells.{listOf, allBelow}
 use Rattle.wire.specs.Packet.{Content}
-use Rattle.wire.specs.Writing.{maxRecords, maxCells}
+use Rattle.wire.specs.Writing.{maxFieldRecords, maxFieldCells}
 use Rattle.depacketizer.specs.declared.state.Depacketizer.{Depacketizer as State}
 use Rattle.depacketizer.specs.declared.state.Answer.{Answer}
 use Rattle.depacketizer.specs.declared.state.Answer.the-variants as answer
-use Rattle.depacketizer.specs.Step.{Gathered, lost, ready, filling, gathered, Step, step, admit, openState}
+use Rattle.depacketizer.specs.Step.{maxCount, Gathered, lost, ready, filling, gathered, Step, step, admit, openState}
 
 -- What one packet carries: its octets, and the records in them.
 pub record Part : Type 0 where
@@ -28,9 +28,11 @@ pub record Field : Type 0 where
   pub first : Part
   pub rest : List Part
 
+-- the parts of a field, in order
 abbrev pub parts : Field → List Part
 parts x = x .first ∷ x .rest
 
+-- records, "the sums over the field's packets"
 abbrev pub recordCount : List Part → ℕ
 recordCount [] = 0
 recordCount (p ∷ ps) = length (p .records) + recordCount ps
@@ -47,9 +49,11 @@ pub record Sent : Type 0 where
   pub part : Part
   pub behind : List Part
 
+-- "only the last marked"
 abbrev pub isLast : Sent → Bool
 isLast x = elim (x .behind) [ [] ↦ true | p ∷ ps ↦ false ]
 
+-- the packets of a field for its parts behind `before`
 abbrev pub sentOf : Field → List Part → List Part → List Sent
 sentOf x before [] = []
 sentOf x before (p ∷ ps) =
@@ -80,20 +84,22 @@ contentAt s i x =
       records = x .part .records;
     }
 
--- only for `getD`, past the last packet
+-- only for `noPacket`
 abbrev pub noPart : Part
 noPart = record { octets = []; records = [] }
 
+-- only for `getD`, past the last packet
 abbrev pub noPacket : Sent
 noPacket =
     record { field = record { timestamp = 0; f = 0; first = noPart; rest = [] }; before = []; part = noPart; behind = [] }
 
+-- packet `i` of the stream, from 0
 abbrev pub nth : Stream → ℕ → Sent
 nth s i = getD (sent (s .fields)) i noPacket
 
 -- "within the limits"
 abbrev pub Within : Field → Type 0
-Within x = (recordCount (parts x) ≤ maxRecords) × (length (cellsIn (parts x)) ≤ maxCells)
+Within x = (recordCount (parts x) ≤ maxFieldRecords) × (length (cellsIn (parts x)) ≤ maxFieldCells)
 
 -- "A sender sends at most 2,147,483,648 packets, .., in well-formed fields": each is accepted, of the opened source and type
 pub record WellFormedStream (s : Stream) : Type 0 where
@@ -126,6 +132,7 @@ pub data Calls : Type 0 where
   none : Calls
   _before_ : Calls → Call → Calls
 
+-- every call is proper: an arrival of the stream, and "any store that the fields fit"
 abbrev pub Proper : Stream → Calls → Type 0
 Proper s none = Unit {0}
 Proper s (cs before c) = Proper s cs × OfStream s (c .arriving) × Each (Fits (c .store)) (s .fields)
@@ -155,35 +162,35 @@ pub record Run : Type 0 where
   pub handed : List Handed
 
 -- "While the keeper is filling, a call is lent the store as the call before left it, ..; otherwise any store"
-abbrev pub lent : Gathered → (left offered : List ℕ) → List ℕ
-lent lost left offered = offered
-lent ready left offered = offered
-lent (filling t f r c) left offered = left
+abbrev pub storeFor : Gathered → (left offered : List ℕ) → List ℕ
+storeFor lost left offered = offered
+storeFor ready left offered = offered
+storeFor (filling t f r c) left offered = left
 
+-- "An arrival of a sent packet has exactly that packet's octets."
 abbrev pub octetsOf : Stream → Arriving → List ℕ
 octetsOf s (other o) = o
 octetsOf s (packet i) = nth s i .part .octets
 
+-- a run with one step more
 abbrev pub done : Run → Step → Run
 done r x = record { state = x .state; store = x .store; handed = r .handed ++ handedBy (x .answer) (x .store) }
 
+-- the step of a call
 abbrev pub callStep : Stream → Run → Call → Step
-callStep s r c = step (r .state) (octetsOf s (c .arriving)) (lent (gathered (r .state)) (r .store) (c .store))
+callStep s r c = step (r .state) (octetsOf s (c .arriving)) (storeFor (gathered (r .state)) (r .store) (c .store))
 
 -- "Each call gets the state that the call before returned"
 abbrev pub run : Stream → Calls → Run
 run s none = record { state = openState (s .source) (s .type); store = []; handed = [] }
 run s (cs before c) = done (run s cs) (callStep s (run s cs) c)
 
--- The sent packets that arrived, the latest first.
-abbrev pub allBelow : ℕ → List ℕ → Bool
-allBelow i [] = true
-allBelow i (j ∷ js) = ltb j i && allBelow i js
-
+-- a list of packets, with the one that arrives put first
 abbrev pub listed : Arriving → List ℕ → List ℕ
 listed (other o) l = l
 listed (packet i) l = i ∷ l
 
+-- The sent packets that arrived, the latest first.
 abbrev pub arrived : Calls → List ℕ
 arrived none = []
 arrived (cs before c) = listed (c .arriving) (arrived cs)
@@ -193,19 +200,22 @@ abbrev pub listedFresh : Arriving → (arrived fresh : List ℕ) → List ℕ
 listedFresh (other o) js l = l
 listedFresh (packet i) js l = cond (allBelow i js) (i ∷ l) l
 
+-- the fresh arrivals, the latest first
 abbrev pub fresh : Calls → List ℕ
 fresh none = []
 fresh (cs before c) = listedFresh (c .arriving) (arrived cs) (fresh cs)
 
--- "A field is handed out exactly when all its packets, and the one sent just before them, are among the fresh arrivals"
+-- packet `i` is in a list
 abbrev pub elem : ℕ → List ℕ → Bool
 elem i [] = false
 elem i (j ∷ js) = eqb i j || elem i js
 
+-- "all its packets .. are among the fresh arrivals"
 abbrev pub allFrom : ℕ → List Part → List ℕ → Bool
 allFrom k [] l = true
 allFrom k (p ∷ ps) l = elem k l && allFrom (suc k) ps l
 
+-- "and the one sent just before them": "the first sent has no packet before it and is never handed out"
 abbrev pub oneBefore : ℕ → List ℕ → Bool
 oneBefore zero l = false
 oneBefore (suc k) l = elem k l
@@ -222,30 +232,38 @@ asSent x =
       content = cellsIn (parts x);
     }
 
+-- a field as sent, where the test holds
 abbrev pub onlyIf : Bool → Field → List Handed
 onlyIf true x = asSent x ∷ []
 onlyIf false x = []
 
--- where the fresh packets are `l`, and packet `k` is the first of the fields: "once, in sending order, as sent"
+-- "A field is handed out exactly when all its packets, and the one sent just before them, are among the fresh arrivals: once, in
+-- sending order, as sent. Nothing else is handed out." The fresh packets are `l`, and packet `k` is the first of the fields.
 abbrev pub expected : ℕ → List Field → List ℕ → List Handed
 expected k [] l = []
 expected k (x ∷ xs) l = onlyIf (oneBefore k l && allFrom k (parts x) l) x ++ expected (k + length (parts x)) xs l
 
--- "the sent packets from the first fresh arrival to the last, both included, or 0 if none is fresh"
-abbrev pub lowest : ℕ → List ℕ → ℕ
-lowest m [] = m
-lowest m (j ∷ js) = lowest j js
+-- the first fresh arrival: the last of a list that has the latest first
+abbrev pub earliest : ℕ → List ℕ → ℕ
+earliest m [] = m
+earliest m (j ∷ js) = earliest j js
 
+-- "the sent packets from the first fresh arrival to the last, both included, or 0 if none is fresh"
 abbrev pub span : List ℕ → ℕ
 span [] = 0
-span (m ∷ l) = suc m - lowest m l
+span (m ∷ l) = suc m - earliest m l
 
 -- Demand 3, after a list of calls.
-pub record Kept (s : Stream) (cs : Calls) : Type 0 where
+pub record Demand3After (s : Stream) (cs : Calls) : Type 0 where
+  -- "A field is handed out exactly when .."
   pub handed : run s cs .handed ≡ expected 0 (s .fields) (fresh cs)
+  -- "The fresh count is the number of fresh arrivals."
   pub freshCount : run s cs .state .fresh ≡ length (fresh cs)
+  -- "Fresh + missing = the sent packets from the first fresh arrival to the last, .."
   pub missing : run s cs .state .fresh + run s cs .state .missing ≡ span (fresh cs)
-  pub late : run s cs .state .late ≡ min (length (arrived cs) - length (fresh cs)) (2 ^ 64 - 1)
+  -- "Late equals the arrivals of sent packets that aren't fresh, or 2^64 - 1 if they are more."
+  pub late : run s cs .state .late ≡ min (length (arrived cs) - length (fresh cs)) maxCount
 
+-- Demand 3. It is said of every list of calls, so of every first part of one: a field is handed out at the call that completes it.
 abbrev pub Demand3 : Type 0
-Demand3 = (s : Stream) → WellFormedStream s → (cs : Calls) → Proper s cs → Kept s cs
+Demand3 = (s : Stream) → WellFormedStream s → (cs : Calls) → Proper s cs → Demand3After s cs

@@ -1,7 +1,6 @@
 // What lets an arrival pass (01: "An arrival passes 35, then 1 to 13, then 30, 31, 32").
 ghost use mathlib.Core.Path.{_≡_};
 ghost use Rattle.rtp.specs.Answers.{checkedOf};
-ghost use Rattle.depacketizer.specs.Decide.{admission};
 ghost use Rattle.depacketizer.specs.Step as step;
 use crate::decide::fits;
 use crate::state::Depacketizer;
@@ -11,7 +10,7 @@ use rtp::packet::Checked;
 use wire::refusal::Refusal;
 
 // 35: more than a field or the store can have, something gathered where not filling, or more than lost before a first arrival.
-pub fn is_sound(state: Depacketizer, room: usize) -> bool
+fn is_sound(state: Depacketizer, room: usize) -> bool
     ensures { λ r. ⌜ r ≡ step.sound state room ⌝ }
 {
     let empty = (state.records == 0) & (state.cells == 0);
@@ -25,8 +24,8 @@ pub fn is_sound(state: Depacketizer, room: usize) -> bool
 }
 
 // 35, 1 to 13, 30, 31.
-pub fn admit(state: Depacketizer, room: usize, octets: &[u8]) -> Checked
-    ensures { λ r. ⌜ r ≡ checkedOf (now (octets .entry)) (admission state room (now (octets .entry))) ⌝ }
+pub(crate) fn admit(state: Depacketizer, room: usize, octets: &[u8]) -> Checked
+    ensures { λ r. ⌜ r ≡ checkedOf (now (octets .entry)) (step.admission state room (now (octets .entry))) ⌝ }
 {
     if !is_sound(state, room) {
         return Checked::Refused(Refusal {

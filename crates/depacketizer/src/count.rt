@@ -2,7 +2,7 @@
 ghost use mathlib.Core.Path.{_≡_};
 ghost use Rattle.depacketizer.specs.Step.{_⊞_};
 
-pub fn increased(count: u64, by: u64) -> u64
+pub(crate) fn increased(count: u64, by: u64) -> u64
     ensures { λ r. ⌜ r ≡ count ⊞ by ⌝ }
 {
     if by > 0xffff_ffff_ffff_ffff - count {

@@ -2,14 +2,15 @@
 ghost use mathlib.Core.Path.{_≡_};
 ghost use mathlib.Core.Bool.{cond};
 ghost use Prim.Native.Nat.{_≤_};
-ghost use Rattle.wire.specs.Writing.{maxCells, maxRecords};
-ghost use Rattle.depacketizer.specs.Decide.{droppedBy, followBy, joinBy, takenBy};
+ghost use Rattle.wire.specs.Writing.{maxFieldCells, maxFieldRecords};
 ghost use Rattle.depacketizer.specs.Step as step;
 use crate::state::Answer;
 use crate::state::Depacketizer;
 use crate::state::Field;
 use crate::state::Phase;
 use rtp::packet::Summary;
+use wire::limit::MAX_FIELD_CELLS;
+use wire::limit::MAX_FIELD_RECORDS;
 use wire::number::Timestamp;
 
 // The answer, what is gathered then, and whether the packet's cells are appended.
@@ -25,7 +26,7 @@ pub struct Decision {
 
 // After a marked packet the next one starts a field; after any other that is not held none can.
 fn dropped(answer: Answer, marker: bool) -> Decision
-    ensures { λ r. ⌜ r ≡ droppedBy answer marker ⌝ }
+    ensures { λ r. ⌜ r ≡ step.decisionOf (step.dropped answer marker) ⌝ }
 {
     if marker {
         Decision {
@@ -52,7 +53,7 @@ fn dropped(answer: Answer, marker: bool) -> Decision
 
 // The field is whole with a marked packet, and held with any other.
 fn taken(summary: Summary, records: usize, cells: usize) -> Decision
-    ensures { λ r. ⌜ r ≡ takenBy summary records cells ⌝ }
+    ensures { λ r. ⌜ r ≡ step.decisionOf (step.taken summary records cells) ⌝ }
 {
     let head = summary.head;
     let timestamp = head.timestamp;
@@ -85,19 +86,20 @@ fn taken(summary: Summary, records: usize, cells: usize) -> Decision
     }
 }
 
-pub fn fits(records: usize, cells: usize, room: usize) -> bool
+// Within a field's limits and the store.
+pub(crate) fn fits(records: usize, cells: usize, room: usize) -> bool
     ensures { λ r. ⌜ r ≡ step.fits records cells room ⌝ }
 {
-    (records <= 255) & ((cells <= 16384) & (cells <= room))
+    (records <= MAX_FIELD_RECORDS) & ((cells <= MAX_FIELD_CELLS) & (cells <= room))
 }
 
 // A packet joins so many records in so many cells.
 fn join(records: usize, cells: usize, summary: Summary, room: usize) -> Decision
-    requires { ⌜ (records ≤ maxRecords) × (cells ≤ maxCells) ⌝ }
-    ensures { λ r. ⌜ r ≡ joinBy records cells summary room ⌝ }
+    requires { ⌜ (records ≤ maxFieldRecords) × (cells ≤ maxFieldCells) ⌝ }
+    ensures { λ r. ⌜ r ≡ step.decisionOf (step.join records cells summary room) ⌝ }
 {
     let head = summary.head;
-    if summary.cells > 16384 {
+    if summary.cells > MAX_FIELD_CELLS {
         return dropped(Answer::Overfull, head.marker);
     }
     let all = records + (summary.records as usize);
@@ -110,8 +112,8 @@ fn join(records: usize, cells: usize, summary: Summary, room: usize) -> Decision
 
 // A packet that follows the last fresh one.
 fn follow(state: Depacketizer, summary: Summary, room: usize) -> Decision
-    requires { ⌜ (state .records ≤ maxRecords) × (state .cells ≤ maxCells) ⌝ }
-    ensures { λ r. ⌜ r ≡ followBy (step.gathered state) summary room ⌝ }
+    requires { ⌜ (state .records ≤ maxFieldRecords) × (state .cells ≤ maxFieldCells) ⌝ }
+    ensures { λ r. ⌜ r ≡ step.decisionOf (step.follow (step.gathered state) summary room) ⌝ }
 {
     let head = summary.head;
     let phase = state.phase;
@@ -131,9 +133,9 @@ fn follow(state: Depacketizer, summary: Summary, room: usize) -> Decision
 }
 
 // `next` where the packet follows the last fresh one; else there is a gap before it, and what was gathered is dropped.
-pub fn decide(state: Depacketizer, next: bool, summary: Summary, room: usize) -> Decision
-    requires { ⌜ (state .records ≤ maxRecords) × (state .cells ≤ maxCells) ⌝ }
-    ensures { λ r. ⌜ r ≡ followBy (cond next (step.gathered state) step.lost) summary room ⌝ }
+pub(crate) fn decide(state: Depacketizer, next: bool, summary: Summary, room: usize) -> Decision
+    requires { ⌜ (state .records ≤ maxFieldRecords) × (state .cells ≤ maxFieldCells) ⌝ }
+    ensures { λ r. ⌜ r ≡ step.decisionOf (step.follow (cond next (step.gathered state) step.lost) summary room) ⌝ }
 {
     if next {
         return follow(state, summary, room);

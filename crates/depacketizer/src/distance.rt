@@ -1,12 +1,12 @@
 // How far a packet's number is from the last fresh one (01, "The distance ..").
 ghost use mathlib.Core.Path.{_≡_};
 ghost use Prim.Native.Nat.{ℕ};
-ghost use Rattle.depacketizer.specs.Decide.{placeOf};
+ghost use Rattle.depacketizer.specs.Answers.{freshnessOf};
 ghost use Rattle.depacketizer.specs.Step as step;
 use wire::number::PacketNumber;
 
 // Where a packet stands: late, or fresh with so many missing before it; `next` where it follows the last fresh one.
-pub enum Place {
+pub enum Freshness {
     Late,
     Fresh { missing: u64, next: bool },
 }
@@ -24,26 +24,26 @@ fn distance(last: PacketNumber, number: PacketNumber) -> i32
 }
 
 // Zero or negative is late, the most negative number too; 1 is next; over 1 there is a gap. The first is always fresh.
-pub fn classify(heard: bool, last: PacketNumber, number: PacketNumber) -> Place
-    ensures { λ r. ⌜ r ≡ placeOf heard (step.classify (step.distance (last .0) (number .0))) ⌝ }
+pub(crate) fn classify(heard: bool, last: PacketNumber, number: PacketNumber) -> Freshness
+    ensures { λ r. ⌜ r ≡ freshnessOf heard (step.classify (step.distance (last .0) (number .0))) ⌝ }
 {
     if !heard {
-        return Place::Fresh {
+        return Freshness::Fresh {
             missing: 0,
             next: false,
         };
     }
     let d = distance(last, number);
     if d <= 0 {
-        return Place::Late;
+        return Freshness::Late;
     }
     if d == 1 {
-        return Place::Fresh {
+        return Freshness::Fresh {
             missing: 0,
             next: true,
         };
     }
-    Place::Fresh {
+    Freshness::Fresh {
         missing: (d - 1) as u64,
         next: false,
     }

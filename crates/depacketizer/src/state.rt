@@ -1,15 +1,16 @@
 // The depacketizer: its state, its answers, and what an arrival does (01's keeper).
 ghost use mathlib.Core.Path.{_≡_};
-ghost use Rattle.depacketizer.specs.Decide.{afterBy, arrivalOf};
+ghost use Rattle.depacketizer.specs.Answers.{arrivalOf};
 ghost use Rattle.depacketizer.specs.Step as step;
 use crate::admit::admit;
 use crate::count::increased;
 use crate::decide::Decision;
 use crate::decide::decide;
-use crate::distance::Place;
+use crate::distance::Freshness;
 use crate::distance::classify;
 use rtp::check::read_records;
 use rtp::packet::Checked;
+use wire::limit::MAX_TYPE;
 use wire::number::PacketNumber;
 use wire::number::Timestamp;
 use wire::refusal::Refusal;
@@ -83,7 +84,7 @@ fn after(
     decision: Decision,
     missing: u64,
 ) -> Depacketizer
-    ensures { λ r. ⌜ r ≡ afterBy state (number .0) decision missing ⌝ }
+    ensures { λ r. ⌜ r ≡ step.after state (number .0) decision missing ⌝ }
 {
     let phase = decision.phase;
     let timestamp = decision.timestamp;
@@ -108,7 +109,7 @@ impl Depacketizer {
     pub fn open(source: u32, payload_type: u8) -> Opened
         ensures { λ r. ⌜ r ≡ step.openOf source «payload_type» ⌝ }
     {
-        if payload_type > 127 {
+        if payload_type > MAX_TYPE {
             return Opened::Refused(Refusal {
                 number: Refusal::HEAD_INVALID,
                 index: 0,
@@ -144,8 +145,8 @@ impl Depacketizer {
         };
         let summary = outline.summary;
         let head = summary.head;
-        let place = classify(self.heard, self.last, head.number);
-        let Place::Fresh { missing, next } = place else {
+        let freshness = classify(self.heard, self.last, head.number);
+        let Freshness::Fresh { missing, next } = freshness else {
             return Arrival {
                 state: later(self),
                 answer: Answer::Refused(Refusal {

@@ -11,7 +11,6 @@ use lib.Dec.{eqb, leb}
 use lib.ListN.{length, take, drop, length-append}
 use lib.Seq.{length-take-le, take-all, take-at, drop-at, take-append-le, take-append-add, take-nil}
 use borrow.Author.Tests.{leb-true, leb-false, le-leb, lt-leb, ne-eqb}
-use Rattle.wire.specs.declared.refusal.Refusal.{Refusal}
 use Rattle.wire.specs.Bits.{toBits, num, bits, octets, fieldBits, bitsAt, rowAt, pack}
 use Rattle.wire.specs.Words.{wordBits, headerNumbers}
 use Rattle.wire.specs.Layout.{rfc8331, leastSize}
@@ -22,35 +21,10 @@ use Rattle.wire.proofs.Window.{bitsAt-slice}
 use Rattle.wire.proofs.ResultLaws.{Passed, judge-accepts, judge-passes}
 use Rattle.wire.proofs.SizeLaws.{length-anc}
 use Rattle.wire.proofs.AncLaws.{accepts-iff, count-read, below-run}
-use Rattle.fieldfile.specs.File.{fileHeadSize, nameSize, fieldHeaderSize, FieldContent, fileHead, headerFields, fieldOctets, fieldSize, fieldsOctets, fileOctets, WellFormedField, headerChecks, readFront, fileChecks, readField, FileRead, endOfFile, noField, fieldThen, readFrom, readFile}
+use Rattle.fieldfile.specs.File.{fileHeadSize, nameSize, fieldHeaderSize, FieldContent, fileHead, fieldHeaderFields, fieldOctets, fieldSize, fieldsOctets, fileOctets, WellFormedField, fieldHeaderChecks, readFront, fileChecks, readField, endOfFile, noField, fieldThen, readFrom, readFile}
+use Rattle.fieldfile.specs.Cut.{cutPacket, cutEnd, cutFields, cutFile}
 use Rattle.fieldfile.proofs.FrontLaws.{length-field, HeaderFound, header-found}
 use Rattle.fieldfile.proofs.FileLaws.{length-head, below-fields, field-read, head-passes, at-end, at-field, Reading, ends, goes, reading-is}
-
--- which packet is cut, of packets of which `m` octets stand
-abbrev pub cutPacket : ℕ → List Record → ℕ
-cutPacket m [] = 0
-cutPacket m (r ∷ rs) =
-    let size = ancSize rfc8331 (length (r .words)) in cond (leb size m) (suc (cutPacket (m - size) rs)) 0
-
--- how a field ends of which `m` octets stand: none, a part of its header, or a part of its packets
-abbrev pub cutEnd : ℕ → FieldContent → Refusal
-cutEnd m k =
-    cond (eqb m 0) endOfFile
-    (cond (leb fieldHeaderSize m) (record { number = 9; index = cutPacket (m - fieldHeaderSize) (k .records) }) (record { number = 52; index = 0 }))
-
--- what fields read as of which `m` octets stand
-abbrev pub cutFields : ℕ → List FieldContent → FileRead
-cutFields m [] = noField endOfFile
-cutFields m (k ∷ ks) =
-    let size = fieldSize (k .records) in
-    cond (leb size m) (fieldThen k (cutFields (m - size) ks)) (noField (cutEnd m k))
-
--- what a file reads as of which `n` octets stand
-abbrev pub cutFile : ℕ → List FieldContent → FileRead
-cutFile n ks =
-    cond (leb nameSize n)
-    (cond (leb fileHeadSize n) (cutFields (n - fileHeadSize) ks) (noField (record { number = 51; index = 0 })))
-    (noField (record { number = 50; index = 0 }))
 
 -- octets that are left read as before
 cut-bits : (s : List ℕ) (m k n : ℕ) → k + n ≤ 8 * m → bitsAt (take m s) k n ≡ bitsAt s k n
@@ -136,7 +110,7 @@ run-cut i (r ∷ rs) w m h = run-next i r rs m (w .0) (λ j l. run-cut (i + 1) r
 module _ (k : FieldContent) (w : WellFormedField k) (m : ℕ) (some : 0 < m) (cut : m < fieldSize (k .records)) where
   -- in its header
   cut-header : m < fieldHeaderSize → readFront (take m (fieldOctets k)) ≡ refuse 52 0
-  unfolding readFront headerChecks
+  unfolding readFront fieldHeaderChecks
   cut-header h =
       let s = take m (fieldOctets k) in
       let a : leb fieldHeaderSize (length s) ≡ false = lt-leb fieldHeaderSize (length s) (omega (arith, length-take-le m (fieldOctets k) (omega (arith, length-field k)))) in
@@ -147,14 +121,14 @@ module _ (k : FieldContent) (w : WellFormedField k) (m : ℕ) (some : 0 < m) (cu
   unfolding readFront
   cut-run h =
       let rs = k .records in
-      let fs = headerFields (k .timestamp) (k .f) (length rs) in
+      let fs = fieldHeaderFields (k .timestamp) (k .f) (length rs) in
       let s = take m (fieldOctets k) in
       let t = take (m - fieldHeaderSize) (runOctets rfc8331 rs) in
       let lp : length (pack fs) ≡ fieldHeaderSize = length-pack [] fs fieldHeaderSize refl in
       let parts : s ≡ pack fs ++ t = beyond (pack fs) (runOctets rfc8331 rs) m (omega arith) ∙ ap (λ (x : ℕ). pack fs ++ take (m - x) (runOctets rfc8331 rs)) lp in
       let f : HeaderFound s k t = header-found s k t w parts in
       let r = run-cut 0 rs (w .records) (m - fieldHeaderSize) (omega arith) in
-      judge-passes 0 (headerChecks s) _ (f .passed) ∙ rw (f .count, f .behind, r, zero-add (cutPacket (m - fieldHeaderSize) rs))
+      judge-passes 0 (fieldHeaderChecks s) _ (f .passed) ∙ rw (f .count, f .behind, r, zero-add (cutPacket (m - fieldHeaderSize) rs))
 
   field-cut : readFront (take m (fieldOctets k)) ≡ refused (cutEnd m k)
   field-cut = let z : eqb m 0 ≡ false = ne-eqb m 0 (λ (e : m ≡ 0). omega arith) in rw z (go (leb fieldHeaderSize m) refl)

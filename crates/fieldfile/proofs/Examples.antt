@@ -10,7 +10,7 @@ use Rattle.wire.specs.Result.{accepted, refuse}
 use Rattle.wire.specs.Anc.{ancSize, ancRecord, headersOk, checksumOk, alignmentOk, ancChecks, readAnc, readRun}
 use Rattle.wire.specs.Cells.{cellsOf, listOf, cellRecord, headInRange, cellChecks, recordsFrom}
 use Rattle.wire.proofs.Examples.{a, aOctets, b, bOctets}
-use Rattle.fieldfile.specs.File.{FieldContent, fileOctets, headerChecks, readFront, fileChecks, offsetChecks, readField, readInto, writeHead, endOfFile, recordsToWrite, writeField, readFrom, readFile}
+use Rattle.fieldfile.specs.File.{FieldContent, fileOctets, fieldHeaderChecks, readFront, fileChecks, offsetChecks, readField, readInto, writeHead, endOfFile, recordsToWrite, writeField, readFrom, readFile}
 
 -- field 1 with A, field 2 with A and B, and then a field without records
 abbrev pub first : FieldContent
@@ -39,7 +39,7 @@ written = (refl, refl, refl, refl, refl)
 
 -- read at 5, at the offset after the first field, and at the end
 pub read : (readInto file 5 8 ≡ accepted (first, 23)) × (readInto file 23 18 ≡ accepted (second, 53)) × (readInto file 53 0 ≡ refuse 54 0)
-unfolding toBits num bits bitsAt rowAt headerWord checksumWord ancSize ancRecord headersOk checksumOk alignmentOk ancChecks readAnc readRun headerChecks readFront fileChecks offsetChecks readField readInto
+unfolding toBits num bits bitsAt rowAt headerWord checksumWord ancSize ancRecord headersOk checksumOk alignmentOk ancChecks readAnc readRun fieldHeaderChecks readFront fileChecks offsetChecks readField readInto
 read = (refl, refl, refl)
 
 -- the whole file, and the file cut in its second field
@@ -47,7 +47,7 @@ pub whole : (readFile file ≡ record { fields = first ∷ second ∷ []; end = 
     × (readFile (take 52 file) ≡ record { fields = first ∷ []; end = record { number = 9; index = 1 } })
     × (readFile (take 25 file) ≡ record { fields = first ∷ []; end = record { number = 52; index = 0 } })
     × (readFile (take 23 file) ≡ record { fields = first ∷ []; end = endOfFile })
-unfolding toBits num bits bitsAt rowAt headerWord checksumWord ancSize ancRecord headersOk checksumOk alignmentOk ancChecks readAnc readRun headerChecks readFront fileChecks offsetChecks readField readFrom
+unfolding toBits num bits bitsAt rowAt headerWord checksumWord ancSize ancRecord headersOk checksumOk alignmentOk ancChecks readAnc readRun fieldHeaderChecks readFront fileChecks offsetChecks readField readFrom
 whole = (refl, refl, refl, refl)
 
 -- 50: another name, under three octets; 51: another version, under five octets
@@ -65,14 +65,14 @@ refused-offset = (refl, refl, refl, refl, refl)
 -- 52: the field header cut; 53: F is 1, and over 3; but 52 where the header is cut
 pub refused-header : (readField (take 10 file) 5 ≡ refuse 52 0) × (readField (set file 9 1) 5 ≡ refuse 53 0) × (readField (set file 9 4) 5 ≡ refuse 53 0)
     × (readField (take 10 (set file 9 1)) 5 ≡ refuse 52 0)
-unfolding toBits num bits bitsAt headerChecks readFront fileChecks offsetChecks readField
+unfolding toBits num bits bitsAt fieldHeaderChecks readFront fileChecks offsetChecks readField
 refused-header = (refl, refl, refl, refl)
 
 -- 9, 10, 11 and 12 with the index of the packet in its field; 14 with room for a cell less
 pub refused-packets : (readField (take 22 file) 5 ≡ refuse 9 0) × (readField (take 52 file) 23 ≡ refuse 9 1)
     × (readField (set file 15 0x10) 5 ≡ refuse 10 0) × (readField (set file 49 0x00) 23 ≡ refuse 11 1) × (readField (set file 22 0x01) 5 ≡ refuse 12 0)
     × (readInto file 5 7 ≡ refuse 14 0)
-unfolding toBits num bits bitsAt rowAt headerWord checksumWord ancSize ancRecord headersOk checksumOk alignmentOk ancChecks readAnc readRun headerChecks readFront fileChecks offsetChecks readField readInto
+unfolding toBits num bits bitsAt rowAt headerWord checksumWord ancSize ancRecord headersOk checksumOk alignmentOk ancChecks readAnc readRun fieldHeaderChecks readFront fileChecks offsetChecks readField readInto
 refused-packets = (refl, refl, refl, refl, refl, refl)
 
 -- writing: 53 before 20, 20 with the record's index, 23

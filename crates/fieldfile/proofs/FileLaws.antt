@@ -17,12 +17,13 @@ use Rattle.wire.specs.Layout.{rfc8331}
 use Rattle.wire.specs.Result.{Result, refused, accepted, refuse, _then_}
 use Rattle.wire.specs.Anc.{Record, runOctets}
 use Rattle.wire.specs.Cells.{listOf}
+use Rattle.wire.specs.Writing.{maxFieldCells}
 use Rattle.wire.proofs.BitLaws.{Reads, packed, unpacked, length-pack, below-octets, below-append}
 use Rattle.wire.proofs.ResultLaws.{Passed, accepted-inj, judge-accepts, judge-passes, then-accepts, and-true, and-both}
 use Rattle.wire.proofs.AncLaws.{below-run}
 use Rattle.wire.proofs.CellLaws.{list-iff}
 use Rattle.wire.proofs.PacketLaws.{not-eqb}
-use Rattle.fieldfile.specs.File.{fileName, fileVersion, nameBits, versionBits, nameSize, fileHeadSize, timestampBits, fieldHeaderSize, maxFieldCells, FieldContent, fileFields, fileHead, headerFields, fieldOctets, fieldSize, fieldsOctets, fileOctets, WellFormedField, readFront, fileChecks, offsetChecks, readField, readInto, recordsToWrite, writeField, fieldThen, readOn, readFrom}
+use Rattle.fieldfile.specs.File.{fileName, fileVersion, nameBits, versionBits, nameSize, fileHeadSize, timestampBits, fieldHeaderSize, FieldContent, fileFields, fileHead, fieldHeaderFields, fieldOctets, fieldSize, fieldsOctets, fileOctets, WellFormedField, readFront, fileChecks, offsetChecks, readField, readInto, recordsToWrite, writeField, fieldThen, readOn, readFrom}
 use Rattle.fieldfile.proofs.FrontLaws.{length-field, front-iff}
 use Rattle.fieldfile.proofs.WriteLaws.{Writes, writes}
 
@@ -32,7 +33,7 @@ length-head = length-pack [] fileFields fileHeadSize refl
 
 pub below-field : (k : FieldContent) → Below 256 (fieldOctets k)
 below-field k =
-    below-append 256 (pack (headerFields (k .timestamp) (k .f) (length (k .records)))) (runOctets rfc8331 (k .records)) (below-octets _ _) (below-run rfc8331 (k .records))
+    below-append 256 (pack (fieldHeaderFields (k .timestamp) (k .f) (length (k .records)))) (runOctets rfc8331 (k .records)) (below-octets _ _) (below-run rfc8331 (k .records))
 
 pub below-fields : (ks : List FieldContent) → Below 256 (fieldsOctets ks)
 below-fields [] = tt

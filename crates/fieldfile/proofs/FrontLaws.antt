@@ -15,10 +15,11 @@ use Rattle.wire.specs.Layout.{rfc8331}
 use Rattle.wire.specs.Result.{Result, accepted, judge, _then_}
 use Rattle.wire.specs.Anc.{Record, runOctets, runSize, readRun}
 use Rattle.wire.specs.Cells.{listOf}
+use Rattle.wire.specs.Writing.{maxFieldRecords, maxFieldCells}
 use Rattle.wire.proofs.BitLaws.{Reads, packed, unpacked, length-pack, below-drop}
 use Rattle.wire.proofs.ResultLaws.{Passed, accepted-inj, judge-accepts, judge-passes, then-accepts, and-true, and-both}
 use Rattle.wire.proofs.AncLaws.{run-iff, length-run}
-use Rattle.fieldfile.specs.File.{FieldContent, fileFBits, fieldHeaderSize, maxFieldRecords, maxFieldCells, headerFields, fieldOctets, fieldSize, fileFOk, withinLimits, WellFormedField, timestampField, fileFField, countField, fieldRead, headerChecks, limitChecks, readFront}
+use Rattle.fieldfile.specs.File.{FieldContent, fileFBits, fieldHeaderSize, fieldHeaderFields, fieldOctets, fieldSize, fileFOk, withinLimits, WellFormedField, timestampField, fileFField, countField, fieldRead, fieldHeaderChecks, limitChecks, readFront}
 
 -- F is a number of its octet
 pub f-small : (f : ℕ) → fileFOk f ≡ true → f < 2 ^ fileFBits
@@ -33,28 +34,28 @@ f-small f h = go (eqb f 0) (eqb f 2) (eqb f 3) refl refl refl h
 -- octets of a field
 pub length-field : (k : FieldContent) → length (fieldOctets k) ≡ fieldSize (k .records)
 length-field k =
-    let fs = headerFields (k .timestamp) (k .f) (length (k .records)) in
+    let fs = fieldHeaderFields (k .timestamp) (k .f) (length (k .records)) in
     length-append (pack fs) (runOctets rfc8331 (k .records))
     ∙ ap₂ _+_ (length-pack [] fs fieldHeaderSize refl) (length-run rfc8331 (k .records))
 
 -- a header that passes is there
-pub header-there : (s : List ℕ) → Passed (headerChecks s) → fieldHeaderSize ≤ length s
-unfolding headerChecks
+pub header-there : (s : List ℕ) → Passed (fieldHeaderChecks s) → fieldHeaderSize ≤ length s
+unfolding fieldHeaderChecks
 header-there s p = leb-true fieldHeaderSize (length s) (p .0)
 
 -- a header that stands packed reads as its fields, and passes
 pub record HeaderFound (s : List ℕ) (k : FieldContent) (t : List ℕ) : Type 0 where
-  pub passed : Passed (headerChecks s)
+  pub passed : Passed (fieldHeaderChecks s)
   pub timestamp : timestampField s ≡ k .timestamp
   pub f : fileFField s ≡ k .f
   pub count : countField s ≡ length (k .records)
   pub behind : drop fieldHeaderSize s ≡ t
 
 pub header-found : (s : List ℕ) (k : FieldContent) (t : List ℕ) → WellFormedField k
-    → s ≡ pack (headerFields (k .timestamp) (k .f) (length (k .records))) ++ t → HeaderFound s k t
-unfolding headerChecks
+    → s ≡ pack (fieldHeaderFields (k .timestamp) (k .f) (length (k .records))) ++ t → HeaderFound s k t
+unfolding fieldHeaderChecks
 header-found s k t w e =
-    let fs = headerFields (k .timestamp) (k .f) (length (k .records)) in
+    let fs = fieldHeaderFields (k .timestamp) (k .f) (length (k .records)) in
     let lp : length (pack fs) ≡ fieldHeaderSize = length-pack [] fs fieldHeaderSize refl in
     let fit : Fit fs = (w .timestamp, (f-small (k .f) (w .f), (omega (arith, w .few), tt))) in
     let r : Reads s 0 fs = unpacked s fs fieldHeaderSize refl fit (ap (take fieldHeaderSize) e ∙ take-at (pack fs) t fieldHeaderSize lp) in
@@ -69,7 +70,7 @@ header-found s k t w e =
 
 -- what an answer says: every check passed, and what was read
 pub record Answer (s : List ℕ) (k : FieldContent) : Type 0 where
-  pub header : Passed (headerChecks s)
+  pub header : Passed (fieldHeaderChecks s)
   pub rest : List ℕ
   pub ran : readRun rfc8331 0 (countField s) (drop fieldHeaderSize s) ≡ accepted (k .records, rest)
   pub limits : withinLimits (length (k .records)) (length (listOf (k .records))) ≡ true
@@ -83,7 +84,7 @@ module _ (s : List ℕ) (k : FieldContent) where
   unfolding readFront
   answer-iff = (
     λ e.
-        let h = judge-accepts 0 (headerChecks s) _ k e in
+        let h = judge-accepts 0 (fieldHeaderChecks s) _ k e in
         let r = then-accepts run _ k (h .1) in
         let l = judge-accepts 0 (limitChecks (r .0 .0)) (accepted (fieldRead s (r .0 .0))) k (r .2) in
         let same : fieldRead s (r .0 .0) ≡ k = accepted-inj (l .1) in
@@ -96,7 +97,7 @@ module _ (s : List ℕ) (k : FieldContent) where
           read = ap (fieldRead s) (sym rs) ∙ same;
         },
     λ a.
-        judge-passes 0 (headerChecks s) _ (a .header)
+        judge-passes 0 (fieldHeaderChecks s) _ (a .header)
         ∙ ap (λ x. x then λ q. judge 0 (limitChecks (q .0)) (accepted (fieldRead s (q .0)))) (a .ran)
         ∙ judge-passes 0 (limitChecks (k .records)) _ (a .limits, tt)
         ∙ ap accepted (a .read),
@@ -104,13 +105,13 @@ module _ (s : List ℕ) (k : FieldContent) where
 
   -- what stands in the octets of a field that is accepted
   answer-stands : Below 256 s → Answer s k → WellFormedField k × (take (fieldSize (k .records)) s ≡ fieldOctets k)
-  unfolding headerChecks
+  unfolding fieldHeaderChecks
   answer-stands b a =
       let rs = k .records in
       let r = run-iff rfc8331 0 (countField s) (drop fieldHeaderSize s) (below-drop 256 fieldHeaderSize s b) rs (a .rest) .0 (a .ran) in
       let ts : timestampField s ≡ k .timestamp = ap (λ (x : FieldContent). x .timestamp) (a .read) in
       let f : fileFField s ≡ k .f = ap (λ (x : FieldContent). x .f) (a .read) in
-      let fs = headerFields (k .timestamp) (k .f) (length rs) in
+      let fs = fieldHeaderFields (k .timestamp) (k .f) (length rs) in
       let front = packed s fs fieldHeaderSize refl b (header-there s (a .header)) (ts, (f, (sym (r .0), tt))) in
       let l = and-true (leb (length rs) maxFieldRecords) (leb (length (listOf rs)) maxFieldCells) (a .limits) in (
         record {
@@ -128,7 +129,7 @@ module _ (s : List ℕ) (k : FieldContent) where
   stands-answer : Below 256 s → WellFormedField k → take (fieldSize (k .records)) s ≡ fieldOctets k → Answer s k
   stands-answer b w e =
       let rs = k .records in
-      let fs = headerFields (k .timestamp) (k .f) (length rs) in
+      let fs = fieldHeaderFields (k .timestamp) (k .f) (length rs) in
       let rest = drop (fieldSize rs) s in
       let parts : s ≡ pack fs ++ (runOctets rfc8331 rs ++ rest) =
       sym (take-append-drop (fieldSize rs) s) ∙ ap (λ (x : List ℕ). x ++ rest) e ∙ append-assoc (pack fs) (runOctets rfc8331 rs) rest in

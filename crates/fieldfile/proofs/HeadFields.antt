@@ -2,16 +2,15 @@
 -- Each is whole octets, so it is the number that they write; each reads back, so the octets are the packed fields.
 use mathlib.Core.Path.{_≡_, refl, sym, _∙_}
 use mathlib.Core.List.{List, [], _∷_}
-use Prim.Native.Nat.{ℕ, zero, suc, _+_, _*_, _/_, _%_, _^_, _<_, _≤_}
+use Prim.Native.Nat.{ℕ, _+_, _*_, _/_, _%_, _^_, _<_, _≤_}
 use native.Mathlib.Omega.{arith}
-use lib.Dec.{lit<}
 use lib.ListN.{length, getD}
 use lib.Seq.{drop-cons}
 use Rattle.wire.specs.Bits.{toBits, num, octets, fieldBits, bitsAt, Below, pack}
 use Rattle.wire.proofs.BitLaws.{Reads, packed}
-use Rattle.wire.proofs.Window.{window, below-all}
+use Rattle.wire.proofs.Window.{window, below-all, below-each}
 use Rattle.wire.proofs.FieldLaws.{within-octet, four-octets-at}
-use Rattle.fieldfile.specs.File.{nameBits, nameSize, timestampBits, fileFBits, countBits, fieldHeaderSize, fileHead, headerFields, fileFField, countField}
+use Rattle.fieldfile.specs.File.{nameBits, nameSize, timestampBits, fileFBits, countBits, fieldHeaderSize, fileHead, fieldHeaderFields, fileFField, countField}
 
 -- the first five octets
 pub head-packed : 0x41 ∷ 0x4E ∷ 0x46 ∷ 0 ∷ 1 ∷ [] ≡ fileHead
@@ -41,18 +40,13 @@ module _ (ts f count : ℕ) (ht : ts < 2 ^ timestampBits) (hf : f < 2 ^ fileFBit
   below = omega arith
 
   octet : (j : ℕ) → getD headerOctets j 0 < 256
-  octet j = go headerOctets below j
-    where
-      go : (s : List ℕ) → Below 256 s → (j : ℕ) → getD s j 0 < 256
-      go [] h j = lit< tt
-      go (x ∷ s) h zero = h .0
-      go (x ∷ s) h (suc j) = go s (h .1) j
+  octet = below-each headerOctets below
 
-  reads : Reads headerOctets 0 (headerFields ts f count)
+  reads : Reads headerOctets 0 (fieldHeaderFields ts f count)
   reads = (
     four-octets-at headerOctets octet 0 (omega arith) ∙ omega arith,
     (sym (f-at headerOctets octet (omega arith)), (sym (count-at headerOctets octet (omega arith)), tt)),
   )
 
-  pub header-packed : headerOctets ≡ pack (headerFields ts f count)
-  header-packed = packed headerOctets (headerFields ts f count) fieldHeaderSize refl below (omega arith) reads .1
+  pub header-packed : headerOctets ≡ pack (fieldHeaderFields ts f count)
+  header-packed = packed headerOctets (fieldHeaderFields ts f count) fieldHeaderSize refl below (omega arith) reads .1

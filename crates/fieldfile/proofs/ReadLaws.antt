@@ -16,13 +16,14 @@ use Rattle.wire.specs.Layout.{rfc8331}
 use Rattle.wire.specs.Result.{Result, refused, accepted, refuse, judge, _then_, IsAccepted}
 use Rattle.wire.specs.Anc.{Record, readRun, runOctets, runSize}
 use Rattle.wire.specs.Cells.{listOf}
+use Rattle.wire.specs.Writing.{maxFieldRecords, maxFieldCells}
 use Rattle.wire.proofs.BitLaws.{bitsAt-lt, below-drop}
 use Rattle.wire.proofs.ListLaws.{part-all}
 use Rattle.wire.proofs.ResultLaws.{Passed, judge-accepts, judge-passes, then-accepts, accepted-inj, and-true}
 use Rattle.wire.proofs.AncLaws.{run-iff, length-run}
 use Rattle.anc.specs.Answers.{runOf, runCells}
 use Rattle.anc.specs.declared.check.Run.the-variants as run
-use Rattle.fieldfile.specs.File.{FieldContent, timestampBits, fileFBits, countBits, fileHeadSize, fieldHeaderSize, maxFieldRecords, maxFieldCells, fieldSize, timestampField, fileFField, countField, fieldRead, headerChecks, limitChecks, readFront, fileChecks, offsetChecks, readField, readInto}
+use Rattle.fieldfile.specs.File.{FieldContent, timestampBits, fileFBits, countBits, fileHeadSize, fieldHeaderSize, fieldSize, timestampField, fileFField, countField, fieldRead, fieldHeaderChecks, limitChecks, readFront, fileChecks, offsetChecks, readField, readInto}
 use Rattle.fieldfile.specs.Answers.{stageOf, summaryOf, readOf, cellsAfter}
 use Rattle.fieldfile.specs.declared.field.Summary.{Summary}
 use Rattle.fieldfile.specs.declared.field.FieldRead.the-variants as read
@@ -32,17 +33,17 @@ use Rattle.fieldfile.proofs.FrontLaws.{Answer, answer-iff, header-there
 
 -- the field at the front of octets
 module _ (s : List ℕ) where
-  pub refused-header : (x : Refusal) → stageOf (headerChecks s) ≡ stage.Refused x → readFront s ≡ refused x
+  pub refused-header : (x : Refusal) → stageOf (fieldHeaderChecks s) ≡ stage.Refused x → readFront s ≡ refused x
   unfolding readFront
-  refused-header x h = stage-refused (headerChecks s) x _ h
+  refused-header x h = stage-refused (fieldHeaderChecks s) x _ h
 
-  module _ (ph : Passed (headerChecks s)) where
+  module _ (ph : Passed (fieldHeaderChecks s)) where
     abbrev ran : Result (List Record × List ℕ)
     ran = readRun rfc8331 0 (countField s) (drop fieldHeaderSize s)
 
     past : readFront s ≡ (readRun rfc8331 0 (countField s) (drop fieldHeaderSize s) then λ q. judge 0 (limitChecks (q .0)) (accepted (fieldRead s (q .0))))
     unfolding readFront
-    past = judge-passes 0 (headerChecks s) _ ph
+    past = judge-passes 0 (fieldHeaderChecks s) _ ph
 
     pub refused-run : (x : Refusal) → runOf (readRun rfc8331 0 (countField s) (drop fieldHeaderSize s)) ≡ run.Refused x → readFront s ≡ refused x
     refused-run x h = past ∙ go ran h

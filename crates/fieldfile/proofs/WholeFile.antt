@@ -5,30 +5,24 @@ use mathlib.Core.Path.{_≡_, refl, ap, ap₂, sym, _∙_, subst}
 use mathlib.Core.Bool.{Bool, true, false, not, _&&_}
 use mathlib.Core.Logic.{_↔_}
 use mathlib.Core.List.{List, [], _∷_, _++_}
-use Prim.Native.Nat.{ℕ, zero, suc, _+_, _≤_}
+use Prim.Native.Nat.{ℕ, suc, _+_, _≤_}
 use native.Mathlib.Omega.{arith}
 use lib.Dec.{eqb, leb}
 use lib.ListN.{length, take, drop, take-append-drop}
 use lib.Seq.{drop-drop, drop-length}
-use borrow.Author.Tests.{eqb-true}
+use borrow.Author.Tests.{eqb-true, leb-true}
 use Rattle.wire.specs.declared.refusal.Refusal.{Refusal}
 use Rattle.wire.specs.Bits.{Below}
 use Rattle.wire.specs.Layout.{rfc8331}
 use Rattle.wire.specs.Result.{Result, refused, accepted, Checks, judge, _then_}
-use Rattle.wire.specs.Anc.{Record, Each, ancRecord, ancChecks, readAnc, behind, readRun}
+use Rattle.wire.specs.Anc.{Each, ancChecks, readRun}
 use Rattle.wire.proofs.BitLaws.{below-take, below-drop}
-use Rattle.wire.proofs.ResultLaws.{Passed, accepted-inj, judge-accepts, then-accepts}
-use Rattle.fieldfile.specs.File.{fileHeadSize, fieldHeaderSize, FieldContent, fieldSize, fieldsOctets, fileOctets, WellFormedField, countField, fieldRead, headerChecks, limitChecks, readFront, fileChecks, offsetChecks, readField, FileRead, endOfFile, readFile}
+use Rattle.wire.proofs.ResultLaws.{Numbered, judge-numbered, then-numbered, Passed, accepted-inj, judge-accepts, then-accepts}
+use Rattle.wire.proofs.AncLaws.{run-numbered}
+use Rattle.fieldfile.specs.File.{fileHeadSize, FieldContent, fieldSize, fieldsOctets, fileOctets, WellFormedField, countField, fieldRead, fieldHeaderChecks, limitChecks, readFront, fileChecks, offsetChecks, readField, FileRead, endOfFile, readFile}
 use Rattle.fieldfile.proofs.FrontLaws.{front-iff}
 use Rattle.fieldfile.proofs.FileLaws.{below-file, head-iff, Reading, ends, goes, reading}
 use Rattle.fieldfile.proofs.CutFile.{whole-file}
-
--- the number of a refusal that checks give is one of theirs, if it is not that of what follows
-judge-number : {A : Type 0} (b i : ℕ) (ts : Checks) (r : Result A) (x : Refusal) → Each (λ (t : Bool × ℕ). t .1 ≤ b) ts → (r ≡ refused x → x .number ≤ b)
-    → judge i ts r ≡ refused x → x .number ≤ b
-judge-number b i [] r x h more e = more e
-judge-number b i ((true, n) ∷ ts) r x h more e = judge-number b i ts r x (h .1) more e
-judge-number b i ((false, n) ∷ ts) r x h more e = let z : record { number = n; index = i } ≡ x = cc in subst (λ (y : Refusal). y .number ≤ b) z (h .0)
 
 -- a refusal with another number comes from what follows
 judge-other : {A : Type 0} (i : ℕ) (ts : Checks) (r : Result A) (x : Refusal) → Each (λ (t : Bool × ℕ). t .1 ≡ x .number → ⊥) ts
@@ -37,36 +31,19 @@ judge-other i [] r x h e = (tt, e)
 judge-other i ((true, n) ∷ ts) r x h e = let p = judge-other i ts r x (h .1) e in ((refl, p .0), p .1)
 judge-other i ((false, n) ∷ ts) r x h e = let z : record { number = n; index = i } ≡ x = cc in absurd (h .0 (ap (λ (y : Refusal). y .number) z))
 
--- an answer is no refusal
-not-refused : {A : Type 0} {P : Type 0} (a : A) (x : Refusal) → accepted a ≡ refused x → P
-not-refused a x e = let z : _≡_ {A = ℕ} 0 1 = cc in absurd (omega arith)
+-- a field gives no number over 53
+abbrev notOver53 : ℕ → Bool
+notOver53 n = leb n 53
 
--- a run gives no number over 12, ..
-packet-number : (i : ℕ) (s : List ℕ) (x : Refusal) → readAnc rfc8331 i s ≡ refused x → x .number ≤ 12
-unfolding readAnc ancChecks
-packet-number i s x e = judge-number 12 i (ancChecks rfc8331 s) (accepted (ancRecord rfc8331 s)) x (omega arith) (not-refused _ x) e
+front-numbered : (s : List ℕ) → Numbered notOver53 (readFront s)
+unfolding readFront fieldHeaderChecks ancChecks
+front-numbered s =
+    judge-numbered notOver53 0 (fieldHeaderChecks s) _ refl
+    (then-numbered notOver53 (readRun rfc8331 0 (countField s) _) _ (run-numbered notOver53 rfc8331 (λ s. refl) 0 (countField s) _)
+    (λ q. judge-numbered notOver53 0 (limitChecks (q .0)) (accepted (fieldRead s (q .0))) refl tt))
 
-run-number : (i n : ℕ) (s : List ℕ) (x : Refusal) → readRun rfc8331 i n s ≡ refused x → x .number ≤ 12
-unfolding readRun
-run-number i zero s x e = not-refused _ x e
-run-number i (suc n) s x e = go (readAnc rfc8331 i s) refl (readRun rfc8331 (i + 1) n (behind rfc8331 s)) refl (run-number (i + 1) n (behind rfc8331 s) x) e
-  where
-    go : (v : Result Record) → readAnc rfc8331 i s ≡ v → (y : Result (List Record × List ℕ)) → readRun rfc8331 (i + 1) n (behind rfc8331 s) ≡ y
-        → (readRun rfc8331 (i + 1) n (behind rfc8331 s) ≡ refused x → x .number ≤ 12)
-        → _then_ {B = List Record × List ℕ} v (λ r. y then λ q. accepted (r ∷ q .0, q .1)) ≡ refused x → x .number ≤ 12
-    go (refused z) p y q more e = let i′ : z ≡ x = cc in packet-number i s x (p ∙ ap refused i′)
-    go (accepted r) p (refused z) q more e = let i′ : z ≡ x = cc in more (q ∙ ap refused i′)
-    go (accepted r) p (accepted a) q more e = not-refused _ x e
-
--- .. and so a field none over 53
 front-number : (s : List ℕ) (x : Refusal) → readFront s ≡ refused x → x .number ≤ 53
-unfolding readFront headerChecks
-front-number s x e = judge-number 53 0 (headerChecks s) _ x (omega arith) (go (readRun rfc8331 0 (countField s) (drop fieldHeaderSize s)) refl) e
-  where
-    go : (v : Result (List Record × List ℕ)) → readRun rfc8331 0 (countField s) (drop fieldHeaderSize s) ≡ v
-        → (v then λ q. judge 0 (limitChecks (q .0)) (accepted (fieldRead s (q .0)))) ≡ refused x → x .number ≤ 53
-    go (refused z) p e = let i : z ≡ x = cc in omega (arith, run-number 0 (countField s) (drop fieldHeaderSize s) x (p ∙ ap refused i))
-    go (accepted q) p e = judge-number 53 0 (limitChecks (q .0)) (accepted (fieldRead s (q .0))) x (omega arith) (not-refused _ x) e
+front-number s x e = leb-true (x .number) 53 (subst (Numbered notOver53) e (front-numbered s))
 
 -- 54 is given at the end of a file, and nowhere else
 end-only : (s : List ℕ) (at : ℕ) (x : Refusal) → x .number ≡ 54 → readField s at ≡ refused x → Passed (fileChecks s) × (at ≡ length s)
@@ -83,7 +60,7 @@ end-only s at x n e =
       where
         more : (v : Result FieldContent) → readFront (drop at s) ≡ v → _then_ {B = FieldContent × ℕ} v (λ k. accepted (k, at + fieldSize (k .records))) ≡ refused x → ⊥
         more (refused z) q e = let i : z ≡ x = cc in omega (arith, front-number (drop at s) x (q ∙ ap refused i))
-        more (accepted k) q e = not-refused _ x e
+        more (accepted k) q e = let z : _≡_ {A = ℕ} 0 1 = cc in omega arith
 
 -- the octets from an offset on are those of the fields that are read there, up to 54
 stands : {s : List ℕ} {at : ℕ} {ks : List FieldContent} {x : Refusal} → Below 256 s → x .number ≡ 54 → Reading s at ks x

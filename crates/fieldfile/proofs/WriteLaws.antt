@@ -15,6 +15,7 @@ use Rattle.wire.specs.Layout.{rfc8331}
 use Rattle.wire.specs.Result.{Result, refused, accepted, refuse}
 use Rattle.wire.specs.Anc.{Record, runOctets, runSize}
 use Rattle.wire.specs.Cells.{readList}
+use Rattle.wire.specs.Writing.{maxFieldRecords, maxFieldCells}
 use Rattle.wire.proofs.BitLaws.{length-pack}
 use Rattle.wire.proofs.ListLaws.{splice-append, part-written}
 use Rattle.wire.proofs.ResultLaws.{judge-accepts, then-accepts, accepted-inj, and-true}
@@ -24,7 +25,7 @@ use Rattle.wire.proofs.Demand2.{run-cells}
 use Rattle.wire.specs.Written.{octetsAfter, writtenOf}
 use Rattle.cells.specs.Answers.{listedOf, listOctets}
 use Rattle.cells.specs.declared.check.Listed.the-variants as listed
-use Rattle.fieldfile.specs.File.{fieldHeaderSize, maxFieldRecords, maxFieldCells, headerFields, fieldOctets, fieldSize, fileFOk, roomChecks, recordsToWrite, writeField}
+use Rattle.fieldfile.specs.File.{fieldHeaderSize, fieldHeaderFields, fieldOctets, fieldSize, fileFOk, roomChecks, recordsToWrite, writeField}
 use Rattle.wire.specs.declared.written.Written.the-variants as written
 use Rattle.fieldfile.proofs.FrontLaws.{length-field}
 
@@ -129,16 +130,16 @@ module _ (ts f : ℕ) (cells : List ℕ) (room : ℕ) (rs : List Record) (e : re
   pub written-length : writtenOf (writeField ts f cells room) ≡ written.Octets (record { 0 = fieldSize rs })
   written-length = ap writtenOf field-written ∙ ap (λ (n : ℕ). written.Octets (record { 0 = n })) (length-field (record { timestamp = ts; f = f; records = rs }))
 
-  pub written-whole : (n : ℕ) → n ≡ length rs → (out front part : List ℕ) → front ≡ overwrite (pack (headerFields ts f n)) out
+  pub written-whole : (n : ℕ) → n ≡ length rs → (out front part : List ℕ) → front ≡ overwrite (pack (fieldHeaderFields ts f n)) out
       → part ≡ overwrite (listOctets (readList cells)) (take (length front - fieldHeaderSize) (drop fieldHeaderSize front))
       → take fieldHeaderSize front ++ (part ++ drop (length front - fieldHeaderSize) (drop fieldHeaderSize front)) ≡ octetsAfter (writeField ts f cells room) out
   written-whole n hn out front part p q =
       let run = runOctets rfc8331 rs in
-      let k = pack (headerFields ts f (length rs)) in
+      let k = pack (fieldHeaderFields ts f (length rs)) in
       let i : listOctets (readList cells) ≡ run = ap listOctets (writes f cells room rs e .reads) in
-      let len : fieldHeaderSize ≡ 0 + length k = omega (arith, length-pack [] (headerFields ts f (length rs)) fieldHeaderSize refl) in
+      let len : fieldHeaderSize ≡ 0 + length k = omega (arith, length-pack [] (fieldHeaderFields ts f (length rs)) fieldHeaderSize refl) in
       part-written fieldHeaderSize front run part (q ∙ ap (λ (x : List ℕ). overwrite x (take (length front - fieldHeaderSize) (drop fieldHeaderSize front))) i)
-      ∙ ap (λ (x : List ℕ). splice x fieldHeaderSize run) (p ∙ ap (λ (x : ℕ). overwrite (pack (headerFields ts f x)) out) hn)
+      ∙ ap (λ (x : List ℕ). splice x fieldHeaderSize run) (p ∙ ap (λ (x : ℕ). overwrite (pack (fieldHeaderFields ts f x)) out) hn)
       ∙ ap (λ (m : ℕ). splice (overwrite k out) m run) len
       ∙ splice-append out 0 k run zero-le
       ∙ ap (λ r. octetsAfter r out) (sym field-written)

@@ -5,7 +5,7 @@ use Prim.Native.Nat.{ℕ}
 use lib.ListN.{length}
 use Rattle.wire.specs.declared.refusal.Refusal.{Refusal}
 use Rattle.wire.specs.Bits.{overwrite}
-use Rattle.wire.specs.Result.{Result, refused, accepted, Checks}
+use Rattle.wire.specs.Result.{Result, refused, accepted, noRefusal, Checks}
 use Rattle.wire.specs.Cells.{listOf}
 use Rattle.fieldfile.specs.File.{FieldContent}
 use Rattle.fieldfile.specs.declared.field.Summary.{Summary}
@@ -14,16 +14,17 @@ use Rattle.fieldfile.specs.declared.field.FieldRead.the-variants as read
 use Rattle.fieldfile.specs.declared.stage.Stage.{Stage}
 use Rattle.fieldfile.specs.declared.stage.Stage.the-variants as stage
 
--- a stage before the ANC data packets
+-- a stage before the ANC data packets: the first check that fails gives its number, "otherwise 0" as index
 abbrev pub stageOf : Checks → Stage
 stageOf [] = stage.Passed
 stageOf (t ∷ ts) = cond (t .0) (stageOf ts) (stage.Refused (record { number = t .1; index = 0 }))
 
+-- the refusal that a stage gave
 abbrev pub stageRefusal : Stage → Refusal
 stageRefusal (stage.Refused x) = x
-stageRefusal stage.Passed = record { number = 0; index = 0 }
+stageRefusal stage.Passed = noRefusal
 
--- a field read, with the offset after it, and what the lent list then holds
+-- a field read (01, "Field file"): what it says, and "the offset after the field"
 abbrev pub summaryOf : FieldContent × ℕ → Summary
 summaryOf q =
     record {
@@ -34,10 +35,12 @@ summaryOf q =
       next = record { 0 = q .1 };
     }
 
+-- the refusal, or the field
 abbrev pub readOf : Result (FieldContent × ℕ) → FieldRead
 readOf (refused x) = read.Refused x
 readOf (accepted q) = read.Field (summaryOf q)
 
+-- what the lent list then holds: "Lent memory is unchanged" on a refusal
 abbrev pub cellsAfter : Result (FieldContent × ℕ) → List ℕ → List ℕ
 cellsAfter (refused x) cells = cells
 cellsAfter (accepted q) cells = overwrite (listOf (q .0 .records)) cells

@@ -2,18 +2,18 @@
 use mathlib.Core.Path.{_≡_}
 use mathlib.Core.Bool.{Bool, true, not, _&&_, _||_}
 use mathlib.Core.List.{List, [], _∷_, _++_}
-use Prim.Native.Nat.{ℕ, zero, suc, _+_, _^_, _<_, _≤_}
+use Prim.Native.Nat.{ℕ, zero, suc, _+_, _/_, _^_, _<_, _≤_}
 use lib.Dec.{eqb, leb}
 use lib.ListN.{length, drop}
 use Rattle.wire.specs.declared.refusal.Refusal.{Refusal}
 use Rattle.wire.specs.Bits.{Fields, pack, bitsAt}
 use Rattle.wire.specs.Layout.{rfc8331}
-use Rattle.wire.specs.Result.{Result, refused, accepted, Checks, judge, _then_}
+use Rattle.wire.specs.Result.{Result, refused, accepted, noRefusal, Checks, judge, _then_}
 use Rattle.wire.specs.Anc.{Record, WellFormed, Each, runOctets, runSize, readRun}
 use Rattle.wire.specs.Cells.{listOf, readList}
-use Rattle.wire.specs.Writing.{maxRecords, maxCells}
+use Rattle.wire.specs.Writing.{maxFieldRecords, maxFieldCells}
 
--- `ANF`, and the version (01, "Field file"; refusals 50 and 51)
+-- "`ANF`, 16-bit version 1" (01, "Field file"; refusals 50 and 51)
 abbrev pub fileName : ℕ
 fileName = 0x414E46
 
@@ -28,10 +28,10 @@ abbrev pub versionBits : ℕ
 versionBits = 16
 
 abbrev pub nameSize : ℕ
-nameSize = 3
+nameSize = nameBits / 8
 
 abbrev pub fileHeadSize : ℕ
-fileHeadSize = 5
+fileHeadSize = (nameBits + versionBits) / 8
 
 -- "timestamp 32 bits, F one octet, count one octet": widths in bits, and the octets of the three
 abbrev pub timestampBits : ℕ
@@ -44,14 +44,7 @@ abbrev pub countBits : ℕ
 countBits = 8
 
 abbrev pub fieldHeaderSize : ℕ
-fieldHeaderSize = 6
-
--- records and cells that a field may have (01, refusal 21)
-abbrev pub maxFieldRecords : ℕ
-maxFieldRecords = maxRecords
-
-abbrev pub maxFieldCells : ℕ
-maxFieldCells = maxCells
+fieldHeaderSize = (timestampBits + fileFBits + countBits) / 8
 
 -- what a field says: what the reader returns and the writer takes
 pub record FieldContent : Type 0 where
@@ -59,25 +52,26 @@ pub record FieldContent : Type 0 where
   pub f : ℕ
   pub records : List Record
 
--- the first octets of a file
+-- "`ANF`, 16-bit version 1": the first octets of a file
 abbrev pub fileFields : Fields
 fileFields = (nameBits, fileName) ∷ (versionBits, fileVersion) ∷ []
 
 abbrev pub fileHead : List ℕ
 fileHead = pack fileFields
 
--- "timestamp 32 bits, F one octet, count one octet, ANC packets as above"
-abbrev pub headerFields : (timestamp f count : ℕ) → Fields
-headerFields timestamp f count = (timestampBits, timestamp) ∷ (fileFBits, f) ∷ (countBits, count) ∷ []
+-- a field's header: "timestamp 32 bits, F one octet, count one octet"
+abbrev pub fieldHeaderFields : (timestamp f count : ℕ) → Fields
+fieldHeaderFields timestamp f count = (timestampBits, timestamp) ∷ (fileFBits, f) ∷ (countBits, count) ∷ []
 
+-- one field: "timestamp 32 bits, F one octet, count one octet, ANC packets as above"
 abbrev pub fieldOctets : FieldContent → List ℕ
-fieldOctets k = pack (headerFields (k .timestamp) (k .f) (length (k .records))) ++ runOctets rfc8331 (k .records)
+fieldOctets k = pack (fieldHeaderFields (k .timestamp) (k .f) (length (k .records))) ++ runOctets rfc8331 (k .records)
 
 -- octets of a field with such records
 abbrev pub fieldSize : List Record → ℕ
 fieldSize rs = fieldHeaderSize + runSize rfc8331 rs
 
--- fields one after the other, and a file of them
+-- ".., then fields": one after the other, and a file of them
 abbrev pub fieldsOctets : List FieldContent → List ℕ
 fieldsOctets [] = []
 fieldsOctets (k ∷ ks) = fieldOctets k ++ fieldsOctets ks
@@ -89,11 +83,11 @@ fileOctets ks = fileHead ++ fieldsOctets ks
 abbrev pub fileFOk : ℕ → Bool
 fileFOk f = eqb f 0 || (eqb f 2 || eqb f 3)
 
--- 21, for so many records of so many cells
+-- 21: "over 255 records or 16,384 cells", for so many records of so many cells
 abbrev pub withinLimits : (records cells : ℕ) → Bool
 withinLimits records cells = leb records maxFieldRecords && leb cells maxFieldCells
 
--- what a field must be
+-- what a field must be: each value fits its field; F is 0, 2 or 3 (53); its records are well-formed, and within the limits (21)
 pub record WellFormedField (k : FieldContent) : Type 0 where
   pub timestamp : k .timestamp < 2 ^ timestampBits
   pub f : fileFOk (k .f) ≡ true
@@ -115,29 +109,29 @@ countField s = bitsAt s (timestampBits + fileFBits) countBits
 abbrev pub fieldRead : List ℕ → List Record → FieldContent
 fieldRead s rs = record { timestamp = timestampField s; f = fileFField s; records = rs }
 
--- 52, 53
-unfoldable pub headerChecks : List ℕ → Checks
-headerChecks s = (leb fieldHeaderSize (length s), 52) ∷ (fileFOk (fileFField s), 53) ∷ []
+-- 52: "file field header cut"; 53: "file F not 0, 2, 3"
+unfoldable pub fieldHeaderChecks : List ℕ → Checks
+fieldHeaderChecks s = (leb fieldHeaderSize (length s), 52) ∷ (fileFOk (fileFField s), 53) ∷ []
 
--- 21
+-- 21, for the records that were read
 abbrev pub limitChecks : List Record → Checks
 limitChecks rs = (withinLimits (length rs) (length (listOf rs)), 21) ∷ []
 
 -- 52, 53, 9 to 12, 21
 unfoldable pub readFront : List ℕ → Result FieldContent
 readFront s =
-    judge 0 (headerChecks s)
+    judge 0 (fieldHeaderChecks s)
     (readRun rfc8331 0 (countField s) (drop fieldHeaderSize s) then
     λ q. judge 0 (limitChecks (q .0)) (accepted (fieldRead s (q .0))))
 
--- 50, 51
+-- 50: "not `ANF` or under 3 octets"; 51: "version not 1 or under 5 octets"
 unfoldable pub fileChecks : List ℕ → Checks
 fileChecks s =
     (leb nameSize (length s) && eqb (bitsAt s 0 nameBits) fileName, 50)
     ∷ (leb fileHeadSize (length s) && eqb (bitsAt s nameBits versionBits) fileVersion, 51)
     ∷ []
 
--- 55, 54
+-- 55: "offset under 5 or past the end"; 54: "end of file"
 unfoldable pub offsetChecks : List ℕ → ℕ → Checks
 offsetChecks s at = (leb fileHeadSize at && leb at (length s), 55) ∷ (not (eqb at (length s)), 54) ∷ []
 
@@ -166,6 +160,7 @@ recordsToWrite f cells room =
     judge 0 ((fileFOk f, 53) ∷ [])
     (readList cells then λ rs. judge 0 (roomChecks rs (length cells) room) (accepted rs))
 
+-- the octets of the field that is written
 abbrev pub writeField : (timestamp f : ℕ) (cells : List ℕ) (room : ℕ) → Result (List ℕ)
 writeField timestamp f cells room =
     recordsToWrite f cells room then
@@ -194,7 +189,7 @@ readOn (accepted q) behind = fieldThen (q .0) (behind (q .1))
 
 -- fields read one after the other from the offset `at` on; the first argument bounds how many readings there can be
 unfoldable pub readFrom : ℕ → List ℕ → ℕ → FileRead
-readFrom zero s at = noField (record { number = 0; index = 0 })
+readFrom zero s at = noField noRefusal
 readFrom (suc bound) s at = readOn (readField s at) (λ next. readFrom bound s next)
 
 -- a file has fewer fields than octets, so the bound is never met (proofs/FileLaws.antt, `reading`)

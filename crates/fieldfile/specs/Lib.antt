@@ -1,2 +1,3 @@
-pub mod Answers
 pub mod File
+pub mod Cut
+pub mod Answers

@@ -10,7 +10,6 @@ use crate::field::Summary;
 use crate::format::COUNT_AT;
 use crate::format::F_AT;
 use crate::format::HEADER_SIZE;
-use crate::format::MAX_CELLS;
 use crate::stage::Stage;
 use crate::stage::check_file;
 use crate::stage::check_header;
@@ -18,6 +17,7 @@ use crate::stage::check_offset;
 use anc::check::Run;
 use anc::check::check_run;
 use wire::count::OctetCount;
+use wire::limit::MAX_FIELD_CELLS;
 use wire::number::Timestamp;
 use wire::refusal::Refusal;
 use words::octet::quad_at;
@@ -41,7 +41,7 @@ fn check_front(octets: &[u8], at: OctetCount) -> FieldRead
         return FieldRead::Refused(run.refusal());
     };
     // One count octet cannot say more records than a field may have.
-    if cells > MAX_CELLS {
+    if cells > MAX_FIELD_CELLS {
         return FieldRead::Refused(Refusal {
             number: Refusal::OVER_LIMIT,
             index: 0,

@@ -18,6 +18,7 @@ use cells::check::Listed;
 use cells::write::write_run;
 use check::check;
 use field::FieldRead;
+use format::HEAD;
 use format::HEAD_SIZE;
 use format::HEADER_SIZE;
 use wire::count::OctetCount;
@@ -39,8 +40,7 @@ pub fn begin(out: &mut [u8]) -> Written
             index: 0,
         });
     }
-    let head = [0x41, 0x4E, 0x46, 0, 1];
-    copy(&head, out);
+    copy(&HEAD, out);
     Written::Octets(OctetCount(HEAD_SIZE))
 }
 

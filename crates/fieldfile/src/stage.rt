@@ -6,7 +6,7 @@ ghost use lib.Dec.{eqb, leb};
 ghost use lib.ListN.{length};
 ghost use Rattle.wire.specs.Bits.{bitsAt};
 ghost use Rattle.fieldfile.specs.Answers.{stageOf, stageRefusal};
-ghost use Rattle.fieldfile.specs.File.{fileChecks, fileFOk, fileHeadSize, fileName, headerChecks, nameBits, nameSize, offsetChecks};
+ghost use Rattle.fieldfile.specs.File.{fileChecks, fileFOk, fileHeadSize, fileName, fieldHeaderChecks, nameBits, nameSize, offsetChecks};
 use crate::format::F_AT;
 use crate::format::HEAD_SIZE;
 use crate::format::HEADER_SIZE;
@@ -32,7 +32,7 @@ impl Stage {
     }
 
     // The refusal that a stage gave.
-    pub fn refusal(self) -> Refusal
+    pub(crate) fn refusal(self) -> Refusal
         ensures { λ r. ⌜ r ≡ stageRefusal self ⌝ }
     {
         match self {
@@ -54,7 +54,7 @@ fn name_ok(file: &[u8]) -> bool
 }
 
 // 50, 51.
-pub fn check_file(file: &[u8]) -> Stage
+pub(crate) fn check_file(file: &[u8]) -> Stage
     ensures { λ r. ⌜ r ≡ stageOf (fileChecks (now (file .entry))) ⌝ }
 {
     if file.len() < NAME_SIZE {
@@ -80,7 +80,7 @@ fn offset_ok(file: &[u8], at: OctetCount) -> bool
 }
 
 // 55, 54.
-pub fn check_offset(file: &[u8], at: OctetCount) -> Stage
+pub(crate) fn check_offset(file: &[u8], at: OctetCount) -> Stage
     ensures { λ r. ⌜ r ≡ stageOf (offsetChecks (now (file .entry)) (at .0)) ⌝ }
 {
     if !offset_ok(file, at) {
@@ -93,15 +93,15 @@ pub fn check_offset(file: &[u8], at: OctetCount) -> Stage
 }
 
 // F is 0, 2 or 3.
-pub fn f_ok(f: u8) -> bool
+pub(crate) fn f_ok(f: u8) -> bool
     ensures { λ r. ⌜ r ≡ fileFOk f ⌝ }
 {
     (f == 0) | ((f == 2) | (f == 3))
 }
 
 // 52, 53, of the field at the front of the octets.
-pub fn check_header(octets: &[u8]) -> Stage
-    ensures { λ r. ⌜ r ≡ stageOf (headerChecks (now (octets .entry))) ⌝ }
+pub(crate) fn check_header(octets: &[u8]) -> Stage
+    ensures { λ r. ⌜ r ≡ stageOf (fieldHeaderChecks (now (octets .entry))) ⌝ }
 {
     if octets.len() < HEADER_SIZE {
         return Stage::refuse(Refusal::FIELD_HEADER_CUT);

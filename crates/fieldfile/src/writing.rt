@@ -4,13 +4,13 @@ ghost use Prim.Native.Nat.{_≤_};
 ghost use lib.ListN.{length};
 ghost use Rattle.cells.specs.Answers.{listedOf};
 ghost use Rattle.wire.specs.Bits.{overwrite, pack};
-ghost use Rattle.fieldfile.specs.File.{fieldHeaderSize, headerFields, recordsToWrite};
+ghost use Rattle.fieldfile.specs.File.{fieldHeaderSize, fieldHeaderFields, recordsToWrite};
 use crate::format::HEADER_SIZE;
-use crate::format::MAX_CELLS;
-use crate::format::MAX_RECORDS;
 use crate::stage::f_ok;
 use cells::check::Listed;
 use cells::check::check_list;
+use wire::limit::MAX_FIELD_CELLS;
+use wire::limit::MAX_FIELD_RECORDS;
 use wire::number::Timestamp;
 use wire::refusal::Refusal;
 use words::octet::copy;
@@ -22,7 +22,7 @@ fn refuse(number: u8) -> Listed
 }
 
 // 53, 20, 21, 23: the records, and the octets of their ANC data packets.
-pub fn measure(f: u8, cells: &[u16], room: usize) -> Listed
+pub(crate) fn measure(f: u8, cells: &[u16], room: usize) -> Listed
     ensures { λ r. ⌜ r ≡ listedOf (recordsToWrite f (now (cells .entry)) room) ⌝ }
 {
     if !f_ok(f) {
@@ -32,10 +32,10 @@ pub fn measure(f: u8, cells: &[u16], room: usize) -> Listed
     let Listed::Records { count, octets } = listed else {
         return listed;
     };
-    if count > MAX_RECORDS {
+    if count > MAX_FIELD_RECORDS {
         return refuse(Refusal::OVER_LIMIT);
     }
-    if cells.len() > MAX_CELLS {
+    if cells.len() > MAX_FIELD_CELLS {
         return refuse(Refusal::OVER_LIMIT);
     }
     if room < HEADER_SIZE + octets.0 {
@@ -45,8 +45,8 @@ pub fn measure(f: u8, cells: &[u16], room: usize) -> Listed
 }
 
 // The octets before a field's ANC data packets.
-fn header(timestamp: Timestamp, f: u8, count: u8) -> [u8; 6]
-    ensures { λ r. ⌜ r ≡ pack (headerFields (timestamp .0) f count) ⌝ }
+fn header(timestamp: Timestamp, f: u8, count: u8) -> [u8; HEADER_SIZE]
+    ensures { λ r. ⌜ r ≡ pack (fieldHeaderFields (timestamp .0) f count) ⌝ }
 {
     let time = timestamp.0;
     [
@@ -60,9 +60,9 @@ fn header(timestamp: Timestamp, f: u8, count: u8) -> [u8; 6]
 }
 
 // Writes them to the first octets.
-pub fn write_header(timestamp: Timestamp, f: u8, count: u8, octets: &mut [u8])
+pub(crate) fn write_header(timestamp: Timestamp, f: u8, count: u8, octets: &mut [u8])
     requires { ⌜ fieldHeaderSize ≤ length (now octets) ⌝ }
-    ensures { λ r. ⌜ now (octets .exit) ≡ overwrite (pack (headerFields (timestamp .0) f count)) (now (octets .entry)) ⌝ }
+    ensures { λ r. ⌜ now (octets .exit) ≡ overwrite (pack (fieldHeaderFields (timestamp .0) f count)) (now (octets .entry)) ⌝ }
 {
     let header = header(timestamp, f, count);
     copy(&header, octets);

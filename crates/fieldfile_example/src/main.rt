@@ -1,53 +1,13 @@
 // Writes a field file with the records A and B of 01, "Marked examples", to disk, reads it back through the entry points and
 // prints it: its octets in hex, then each field and its cells up to 54, and then some of the other refusals.
 use fieldfile::field::FieldRead;
-use libc::STDOUT_FILENO;
+use printing::number;
+use printing::print_cells;
+use printing::print_octets;
+use printing::print_refusal;
 use wire::count::OctetCount;
 use wire::number::Timestamp;
-use wire::refusal::Refusal;
 use wire::written::Written;
-
-fn print(text: &[u8]) {
-    io::write_all(STDOUT_FILENO, text);
-}
-
-fn number(label: &[u8], n: u64) {
-    print(label);
-    io::print_decimal(STDOUT_FILENO, n);
-}
-
-fn wide8(x: u8) -> u64 {
-    x as u64
-}
-
-fn wide16(x: u16) -> u64 {
-    x as u64
-}
-
-fn print_octets(octets: &[u8]) {
-    let mut k: usize = 0;
-    while k < octets.len() {
-        io::print_hex(STDOUT_FILENO, wide8(octets[k]), 2);
-        k += 1;
-    }
-    print(b"\n");
-}
-
-fn print_cells(cells: &[u16]) {
-    let mut k: usize = 0;
-    while k < cells.len() {
-        print(b" ");
-        io::print_hex(STDOUT_FILENO, wide16(cells[k]), 1);
-        k += 1;
-    }
-    print(b"\n");
-}
-
-fn print_refusal(refusal: Refusal) {
-    number(b"refused ", refusal.number as u64);
-    number(b" ", refusal.index as u64);
-    print(b"\n");
-}
 
 // Writes the first octets of a file.
 fn begin(to: i32) {

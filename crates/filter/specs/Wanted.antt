@@ -16,22 +16,24 @@ anyIn did sdid [] = false
 anyIn did sdid (d ∷ []) = false
 anyIn did sdid (d ∷ s ∷ pairs) = matching did sdid d s || anyIn did sdid pairs
 
--- fewer than two octets have no entry
+-- "wanted if the row is empty or ..": fewer than two octets have no entry
 abbrev pub wantedIn : ℕ → ℕ → List ℕ → Bool
 wantedIn did sdid pairs = ltb (length pairs) 2 || anyIn did sdid pairs
 
--- over a list of pairs
+-- the same of an entry that is a pair
 abbrev pub matchingPair : ℕ → ℕ → DidSdid → Bool
 matchingPair did sdid p = matching did sdid (p .did) (p .sdid)
 
+-- over a list of pairs
 unfoldable pub anyOf : ℕ → ℕ → List DidSdid → Bool
 anyOf did sdid [] = false
 anyOf did sdid (p ∷ pairs) = matchingPair did sdid p || anyOf did sdid pairs
 
+-- "a record is wanted if the row is empty or both its DID and SDID match an entry"
 abbrev pub wantedOf : ℕ → ℕ → List DidSdid → Bool
 wantedOf did sdid pairs = eqb (length pairs) 0 || anyOf did sdid pairs
 
--- the octets of a list of pairs
+-- a list of pairs as plain octets, DID and SDID in turn
 abbrev pub octetsOf : List DidSdid → List ℕ
 octetsOf [] = []
 octetsOf (p ∷ pairs) = p .did ∷ p .sdid ∷ octetsOf pairs

@@ -2,12 +2,12 @@
 -- By the seam between what was written and what is left.
 use mathlib.Core.Path.{_≡_, refl, ap, sym, _∙_, subst, subst₂}
 use mathlib.Core.List.{List, [], _∷_, _++_}
-use Prim.Native.Nat.{ℕ, _+_, _-_, _<_, _≤_}
+use Prim.Native.Nat.{ℕ, _+_, _<_, _≤_}
 use native.Mathlib.Nat.{add-zero}
 use native.Mathlib.Omega.{arith}
-use lib.ListN.{length, take, drop, set, length-append, length-drop, length-set}
+use lib.ListN.{length, set, length-append, length-set}
 use Rattle.wire.specs.Bits.{overwrite, splice}
-use Rattle.wire.proofs.ListLaws.{length-splice, splice-append, splice-none, set-splice, splice-set, part-all, part-written}
+use Rattle.wire.proofs.ListLaws.{length-splice, splice-append, splice-none, set-splice, splice-set}
 
 -- of the octets `all`, to be written to the front of `old`, those of `rest` are left; they go from `to` on
 pub record Left (all old rest now : List ℕ) (to : ℕ) : Type 0 where
@@ -48,30 +48,6 @@ left-as all old r r′ now to e h = subst (λ (r : List ℕ). Left all old r now
 pub left-ends : (all old now : List ℕ) (to : ℕ) → Left all old [] now to → (to ≡ length all) × (now ≡ overwrite all old)
 left-ends all old now to h = (sym (add-zero to) ∙ h .size, sym (splice-none now to) ∙ h .stored)
 
--- a first part stored from `to` on, and a second lent from its end to the end of the octets
-module _ (old now : List ℕ) (to start : ℕ) (x y : List ℕ) (first : now ≡ splice old to x) (end : start ≡ to + length x) (room : to + (length x + length y) ≤ length old) where
-  pub first-length : length now ≡ length old
-  first-length = ap length first ∙ length-splice old to x (omega arith)
-
-  pub second-inside : start ≤ length now
-  second-inside = let e = first-length in omega arith
-
-  abbrev Second : List ℕ
-  Second = take (length now - start) (drop start now)
-
-  pub second-fits : length y ≤ length Second
-  second-fits = let e = first-length in let l : length Second ≡ length now - start = ap length (part-all start now) ∙ length-drop start now in omega arith
-
-  pub both-stored : (part : List ℕ) → part ≡ overwrite y Second → take start now ++ (part ++ drop (length now - start) (drop start now)) ≡ splice old to (x ++ y)
-  both-stored part e =
-      part-written start now y part e
-      ∙ ap (λ (n : ℕ). splice now n y) end
-      ∙ ap (λ (l : List ℕ). splice l (to + length x) y) first
-      ∙ splice-append old to x y (omega arith)
-
--- two and three stores
+-- two stores
 pub set-two : (l : List ℕ) (k a b : ℕ) → k + 1 < length l → set (set l k a) (k + 1) b ≡ splice l k (a ∷ b ∷ [])
 set-two l k a b h = set-splice (set l k a) (k + 1) b (rw (length-set l k a) h) ∙ splice-set l k a (b ∷ []) (omega arith)
-
-pub set-three : (l : List ℕ) (a b d : ℕ) → 2 < length l → set (set (set l 0 a) 1 b) 2 d ≡ overwrite (a ∷ b ∷ d ∷ []) l
-set-three l a b d h = set-two (set l 0 a) 1 b d (rw (length-set l 0 a) h) ∙ splice-set l 0 a (b ∷ d ∷ []) (omega arith)

@@ -1,21 +1,35 @@
--- A text written item by item: what an item adds behind what stands.
+-- A text put item by item: what an item adds behind what stands.
 -- By whether anything stands.
-use mathlib.Core.Path.{_≡_, refl, ap, sym, _∙_}
+use mathlib.Core.Path.{_≡_, refl, ap, ap₂, sym, _∙_}
 use mathlib.Core.Bool.{Bool, true, false, cond}
 use mathlib.Core.List.{List, [], _∷_, _++_, append-assoc, append-nil}
-use Prim.Native.Nat.{ℕ, suc, _+_, _<_, _≤_}
+use Prim.Native.Nat.{ℕ, suc, _+_, _<_, _≤_, zero-le}
 use native.Mathlib.Numerals.{add-one}
 use native.Mathlib.Omega.{arith}
 use lib.Dec.{eqb}
-use lib.ListN.{length, drop, getD, length-append}
+use lib.ListN.{length, take, drop, getD, length-append}
 use lib.Seq.{drop-cons}
 use borrow.Author.Tests.{ne-eqb}
-use Rattle.wire.specs.Bits.{splice}
+use Rattle.wire.proofs.ListLaws.{length-splice, take-splice}
+use Rattle.text.specs.Put.{Put}
 use Rattle.sdp.specs.Text.{semicolon}
 use Rattle.sdp.specs.Writing.{pairText, pairTexts, separated, joined}
 use Rattle.sdp.proofs.WritingLaws.{pair-size, separated-append}
 use Rattle.fmtp.specs.Answers.{separator, following}
-use Rattle.fmtp.proofs.LeftLaws.{Left, left-as, left-next}
+use Rattle.fmtp.proofs.LeftLaws.{Left, left-as, left-next, left-ends}
+
+-- what is left of the room behind a piece
+pub room-behind : {o o₁ x : List ℕ} {at at₁ : ℕ} (n : ℕ) → at + (length x + n) ≤ length o → Put o at x o₁ at₁ → at₁ + n ≤ length o₁
+room-behind {o} {o₁} {x} {at} n h p = omega (arith, p .behind, ap length (p .octets) ∙ length-splice o at x (p .room))
+
+-- a piece put at the start
+pub put-front : {o o₁ x : List ℕ} {at₁ : ℕ} → Put o 0 x o₁ at₁ → take at₁ o₁ ≡ x
+put-front {o} {o₁} {x} p = ap₂ take (p .behind) (p .octets) ∙ take-splice o 0 x zero-le
+
+-- all is put where nothing is left
+pub left-put : (all old now : List ℕ) (to : ℕ) → Left all old [] now to → Put old 0 all now to
+left-put all old now to h =
+    let e = left-ends all old now to h in record { room = omega (arith, h .room); behind = omega (arith, e .0); octets = e .1 }
 
 -- no items
 pub following-none : (to : ℕ) → following to [] ≡ []
@@ -78,11 +92,11 @@ module _ (pairs : List ℕ) (i : ℕ) (inside : i + 1 < length pairs) where
         let k = length-append (separator to) Item in
         omega (arith, here .size, here .room, here .long)
 
-    -- it written, those behind it are left
-    pub pair-next : (start : ℕ) (now′ : List ℕ) → start ≡ to + length (separator to) → now′ ≡ splice now to (separator to ++ Item)
-        → Left all old (following (start + 20) (pairTexts (drop (i + 2) pairs))) now′ (start + 20)
-    pair-next start now′ e h =
+    -- it put, those behind it are left
+    pub pair-next : (to′ : ℕ) (now′ : List ℕ) → Put now to (separator to ++ Item) now′ to′
+        → Left all old (following to′ (pairTexts (drop (i + 2) pairs))) now′ to′
+    pair-next to′ now′ p =
         let k = length-append (separator to) Item in
-        left-as all old _ _ now′ (start + 20) (following-some (start + 20) (pairTexts (drop (i + 2) pairs)) (λ z. omega arith))
-        (left-next all old (separator to ++ Item) (separated (pairTexts (drop (i + 2) pairs))) now to here (start + 20) now′
-        (omega (arith, pair-size (getD pairs i 0) (getD pairs (i + 1) 0))) h)
+        let some : to′ ≡ 0 → ⊥ = λ z. omega (arith, p .behind, pair-size (getD pairs i 0) (getD pairs (i + 1) 0)) in
+        left-as all old _ _ now′ to′ (following-some to′ (pairTexts (drop (i + 2) pairs)) some)
+        (left-next all old (separator to ++ Item) (separated (pairTexts (drop (i + 2) pairs))) now to here to′ now′ (p .behind) (p .octets))

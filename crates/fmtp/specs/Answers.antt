@@ -16,20 +16,22 @@ use Rattle.fmtp.specs.declared.read.Reading.{Reading}
 use Rattle.fmtp.specs.declared.read.Reading.the-variants as reading
 use Rattle.fmtp.specs.declared.read.Step.{Step}
 
--- how many pairs, and the VPID code
+-- "the answer is their count and the VPID_Code or none", from the items, ..
 abbrev pub readingOf : Result Parameters → Reading
 readingOf (refused x) = reading.Refused x
 readingOf (accepted p) = reading.Accepted p
 
+-- .. and from what a text says
 abbrev pub contentReading : Result Content → Reading
 contentReading (refused x) = reading.Refused x
 contentReading (accepted k) = reading.Accepted (record { pairs = length (k .pairs) / 2; vpid = k .vpid })
 
--- the octets of the pairs that were read
+-- "Read pairs go into lent octets, DID then SDID"
 abbrev pub contentPairs : Result Content → List ℕ
 contentPairs (refused x) = []
 contentPairs (accepted k) = k .pairs
 
+-- those of one item
 abbrev pub itemPairs : Item → List ℕ
 itemPairs x = pairsOf (x ∷ [])
 

@@ -3,7 +3,7 @@
 use mathlib.Core.Path.{_≡_, refl, ap, sym, _∙_}
 use mathlib.Core.Bool.{Bool, true, false}
 use mathlib.Core.List.{List, [], _∷_, _++_, append-assoc, append-nil}
-use Prim.Native.Nat.{ℕ, zero, suc, _+_, _<_, _≤_, min}
+use Prim.Native.Nat.{ℕ, zero, suc, _+_, _<_, min}
 use native.Mathlib.Nat.{suc-add}
 use native.Mathlib.Omega.{arith}
 use borrow.Author.Tests.{leb-true, leb-false}
@@ -13,7 +13,6 @@ use lib.Seq.{take-all, take-length}
 use Rattle.wire.specs.declared.count.OctetCount.{OctetCount}
 use Rattle.wire.specs.declared.refusal.Refusal.{Refusal}
 use Rattle.wire.specs.Anc.{Record}
-use Rattle.wire.specs.Bits.{Below}
 use Rattle.wire.specs.Cells.{readList}
 use Rattle.wire.specs.Result.{Result, refused, accepted, IsAccepted}
 use Rattle.cells.specs.declared.check.Listed.the-variants as listed
@@ -28,12 +27,6 @@ words-next (suc k) [] h = absurd (omega arith)
 words-next (suc k) (w ∷ ws) h =
     rw (suc-add k 1)
     (append-assoc (wordText w) (wordsText (take k ws)) (wordText (getD ws k 0)) ∙ ap (λ (x : List ℕ). wordText w ++ x) (words-next k ws (omega arith)))
-
--- a word of the row is a word
-pub below-at : (b : ℕ) (ws : List ℕ) (k : ℕ) → k < length ws → Below b ws → getD ws k 0 < b
-below-at b [] k h w = absurd (omega arith)
-below-at b (x ∷ ws) zero h w = w .0
-below-at b (x ∷ ws) (suc k) h w = below-at b ws k (omega arith) (w .1)
 
 -- the field's cells, where the store has fewer
 take-least : (n m : ℕ) (s : List ℕ) → m ≡ min n (length s) → take m s ≡ take n s

@@ -26,6 +26,7 @@ labelledHex label n = ascii label ++ hex 2 n
 abbrev pub wordText : ℕ → List ℕ
 wordText w = ascii " " ++ hex 3 w
 
+-- "Words follow the count"
 abbrev pub wordsText : List ℕ → List ℕ
 wordsText [] = []
 wordsText (w ∷ ws) = wordText w ++ wordsText ws
@@ -34,24 +35,28 @@ wordsText (w ∷ ws) = wordText w ++ wordsText ws
 unfoldable pub lineText : (c line : ℕ) → List ℕ
 lineText c line = cond (eqb c 1) (labelled " c line=" line) (labelled " y line=" line)
 
--- " off=0 s=0/0"; "`s` is S and StreamNum"
-unfoldable pub placeText : Record → List ℕ
-placeText r = lineText (r .c) (r .line) ++ labelled " off=" (r .offset) ++ labelled " s=" (r .s) ++ labelled "/" (r .stream)
+-- " y line=9 off=0 s=0/0"; "`s` is S and StreamNum"
+unfoldable pub locationText : Record → List ℕ
+locationText r = lineText (r .c) (r .line) ++ labelled " off=" (r .offset) ++ labelled " s=" (r .s) ++ labelled "/" (r .stream)
 
--- " did=41 sdid=05 words=0"; "Words follow the count"
+-- " did=41 sdid=05"
+abbrev pub typeText : Record → List ℕ
+typeText r = labelledHex " did=" (r .did) ++ labelledHex " sdid=" (r .sdid)
+
+-- " did=41 sdid=05 words=0", and the words
 unfoldable pub dataText : Record → List ℕ
-dataText r =
-    labelledHex " did=" (r .did)
-    ++ labelledHex " sdid=" (r .sdid) ++ labelled " words=" (length (r .words)) ++ wordsText (r .words) ++ ascii "\n"
+dataText r = typeText r ++ labelled " words=" (length (r .words)) ++ wordsText (r .words) ++ ascii "\n"
 
+-- the line of a record
 abbrev pub recordText : Record → List ℕ
-recordText r = placeText r ++ dataText r
+recordText r = locationText r ++ dataText r
 
+-- the lines of records in order
 abbrev pub recordTexts : List Record → List ℕ
 recordTexts [] = []
 recordTexts (r ∷ rs) = recordText r ++ recordTexts rs
 
--- the records of a list of cells
+-- the lines of the records that a list of cells has; none where it is refused
 abbrev pub listText : Result (List Record) → List ℕ
 listText (refused x) = []
 listText (accepted rs) = recordTexts rs
@@ -69,14 +74,15 @@ fieldText n x store = wholeText n x ++ listText (readList (take (x .cells) store
 unfoldable pub refusedText : Refusal → List ℕ
 refusedText x = labelled "refused " (x .number) ++ labelled " " (x .index) ++ ascii "\n"
 
--- "8 late" is refusal 32
+-- "7 skipped": a packet's number, and what became of it
 abbrev pub numbered : ℕ → String → List ℕ
 numbered n text = decimal n ++ ascii text
 
+-- "8 late" is refusal 32; for any other "refused CODE INDEX"
 abbrev pub refusalText : ℕ → Refusal → List ℕ
 refusalText n x = cond (eqb (x .number) 32) (numbered n " late\n") (refusedText x)
 
--- the answer to packet `n`, over the store as it then is
+-- the answer to packet `n`, over the store as it then is: "Others: `N held`, `N mixed`, `N overfull`"
 abbrev pub answerText : ℕ → Answer → List ℕ → List ℕ
 answerText n answer.Skipped store = numbered n " skipped\n"
 answerText n answer.Held store = numbered n " held\n"

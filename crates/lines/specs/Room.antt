@@ -11,6 +11,10 @@ cellRoom = 20
 abbrev pub lineRoom : ℕ
 lineRoom = 160
 
+-- the line of the counts, with three numbers of 20 digits
+abbrev pub countsRoom : ℕ
+countsRoom = 82
+
 -- enough for what one packet can print, over a store of so many cells
 abbrev pub roomy : (store out : ℕ) → Bool
 roomy store out = leb (lineRoom + cellRoom * store) out

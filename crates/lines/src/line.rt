@@ -3,7 +3,7 @@ ghost use Prim.Native.Nat.{_+_, _*_, _≤_};
 ghost use lib.ListN.{length};
 ghost use Rattle.text.specs.Put.{Put};
 ghost use Rattle.lines.specs.Lines as lines;
-ghost use Rattle.lines.specs.Room.{cellRoom, lineRoom};
+ghost use Rattle.lines.specs.Room.{cellRoom, countsRoom, lineRoom};
 ghost use mathlib.Core.Path.{_≡_};
 ghost use Prim.Native.Nat.{min};
 use crate::record::put_records;
@@ -93,7 +93,7 @@ pub fn put_answer(out: &mut [u8], number: u64, answer: Answer, store: &[u16]) ->
 
 // `fresh=3 late=1 missing=1`
 pub fn put_counts(out: &mut [u8], at: usize, fresh: u64, late: u64, missing: u64) -> usize
-    requires { ⌜ at + 82 ≤ length (now out) ⌝ }
+    requires { ⌜ at + countsRoom ≤ length (now out) ⌝ }
     ensures { λ r. ⌜ Put (now (out .entry)) at (lines.countsText fresh late missing) (now (out .exit)) r ⌝ }
 {
     let next = put_labelled(out, at, b"fresh=", fresh);

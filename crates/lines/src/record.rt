@@ -30,9 +30,9 @@ fn put_line(out: &mut [u8], at: usize, c: u16, line: u16) -> usize
 }
 
 // What stands before DID.
-fn put_place(out: &mut [u8], at: usize, cells: &[u16]) -> usize
+fn put_location(out: &mut [u8], at: usize, cells: &[u16]) -> usize
     requires { ⌜ (headCells ≤ length (now cells)) × (at + 97 ≤ length (now out)) ⌝ }
-    ensures { λ r. ⌜ Put (now (out .entry)) at (lines.placeText (cellRecord (now (cells .entry)))) (now (out .exit)) r ⌝ }
+    ensures { λ r. ⌜ Put (now (out .entry)) at (lines.locationText (cellRecord (now (cells .entry)))) (now (out .exit)) r ⌝ }
     ensures { λ r. ⌜ r ≤ at + 97 ⌝ }
 {
     let next = put_line(out, at, cells[0], cells[1]);
@@ -56,6 +56,16 @@ fn put_words(out: &mut [u8], at: usize, words: &[u16]) -> usize
     to
 }
 
+// DID and SDID.
+fn put_type(out: &mut [u8], at: usize, cells: &[u16]) -> usize
+    requires { ⌜ WellFormed rfc8331 (cellRecord (now cells)) × (headCells ≤ length (now cells)) × (at + 15 ≤ length (now out)) ⌝ }
+    ensures { λ r. ⌜ Put (now (out .entry)) at (lines.typeText (cellRecord (now (cells .entry)))) (now (out .exit)) r ⌝ }
+    ensures { λ r. ⌜ r ≡ at + 15 ⌝ }
+{
+    let next = put_octet(out, at, b" did=", cells[5] as u8);
+    put_octet(out, next, b" sdid=", cells[6] as u8)
+}
+
 // From DID to the last word.
 fn put_data(out: &mut [u8], at: usize, cells: &[u16]) -> usize
     requires { ⌜ WellFormed rfc8331 (cellRecord (now cells)) × (headCells + cellCount (now cells) ≤ length (now cells)) ⌝ }
@@ -65,8 +75,7 @@ fn put_data(out: &mut [u8], at: usize, cells: &[u16]) -> usize
 {
     let n = cells[7] as usize;
     let end = Header::CELLS + n;
-    let next = put_octet(out, at, b" did=", cells[5] as u8);
-    let next = put_octet(out, next, b" sdid=", cells[6] as u8);
+    let next = put_type(out, at, cells);
     let next = put_labelled(out, next, b" words=", n as u64);
     let next = put_words(out, next, &cells[Header::CELLS..end]);
     put(out, next, b"\n")
@@ -79,12 +88,12 @@ fn put_record(out: &mut [u8], at: usize, cells: &[u16]) -> usize
     ensures { λ r. ⌜ Put (now (out .entry)) at (lines.recordText (cellRecord (now (cells .entry)))) (now (out .exit)) r ⌝ }
     ensures { λ r. ⌜ r ≤ at + cellRoom * (headCells + cellCount (now (cells .entry))) ⌝ }
 {
-    let next = put_place(out, at, cells);
+    let next = put_location(out, at, cells);
     put_data(out, next, cells)
 }
 
 // The lines of all records of a list that was checked.
-pub fn put_records(out: &mut [u8], at: usize, cells: &[u16]) -> usize
+pub(crate) fn put_records(out: &mut [u8], at: usize, cells: &[u16]) -> usize
     requires { ⌜ IsAccepted (readList (now cells)) × (at + cellRoom * length (now cells) ≤ length (now out)) ⌝ }
     ensures { λ r. ⌜ Put (now (out .entry)) at (lines.listText (readList (now (cells .entry)))) (now (out .exit)) r ⌝ }
 {

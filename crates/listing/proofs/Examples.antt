@@ -12,7 +12,7 @@ use Rattle.wire.specs.Cells.{cellRecord, headInRange, cellChecks, recordsFrom}
 use Rattle.wire.proofs.PacketExamples.{frame7Octets, frame8Octets, frame10Octets}
 use Rattle.depacketizer.specs.Step.{step}
 use Rattle.text.specs.Text.{ascii, decimal, decimalIn, digits, hex}
-use Rattle.lines.specs.Lines.{lineText, placeText, dataText, wholeText, refusedText, countsText}
+use Rattle.lines.specs.Lines.{lineText, locationText, dataText, wholeText, refusedText, countsText}
 use Rattle.listing.specs.Session.{turn, cutText, remaining, listing}
 
 abbrev store : List ℕ
@@ -37,5 +37,5 @@ input = 0 ∷ 32 ∷ (frame7Octets ++ (0 ∷ 32 ∷ (frame8Octets ++ (0 ∷ 32 �
 
 pub example : listing store input
     ≡ ascii "fieldlist 1\n7 skipped\n8 whole ts=2501 f=3 records=1\n y line=9 off=0 s=0/0 did=41 sdid=05 words=0\n8 late\n10 skipped\nfresh=3 late=1 missing=1\n"
-unfolding toBits num bits bitsAt rowAt headerWord checksumWord ancSize ancRecord headersOk checksumOk alignmentOk ancChecks readAnc readRun packetRead headerChecks paddingChecks payloadChecks readRecords readPacket readContent step cellRecord headInRange cellChecks recordsFrom ascii decimal decimalIn hex digits turn cutText remaining listing lineText placeText dataText wholeText refusedText countsText
+unfolding toBits num bits bitsAt rowAt headerWord checksumWord ancSize ancRecord headersOk checksumOk alignmentOk ancChecks readAnc readRun packetRead headerChecks paddingChecks payloadChecks readRecords readPacket readContent step cellRecord headInRange cellChecks recordsFrom ascii decimal decimalIn hex digits turn cutText remaining listing lineText locationText dataText wholeText refusedText countsText
 example = refl

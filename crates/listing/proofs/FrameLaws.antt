@@ -3,7 +3,7 @@
 use mathlib.Core.Path.{_≡_, refl, ap, sym, _∙_}
 use mathlib.Core.Bool.{Bool, true, false, cond}
 use mathlib.Core.List.{List, [], _∷_}
-use Prim.Native.Nat.{ℕ, zero, suc, _+_, _*_, _<_, _≤_}
+use Prim.Native.Nat.{ℕ, _+_, _*_, _<_, _≤_}
 use native.Mathlib.Omega.{arith}
 use borrow.Author.Tests.{le-leb, lt-leb, leb-true}
 use lib.Dec.{leb}
@@ -11,7 +11,7 @@ use lib.ListN.{length, take, drop, getD}
 use lib.Seq.{length-take-le}
 use Rattle.wire.specs.Bits.{bitsAt}
 use Rattle.wire.proofs.FieldLaws.{two-octets-at}
-use Rattle.listing.specs.Frames.{Front, end, cut, frame, front, framed}
+use Rattle.listing.specs.Frames.{Front, end, cut, frame, front}
 use Rattle.listing.specs.Answers.{frontOf}
 use Rattle.listing.specs.declared.frame.Front.the-variants as found
 

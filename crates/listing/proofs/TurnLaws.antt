@@ -21,7 +21,7 @@ use Rattle.lines.specs.Room.{lineRoom, cellRoom}
 use Rattle.listing.specs.declared.session.Session.{Session}
 use Rattle.listing.specs.declared.session.Session.the-variants as session
 use Rattle.listing.specs.Frames.{Front, end, cut, frame}
-use Rattle.listing.specs.Session.{Turn, isBroken, numberOf, entered, turn, turnBy, arrived}
+use Rattle.listing.specs.Session.{isBroken, numberOf, entered, turn, turnBy, arrived}
 use Rattle.listing.specs.Answers.{checkedNumber, enteredBy, frontOf, isCut}
 
 pub number-is : (s : List ℕ) (k : Result Content) → checkedNumber (checkedOf s k) ≡ numberOf k

@@ -5,6 +5,7 @@ use Prim.Native.Nat.{ℕ, _+_, _≤_}
 use lib.ListN.{length}
 use Rattle.wire.specs.declared.refusal.Refusal.{Refusal}
 use Rattle.wire.specs.Bits.{overwrite}
+use Rattle.wire.specs.Result.{noRefusal}
 use Rattle.rtp.specs.declared.packet.Checked.{Checked}
 use Rattle.rtp.specs.declared.packet.Checked.the-variants as checked
 use Rattle.depacketizer.specs.declared.state.Opened.{Opened}
@@ -27,61 +28,80 @@ frontOf end = found.End
 frontOf cut = found.Cut
 frontOf (frame p rest) = found.Packet (length p)
 
+-- whether the code found a frame that is broken off
 abbrev pub isCut : FrontFound → Bool
 isCut found.End = false
 isCut found.Cut = true
 isCut (found.Packet n) = false
 
--- of a packet that was checked: its number, and the depacketizer that it opens
+-- the number of a packet that was checked, for its line
 abbrev pub checkedNumber : Checked → ℕ
 checkedNumber (checked.Refused x) = 0
 checkedNumber (checked.Packet o) = o .summary .head .number .0
 
+-- "The first packet that passes 1 to 13 opens the keeper."
 abbrev pub checkedOpening : Checked → Opened
 checkedOpening (checked.Refused x) = opened.Refused x
 checkedOpening (checked.Packet o) = openOf (o .summary .head .source) (o .summary .head .«payload_type»)
 
+-- the depacketizer that a packet arrives at
 abbrev pub enteredBy : Session → Checked → Opened
 enteredBy session.Waiting k = checkedOpening k
 enteredBy (session.Open st) k = opened.Open st
 
+-- why none was opened
 abbrev pub openedRefusal : Opened → Refusal
 openedRefusal (opened.Refused x) = x
-openedRefusal (opened.Open st) = record { number = 0; index = 0 }
+openedRefusal (opened.Open st) = noRefusal
+
+-- 23: "lent octets too few"
+abbrev pub roomTooSmall : Refusal
+roomTooSmall = record { number = 23; index = 0 }
 
 -- one frame, where there is room
 abbrev pub listedOf : Bool → Session → Front → List ℕ → Listed
-listedOf false s f store = listed.RoomTooSmall
+listedOf false s f store = listed.Refused roomTooSmall
 listedOf true s end store = listed.NoFrame
 listedOf true s cut store = listed.NoFrame
 listedOf true s (frame p rest) store =
     listed.Frame (record { session = turn s p store .session; used = lengthSize + length p; length = length (turn s p store .text) })
 
+-- the session then
+abbrev pub sessionAfter : Bool → Session → Front → List ℕ → Session
+sessionAfter false s f store = s
+sessionAfter true s end store = s
+sessionAfter true s cut store = s
+sessionAfter true s (frame p rest) store = turn s p store .session
+
+-- the store then
 abbrev pub storeAfter : Bool → Session → Front → List ℕ → List ℕ
 storeAfter false s f store = store
 storeAfter true s end store = store
 storeAfter true s cut store = store
 storeAfter true s (frame p rest) store = turn s p store .store
 
+-- the lent octets then: the packet's text is at their front
 abbrev pub outAfter : Bool → Session → Front → List ℕ → List ℕ → List ℕ
 outAfter false s f store out = out
 outAfter true s end store out = out
 outAfter true s cut store out = out
 outAfter true s (frame p rest) store out = overwrite (turn s p store .text) out
 
--- a text of its own, where there is room
+-- a text of its own, where there is room: its octets
 abbrev pub textOf : Bool → List ℕ → Text
-textOf roomy t = cond roomy (text.Octets (length t)) text.RoomTooSmall
+textOf roomy t = cond roomy (text.Octets (length t)) (text.Refused roomTooSmall)
 
+-- the lent octets then: the text is at their front
 abbrev pub textAfter : Bool → List ℕ → List ℕ → List ℕ
 textAfter roomy t out = cond roomy (overwrite t out) out
 
 -- what an answer counts lies in the octets that were lent
 abbrev pub ListedFits : Listed → (octets out : ℕ) → Type 0
-ListedFits listed.RoomTooSmall octets out = Unit {0}
+ListedFits (listed.Refused x) octets out = Unit {0}
 ListedFits listed.NoFrame octets out = Unit {0}
 ListedFits (listed.Frame x) octets out = (x .used ≤ octets) × (x .length ≤ out)
 
+-- and so for a text
 abbrev pub TextFits : Text → (out : ℕ) → Type 0
-TextFits text.RoomTooSmall out = Unit {0}
+TextFits (text.Refused x) out = Unit {0}
 TextFits (text.Octets n) out = n ≤ out

@@ -24,6 +24,7 @@ abbrev pub opening : Result Content → Opened
 opening (refused x) = opened.Refused x
 opening (accepted k) = openOf (k .source) (k .type)
 
+-- the depacketizer that a packet arrives at: the one that is open, or else the one that it opens
 abbrev pub entered : Session → Result Content → Opened
 entered session.Waiting k = opening k
 entered (session.Open st) k = opened.Open st
@@ -34,13 +35,16 @@ pub record Turn : Type 0 where
   pub store : List ℕ
   pub text : List ℕ
 
+-- a packet of number `n` arrived: the depacketizer's next state, the store, and the text of its answer
 abbrev pub arrived : ℕ → Step → Turn
 arrived n x = record { session = session.Open (x .state); store = x .store; text = answerText n (x .answer) (x .store) }
 
+-- by the depacketizer: a packet that opens none is refused, and changes nothing
 abbrev pub turnBy : Session → ℕ → List ℕ → List ℕ → Opened → Turn
 turnBy s n octets store (opened.Refused x) = record { session = s; store = store; text = refusedText x }
 turnBy s n octets store (opened.Open st) = arrived n (step st octets store)
 
+-- one packet: the first that passes 1 to 13 opens; every later one arrives
 unfoldable pub turn : Session → List ℕ → List ℕ → Turn
 turn s octets store = turnBy s (numberOf (readContent rfc8331 octets)) octets store (entered s (readContent rfc8331 octets))
 
@@ -49,12 +53,14 @@ pub record Printed : Type 0 where
   pub session : Session
   pub text : List ℕ
 
-abbrev pub behind : List ℕ → Printed → Printed
-behind x p = record { session = p .session; text = x ++ p .text }
+-- a text, and then what is printed after it
+abbrev pub printedThen : List ℕ → Printed → Printed
+printedThen x p = record { session = p .session; text = x ++ p .text }
 
+-- the packets that are left, one after the other
 abbrev pub run : Session → List ℕ → List (List ℕ) → Printed
 run s store [] = record { session = s; text = [] }
-run s store (p ∷ ps) = behind (turn s p store .text) (run (turn s p store .session) (turn s p store .store) ps)
+run s store (p ∷ ps) = printedThen (turn s p store .text) (run (turn s p store .session) (turn s p store .store) ps)
 
 -- "Without a keeper the counts are 0."
 abbrev pub countsOf : Session → List ℕ
@@ -65,14 +71,17 @@ countsOf (session.Open st) = countsText (st .fresh) (st .late) (st .missing)
 unfoldable pub cutText : Bool → List ℕ
 cutText broken = cond broken (ascii "cut\n") []
 
+-- whether a frame is broken off there
 abbrev pub isBroken : Front → Bool
 isBroken end = false
 isBroken cut = true
 isBroken (frame p rest) = false
 
+-- the last lines
 abbrev pub endText : Bool → Session → List ℕ
 endText broken s = cutText broken ++ countsOf s
 
+-- the first line
 abbrev pub title : List ℕ
 title = ascii "fieldlist 1\n"
 

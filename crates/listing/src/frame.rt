@@ -17,7 +17,7 @@ pub enum Front {
     End,
 }
 
-pub fn frame_at(octets: &[u8]) -> Front
+pub(crate) fn frame_at(octets: &[u8]) -> Front
     ensures { λ r. ⌜ r ≡ frontOf (front (now (octets .entry))) ⌝ }
 {
     if octets.len() == 0 {

@@ -10,8 +10,8 @@ ghost use Rattle.rtp.specs.Answers.{checkedOf};
 ghost use Rattle.text.specs.Put.{Put};
 ghost use Rattle.listing.specs.Answers.{ListedFits, TextFits, checkedNumber, checkedOpening, enteredBy, isCut, listedOf, openedRefusal, outAfter, storeAfter, textAfter, textOf};
 ghost use Rattle.listing.specs.Frames.{front};
-ghost use Rattle.lines.specs.Room.{cellRoom, lineRoom, roomy};
-ghost use Rattle.listing.specs.Session as told;
+ghost use Rattle.lines.specs.Room.{cellRoom, countsRoom, lineRoom, roomy};
+ghost use Rattle.listing.specs.Session as listing;
 use crate::frame::Front;
 use crate::frame::LENGTH_SIZE;
 use crate::frame::frame_at;
@@ -47,12 +47,12 @@ pub enum Listed {
     Frame(Turn),
     // No whole frame stands at the front.
     NoFrame,
-    RoomTooSmall,
+    Refused(Refusal),
 }
 
 pub enum Text {
     Octets(usize),
-    RoomTooSmall,
+    Refused(Refusal),
 }
 
 // The session after a packet, and the octets of its text.
@@ -113,9 +113,9 @@ fn refusal_of(opened: Opened) -> Refusal
 
 fn list_packet(session: Session, octets: &[u8], store: &mut [u16], out: &mut [u8]) -> Reply
     requires { ⌜ lineRoom + cellRoom * length (now store) ≤ length (now out) ⌝ }
-    ensures { λ r. ⌜ r .session ≡ told.turn session (now (octets .entry)) (now (store .entry)) .session ⌝ }
-    ensures { λ r. ⌜ now (store .exit) ≡ told.turn session (now (octets .entry)) (now (store .entry)) .store ⌝ }
-    ensures { λ r. ⌜ Put (now (out .entry)) 0 (told.turn session (now (octets .entry)) (now (store .entry)) .text) (now (out .exit)) (r .length) ⌝ }
+    ensures { λ r. ⌜ r .session ≡ listing.turn session (now (octets .entry)) (now (store .entry)) .session ⌝ }
+    ensures { λ r. ⌜ now (store .exit) ≡ listing.turn session (now (octets .entry)) (now (store .entry)) .store ⌝ }
+    ensures { λ r. ⌜ Put (now (out .entry)) 0 (listing.turn session (now (octets .entry)) (now (store .entry)) .text) (now (out .exit)) (r .length) ⌝ }
 {
     let checked = check(octets);
     let number = number_of(checked);
@@ -152,7 +152,10 @@ pub fn list_frame(session: Session, octets: &[u8], store: &mut [u16], out: &mut 
     ensures { λ r. ⌜ ListedFits r (length (now (octets .entry))) (length (now (out .entry))) ⌝ }
 {
     if !is_roomy(store.len(), out.len()) {
-        return Listed::RoomTooSmall;
+        return Listed::Refused(Refusal {
+            number: Refusal::ROOM_TOO_SMALL,
+            index: 0,
+        });
     }
     let front = frame_at(octets);
     match front {
@@ -173,12 +176,15 @@ pub fn list_frame(session: Session, octets: &[u8], store: &mut [u16], out: &mut 
 
 // The first line.
 pub fn begin(out: &mut [u8]) -> Text
-    ensures { λ r. ⌜ r ≡ textOf (leb lineRoom (length (now (out .entry)))) told.title ⌝ }
-    ensures { λ r. ⌜ now (out .exit) ≡ textAfter (leb lineRoom (length (now (out .entry)))) told.title (now (out .entry)) ⌝ }
+    ensures { λ r. ⌜ r ≡ textOf (leb lineRoom (length (now (out .entry)))) listing.title ⌝ }
+    ensures { λ r. ⌜ now (out .exit) ≡ textAfter (leb lineRoom (length (now (out .entry)))) listing.title (now (out .entry)) ⌝ }
     ensures { λ r. ⌜ TextFits r (length (now (out .entry))) ⌝ }
 {
     if out.len() < LINE_ROOM {
-        return Text::RoomTooSmall;
+        return Text::Refused(Refusal {
+            number: Refusal::ROOM_TOO_SMALL,
+            index: 0,
+        });
     }
     let length = put(out, 0, b"fieldlist 1\n");
     Text::Octets(length)
@@ -186,7 +192,7 @@ pub fn begin(out: &mut [u8]) -> Text
 
 fn put_cut(out: &mut [u8], front: Front) -> usize
     requires { ⌜ lineRoom ≤ length (now out) ⌝ }
-    ensures { λ r. ⌜ Put (now (out .entry)) 0 (told.cutText (isCut front)) (now (out .exit)) r ⌝ }
+    ensures { λ r. ⌜ Put (now (out .entry)) 0 (listing.cutText (isCut front)) (now (out .exit)) r ⌝ }
     ensures { λ r. ⌜ r ≤ 4 ⌝ }
 {
     match front {
@@ -197,8 +203,8 @@ fn put_cut(out: &mut [u8], front: Front) -> usize
 }
 
 fn put_counts_of(out: &mut [u8], at: usize, session: Session) -> usize
-    requires { ⌜ at + 82 ≤ length (now out) ⌝ }
-    ensures { λ r. ⌜ Put (now (out .entry)) at (told.countsOf session) (now (out .exit)) r ⌝ }
+    requires { ⌜ at + countsRoom ≤ length (now out) ⌝ }
+    ensures { λ r. ⌜ Put (now (out .entry)) at (listing.countsOf session) (now (out .exit)) r ⌝ }
 {
     match session {
         Session::Waiting => put_counts(out, at, 0, 0, 0),
@@ -208,12 +214,15 @@ fn put_counts_of(out: &mut [u8], at: usize, session: Session) -> usize
 
 // The last lines; `rest` is what is left of the input behind its whole frames.
 pub fn finish(session: Session, rest: &[u8], out: &mut [u8]) -> Text
-    ensures { λ r. ⌜ r ≡ textOf (leb lineRoom (length (now (out .entry)))) (told.endText (told.isBroken (front (now (rest .entry)))) session) ⌝ }
-    ensures { λ r. ⌜ now (out .exit) ≡ textAfter (leb lineRoom (length (now (out .entry)))) (told.endText (told.isBroken (front (now (rest .entry)))) session) (now (out .entry)) ⌝ }
+    ensures { λ r. ⌜ r ≡ textOf (leb lineRoom (length (now (out .entry)))) (listing.endText (listing.isBroken (front (now (rest .entry)))) session) ⌝ }
+    ensures { λ r. ⌜ now (out .exit) ≡ textAfter (leb lineRoom (length (now (out .entry)))) (listing.endText (listing.isBroken (front (now (rest .entry)))) session) (now (out .entry)) ⌝ }
     ensures { λ r. ⌜ TextFits r (length (now (out .entry))) ⌝ }
 {
     if out.len() < LINE_ROOM {
-        return Text::RoomTooSmall;
+        return Text::Refused(Refusal {
+            number: Refusal::ROOM_TOO_SMALL,
+            index: 0,
+        });
     }
     let next = put_cut(out, frame_at(rest));
     Text::Octets(put_counts_of(out, next, session))

@@ -3,7 +3,7 @@
 use mathlib.Core.Path.{_≡_, refl, ap, sym, _∙_}
 use mathlib.Core.Bool.{Bool, true, false}
 use mathlib.Core.List.{List}
-use Prim.Native.Nat.{ℕ, zero, suc, _+_, _-_, _*_, _/_, _%_, _<_, _≤_}
+use Prim.Native.Nat.{ℕ, zero, suc, _+_, _*_, _/_, _%_, _<_, _≤_}
 use native.Mathlib.Nat.{zero-mul, one-mul}
 use native.Mathlib.Omega.{arith}
 use borrow.Author.Tests.{leb-true, leb-false}
@@ -11,7 +11,7 @@ use lib.Dec.{leb}
 use lib.ListN.{length, getD}
 use Rattle.wire.specs.Bits.{bitsAt, num}
 use Rattle.wire.specs.Layout.{rfc8331, payloadHeaderSize}
-use Rattle.wire.specs.Packet.{headerLeast, sourceCount, hasExtension, extensionAt, extensionWords, headerSize, payloadAt, lengthField, ancCount, fField}
+use Rattle.wire.specs.Packet.{headerLeast, sourceCount, hasExtension, extensionAt, extensionWords, headerSize, payloadAt, lengthField, ancCount, fAt, fField}
 use Rattle.wire.proofs.FieldLaws.{within-octet}
 use Rattle.rtp.specs.Answers.{SizeFound}
 
@@ -36,7 +36,7 @@ module _ (s : List ℕ) (octet : (j : ℕ) → getD s j 0 < 256) (long : headerL
 
   -- octets before the extension
   abbrev fixed : ℕ
-  fixed = 12 + 4 * (getD s 0 0 % 16)
+  fixed = headerLeast + 4 * (getD s 0 0 % 16)
 
   without : getD s 0 0 / 16 % 2 ≡ 0 → headerSize s ≡ fixed
   unfolding bitsAt num
@@ -81,7 +81,7 @@ module _ (s : List ℕ) (octet : (j : ℕ) → getD s j 0 < 256) (header : ℕ) 
 
   pub f-at : fField rfc8331 s ≡ getD s (header + 5) 0 / 64
   f-at =
-      let k : payloadAt s + 16 + 16 + 8 ≡ 8 * (header + 5) + 0 = omega arith in
+      let k : fAt s ≡ 8 * (header + 5) + 0 = omega arith in
       ap (λ (n : ℕ). bitsAt s n 2) k ∙ within-octet s octet (header + 5) (omega arith) 0 2 (omega arith) ∙ omega (arith, octet (header + 5))
 
 -- what a test of the size that was found says of the header's size

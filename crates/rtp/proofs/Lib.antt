@@ -1,5 +1,3 @@
-pub mod FrontLaws
 pub mod HeaderFields
 pub mod ReadLaws
 pub mod StageLaws
-pub mod WriteLaws

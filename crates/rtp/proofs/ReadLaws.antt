@@ -11,7 +11,7 @@ use lib.ListN.{length, take, drop}
 use Rattle.wire.specs.declared.refusal.Refusal.{Refusal}
 use Rattle.wire.specs.Bits.{Below, overwrite}
 use Rattle.wire.specs.Layout.{rfc8331}
-use Rattle.wire.specs.Result.{Result, refused, accepted, refuse, judge, _then_, IsAccepted}
+use Rattle.wire.specs.Result.{Result, refused, accepted, refuse, IsAccepted}
 use Rattle.wire.specs.Anc.{Record, readRun}
 use Rattle.wire.specs.Cells.{listOf}
 use Rattle.wire.specs.Packet.{Packet, Content, content, lengthField, ancCount, runAt, readRecords, readPacket, readContent, readInto}

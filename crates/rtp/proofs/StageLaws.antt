@@ -1,9 +1,9 @@
 -- A packet read stage by stage: the first stage that refuses decides, and where all pass the records are read.
 -- By the nesting of the stages' checks in the definition of the reader.
-use mathlib.Core.Path.{_≡_, refl, ap, ap₂, sym, _∙_, subst}
+use mathlib.Core.Path.{_≡_, refl, ap, sym, _∙_}
 use mathlib.Core.Bool.{Bool, true, false, cond}
-use mathlib.Core.List.{List, [], _∷_, _++_}
-use Prim.Native.Nat.{ℕ, _+_, _-_, _<_, _≤_}
+use mathlib.Core.List.{List, [], _∷_}
+use Prim.Native.Nat.{ℕ, _+_, _<_, _≤_}
 use native.Mathlib.Omega.{arith}
 use borrow.Author.Tests.{eq-eqb, ne-eqb}
 use lib.Dec.{eqb}
@@ -16,14 +16,14 @@ use Rattle.wire.specs.Layout.{rfc8331}
 use Rattle.wire.specs.Result.{Result, refused, accepted, refuse, Checks, judge, _then_}
 use Rattle.wire.specs.Anc.{Record, readRun, runOctets, runSize}
 use Rattle.wire.specs.Cells.{listOf}
-use Rattle.wire.specs.Packet.{Content, content, packetRead, headerSize, payloadSize, lengthField, ancCount, runAt, headerChecks, paddingChecks, payloadChecks, readRecords, readPacket, readContent}
+use Rattle.wire.specs.Packet.{content, packetRead, headerSize, payloadSize, lengthField, ancCount, runAt, headerChecks, paddingChecks, payloadChecks, readRecords, readPacket, readContent}
 use Rattle.wire.proofs.BitLaws.{below-take, below-drop}
 use Rattle.wire.proofs.ResultLaws.{Passed, judge-accepts, judge-passes, accepted-inj}
 use Rattle.wire.proofs.AncLaws.{run-iff, length-run}
 use Rattle.wire.proofs.PacketLaws.{Sizes, sizes}
 use Rattle.anc.specs.Answers.{runOf}
 use Rattle.anc.specs.declared.check.Run.the-variants as run
-use Rattle.rtp.specs.Answers.{stageOf, checkedOf, headAt, headOf}
+use Rattle.rtp.specs.Answers.{stageOf, checkedOf, headAt}
 use Rattle.rtp.specs.declared.packet.Checked.the-variants as checked
 use Rattle.rtp.specs.declared.stage.Stage.the-variants as stage
 

@@ -1,4 +1,4 @@
-// A packet checked, without writing anything.
+// A packet checked: all of 01's "Order of reading" but 14, without writing anything. Then its records read to cells.
 ghost use mathlib.Core.Path.{_≡_};
 ghost use Prim.Native.Nat.{_+_, _≤_};
 ghost use lib.ListN.{length};
@@ -16,6 +16,7 @@ use crate::stage::check_payload;
 use anc::check::Run;
 use anc::check::check_run;
 use anc::read::read_run;
+use wire::layout::PAYLOAD_HEADER_SIZE;
 use wire::number::PacketNumber;
 use wire::number::Timestamp;
 use wire::refusal::Refusal;
@@ -57,7 +58,7 @@ pub fn check(octets: &[u8]) -> Checked
     let Stage::Passed(length) = stage else {
         return Checked::Refused(stage.refusal());
     };
-    let at = header + 8;
+    let at = header + PAYLOAD_HEADER_SIZE;
     let end = at + length;
     let count = octets[header + 4];
     let run = check_run(&octets[at..end], count);

@@ -6,6 +6,9 @@ ghost use Rattle.wire.specs.Layout.{payloadHeaderSize, rfc8331};
 ghost use Rattle.wire.specs.Packet.{headerChecks, headerLeast, headerSize, lengthField, paddingChecks, paddingCount, payloadChecks, payloadSize};
 ghost use Rattle.wire.specs.Result.{accepted, judge};
 ghost use Rattle.rtp.specs.Answers.{SizeFound, stageOf, stageRefusal};
+use wire::layout::PAYLOAD_HEADER_SIZE;
+use wire::layout::RTP_HEADER_SIZE;
+use wire::limit::MAX_PACKET;
 use wire::refusal::Refusal;
 use words::octet::pair_at;
 use words::octet::wide;
@@ -24,7 +27,7 @@ impl Stage {
     }
 
     // The refusal that a stage gave.
-    pub fn refusal(self) -> Refusal
+    pub(crate) fn refusal(self) -> Refusal
         ensures { λ r. ⌜ r ≡ stageRefusal self ⌝ }
     {
         match self {
@@ -43,7 +46,7 @@ fn header_size(octets: &[u8]) -> usize
     ensures { λ r. ⌜ SizeFound (now (octets .entry)) r ⌝ }
 {
     let first = wide(octets[0]);
-    let fixed = 12 + 4 * (first % 16);
+    let fixed = RTP_HEADER_SIZE + 4 * (first % 16);
     if first / 16 % 2 == 0 {
         return fixed;
     }
@@ -54,13 +57,13 @@ fn header_size(octets: &[u8]) -> usize
 }
 
 // 1, 2, 3, 2: the header's octets.
-pub fn check_header(octets: &[u8]) -> Stage
+pub(crate) fn check_header(octets: &[u8]) -> Stage
     ensures { λ r. ⌜ r ≡ stageOf (judge 0 (headerChecks (now (octets .entry))) (accepted (headerSize (now (octets .entry))))) ⌝ }
 {
-    if octets.len() > 65535 {
+    if octets.len() > MAX_PACKET {
         return Stage::refuse(Refusal::TOO_LONG);
     }
-    if octets.len() < 12 {
+    if octets.len() < RTP_HEADER_SIZE {
         return Stage::refuse(Refusal::HEADER_CUT);
     }
     if wide(octets[0]) / 64 != 2 {
@@ -82,7 +85,7 @@ fn padding_count(octets: &[u8]) -> usize
 }
 
 // 4, 5: the payload's octets.
-pub fn check_padding(octets: &[u8], header: usize) -> Stage
+pub(crate) fn check_padding(octets: &[u8], header: usize) -> Stage
     requires { ⌜ (header ≡ headerSize (now octets)) × (header ≤ length (now octets)) × (headerLeast ≤ length (now octets)) ⌝ }
     ensures { λ r. ⌜ r ≡ stageOf (judge 0 (paddingChecks rfc8331 (now (octets .entry))) (accepted (payloadSize (now (octets .entry))))) ⌝ }
 {
@@ -94,14 +97,14 @@ pub fn check_padding(octets: &[u8], header: usize) -> Stage
     if after < padding {
         return Stage::refuse(Refusal::PADDING_WRONG);
     }
-    if after - padding < 8 {
+    if after - padding < PAYLOAD_HEADER_SIZE {
         return Stage::refuse(Refusal::PAYLOAD_CUT);
     }
     Stage::Passed(after - padding)
 }
 
 // 6, 7, 8: the octets of the ANC data packets.
-pub fn check_payload(octets: &[u8], header: usize, payload: usize) -> Stage
+pub(crate) fn check_payload(octets: &[u8], header: usize, payload: usize) -> Stage
     requires { ⌜ (header ≡ headerSize (now octets)) × (payload ≡ payloadSize (now octets)) ⌝ }
     requires { ⌜ (payloadHeaderSize rfc8331 ≤ payload) × (header + payload ≤ length (now octets)) ⌝ }
     ensures { λ r. ⌜ r ≡ stageOf (judge 0 (payloadChecks rfc8331 (now (octets .entry))) (accepted (lengthField (now (octets .entry))))) ⌝ }
@@ -110,7 +113,7 @@ pub fn check_payload(octets: &[u8], header: usize, payload: usize) -> Stage
     if wide(octets[header + 5]) / 64 == 1 {
         return Stage::refuse(Refusal::F_INVALID);
     }
-    if length != payload - 8 {
+    if length != payload - PAYLOAD_HEADER_SIZE {
         return Stage::refuse(Refusal::LENGTH_WRONG);
     }
     if octets[header + 4] == 0 {

@@ -1,54 +1,15 @@
 // Writes packets with the records A and B of 01, "Marked examples", reads them back and prints both ways: the octets in hex,
 // then what was read and its cells. The first four are the frames of 01, "`fieldlist`".
-use libc::STDOUT_FILENO;
+use printing::number;
+use printing::print;
+use printing::print_cells;
+use printing::print_octets;
+use printing::print_refusal;
 use rtp::packet::Head;
 use rtp::packet::Read;
 use wire::number::PacketNumber;
 use wire::number::Timestamp;
-use wire::refusal::Refusal;
 use wire::written::Written;
-
-fn print(text: &[u8]) {
-    io::write_all(STDOUT_FILENO, text);
-}
-
-fn number(label: &[u8], n: u64) {
-    print(label);
-    io::print_decimal(STDOUT_FILENO, n);
-}
-
-fn wide8(x: u8) -> u64 {
-    x as u64
-}
-
-fn wide16(x: u16) -> u64 {
-    x as u64
-}
-
-fn print_octets(octets: &[u8]) {
-    let mut k: usize = 0;
-    while k < octets.len() {
-        io::print_hex(STDOUT_FILENO, wide8(octets[k]), 2);
-        k += 1;
-    }
-    print(b"\n");
-}
-
-fn print_cells(cells: &[u16]) {
-    let mut k: usize = 0;
-    while k < cells.len() {
-        print(b" ");
-        io::print_hex(STDOUT_FILENO, wide16(cells[k]), 1);
-        k += 1;
-    }
-    print(b"\n");
-}
-
-fn print_refusal(refusal: Refusal) {
-    number(b"refused ", refusal.number as u64);
-    number(b" ", refusal.index as u64);
-    print(b"\n");
-}
 
 fn print_head(head: Head) {
     let packet = head.number;
@@ -84,7 +45,7 @@ fn read_back(octets: &[u8]) {
 // Writes a packet, prints its octets and reads it back.
 fn there_and_back(head: Head, cells: &[u16]) {
     let mut out = [0u8; 64];
-    let written = rtp::write(head, cells, &mut out);
+    let written = packetizer::write(head, cells, &mut out);
     match written {
         Written::Refused(refusal) => print_refusal(refusal),
         Written::Octets(size) => {

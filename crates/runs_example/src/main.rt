@@ -1,22 +1,24 @@
-// Runs the cases of 01, "Marked examples", that are run only, through the entry points of `rtp`. A line each, as the second
-// program prints them (reference/src/bin/runs.rs): a name, and `written OCTETS read RECORDS CELLS SUM`, `read RECORDS CELLS SUM`
-// or `refused NUMBER INDEX`.
+// Runs the cases of 01, "Marked examples", that are run only, through the entry points of `rtp` and `packetizer`. A line each, as
+// the second program prints them (reference/src/bin/runs.rs): a name, and `written OCTETS read RECORDS CELLS SUM`,
+// `read RECORDS CELLS SUM` or `refused NUMBER INDEX`.
 ghost use Prim.Native.Nat.{_<_};
-use libc::STDOUT_FILENO;
+use printing::number;
+use printing::print;
+use printing::print_refusal;
 use rtp::packet::Head;
 use rtp::packet::Read;
 use std::num::wrapping_add_u16;
 use wire::header::Header;
+use wire::layout::FRONT_SIZE;
 use wire::number::PacketNumber;
 use wire::number::Timestamp;
-use wire::refusal::Refusal;
 use wire::written::Written;
 
 // Record A of 01.
 const A: [u16; 8] = [0, 9, 0, 0, 0, 0x41, 5, 0];
 
 // Where it stands in a packet that has no other record.
-const A_AT: usize = 20;
+const A_AT: usize = FRONT_SIZE;
 
 const A_BITS: usize = 96;
 
@@ -28,24 +30,9 @@ const MAX_WORDS: usize = 255;
 
 const LONG_CELLS: usize = Header::CELLS + MAX_WORDS;
 
-fn print(text: &[u8]) {
-    io::write_all(STDOUT_FILENO, text);
-}
-
-fn number(label: &[u8], n: u64) {
-    print(label);
-    io::print_decimal(STDOUT_FILENO, n);
-}
-
 fn name(label: &[u8], n: u64) {
     number(label, n);
     print(b": ");
-}
-
-fn print_refusal(refusal: Refusal) {
-    number(b"refused ", refusal.number as u64);
-    number(b" ", refusal.index as u64);
-    print(b"\n");
 }
 
 // The head of every packet.
@@ -90,7 +77,7 @@ fn read_back(octets: &[u8], cells: &mut [u16]) {
 
 // Writes a list as a packet and reads that back.
 fn there_and_back(list: &[u16], out: &mut [u8], cells: &mut [u16]) {
-    let written = rtp::write(head(), list, out);
+    let written = packetizer::write(head(), list, out);
     match written {
         Written::Refused(refusal) => print_refusal(refusal),
         Written::Octets(size) => {
@@ -198,7 +185,7 @@ fn run_bits(packet: &mut [u8], cells: &mut [u16]) {
 // The packet of one record A, written once, and read with changes.
 fn run_changes(out: &mut [u8], cells: &mut [u16]) {
     let a = A;
-    let written = rtp::write(head(), &a, out);
+    let written = packetizer::write(head(), &a, out);
     let Written::Octets(size) = written else {
         return;
     };

@@ -8,7 +8,8 @@ use Rattle.sdp.specs.declared.parameters.Vpid.the-variants.{Code, Absent
 use Rattle.sdp.specs.Text.{semicolon, space, isName, isValue, digitValue, number}
 use Rattle.sdp.specs.Grammar.{Content}
 use Rattle.sdp.specs.Reading.{startsWith, digits, hexBehind, didSdidOf, vpidCodeOf, nameLength, areValue, otherOf, itemOf, skipSpaces, front, fronts, items, gather, readText, readInto}
-use Rattle.sdp.specs.Writing.{digitText, decimalText, pairText, codeText, pairTexts, separated, joined, writeText}
+use Rattle.text.specs.Text.{digits as textDigits, decimalIn, decimal, hex}
+use Rattle.sdp.specs.Writing.{pairText, codeText, pairTexts, separated, joined, writeText}
 
 -- `DID_SDID={0x61,0x02}`
 abbrev captions : List ℕ
@@ -85,7 +86,7 @@ pub writes-sample : (writeText sample 55 ≡ accepted (captions then-text afd th
     × (writeText (record { pairs = 0x61 ∷ 0x02 ∷ 0x41 ∷ 0x05 ∷ []; vpid = Absent }) 41 ≡ accepted (captions then-text afd))
     × (writeText (record { pairs = []; vpid = Code 132 }) 13 ≡ accepted vpid)
     × (writeText (record { pairs = []; vpid = Absent }) 0 ≡ accepted [])
-unfolding digitText decimalText pairText codeText pairTexts separated joined writeText
+unfolding textDigits decimalIn decimal hex pairText codeText pairTexts separated joined writeText
 writes-sample = (refl, refl, refl, refl)
 
 -- digits: one or two, of either case; leading zeros are read, and written are lower-case digits without them
@@ -101,7 +102,7 @@ pub digits-written : (pairText 0x0A 0xFE ≡ 0x44 ∷ 0x49 ∷ 0x44 ∷ 0x5F ∷
     × (codeText 0 ≡ 0x56 ∷ 0x50 ∷ 0x49 ∷ 0x44 ∷ 0x5F ∷ 0x43 ∷ 0x6F ∷ 0x64 ∷ 0x65 ∷ 0x3D ∷ 0x30 ∷ [])
     × (codeText 42 ≡ 0x56 ∷ 0x50 ∷ 0x49 ∷ 0x44 ∷ 0x5F ∷ 0x43 ∷ 0x6F ∷ 0x64 ∷ 0x65 ∷ 0x3D ∷ 0x34 ∷ 0x32 ∷ [])
     × (codeText 255 ≡ 0x56 ∷ 0x50 ∷ 0x49 ∷ 0x44 ∷ 0x5F ∷ 0x43 ∷ 0x6F ∷ 0x64 ∷ 0x65 ∷ 0x3D ∷ 0x32 ∷ 0x35 ∷ 0x35 ∷ [])
-unfolding digitText decimalText pairText codeText
+unfolding textDigits decimalIn decimal hex pairText codeText
 digits-written = (refl, refl, refl, refl)
 
 -- spaces are passed over behind `;` alone: not before it, not before the first item, not within an item
@@ -153,5 +154,5 @@ limits = (refl, refl, refl, refl)
 -- an odd octet is 41, before 43 and 44
 pub refusals-written : (writeText (record { pairs = 0x61 ∷ []; vpid = Absent }) 0 ≡ refuse 41 0)
     × (writeText (record { pairs = 0x61 ∷ 0x02 ∷ []; vpid = Absent }) 19 ≡ refuse 44 0)
-unfolding digitText decimalText pairText codeText pairTexts separated joined writeText
+unfolding textDigits decimalIn decimal hex pairText codeText pairTexts separated joined writeText
 refusals-written = (refl, refl)

@@ -79,9 +79,6 @@ codes-cons l (VpidCode code) xs = rw (append-assoc l (code ∷ []) (codesOf xs))
 codes-cons l Other xs = rw (append-nil l)
 codes-cons l Malformed xs = rw (append-nil l)
 
-formed-of : (x : Item) (xs : List Item) → Each Formed (x ∷ []) → Each Formed xs → Each Formed (x ∷ xs)
-formed-of x xs h k = (h .0, k)
-
 pub gather-adds : (i : ℕ) (p : Parameters) (xs : List Item) (q : Parameters) → p .pairs ≤ maxPairs → gather i p xs ≡ accepted q → Adds p xs q
 unfolding gather
 gather-adds i p [] q h e =
@@ -93,7 +90,7 @@ gather-adds i p (x ∷ xs) q h e =
     let one = add-adds i p x (a .0) h (a .1) in
     let more = gather-adds (i + 1) (a .0) xs q (one .few) (a .2) in
     record {
-      formed = formed-of x xs (one .formed) (more .formed);
+      formed = (one .formed .0, more .formed);
       pairs = omega (arith, one .pairs, more .pairs, ap length (pairs-cons x xs), length-append (pairsOf (x ∷ [])) (pairsOf xs));
       few = more .few;
       vpid = more .vpid ∙ ap (λ (l : List ℕ). l ++ codesOf xs) (one .vpid) ∙ codes-cons (codes (p .vpid)) x xs;

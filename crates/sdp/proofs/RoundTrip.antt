@@ -11,6 +11,7 @@ use borrow.Author.Tests.{ltb-true, ltb-false, le-leb, lt-leb, leb-true, eqb-true
 use Rattle.wire.specs.Bits.{Below}
 use Rattle.wire.specs.Result.{accepted, Checks}
 use Rattle.wire.proofs.ResultLaws.{accepted-inj, judge-accepts}
+use Rattle.text.specs.Text.{digit, digits, decimal, hex}
 use Rattle.sdp.specs.declared.item.Item.{Item}
 use Rattle.sdp.specs.declared.item.Item.the-variants.{DidSdid, VpidCode}
 use Rattle.sdp.specs.declared.parameters.Vpid.{Vpid}
@@ -18,13 +19,13 @@ use Rattle.sdp.specs.declared.parameters.Vpid.the-variants.{Code, Absent
 use Rattle.sdp.specs.Text.{digitValue, number, hexBase, hexMost, decimalBase, decimalMost, maxPairs}
 use Rattle.sdp.specs.Grammar.{Numeral, ItemText, ItemsText, pairsOf, codesOf, codes, Content, Says}
 use Rattle.sdp.specs.Reading.{readText, readInto}
-use Rattle.sdp.specs.Writing.{digitText, hexText, decimalText, pairText, codeText, pairTexts, codeTexts, separated, joined, textOf, writeText}
+use Rattle.sdp.specs.Writing.{pairText, codeText, pairTexts, codeTexts, separated, joined, textOf, writeText, Writable}
 use Rattle.sdp.proofs.WritingLaws.{decimal-one, decimal-two, decimal-three, codes-few, text-size}
 use Rattle.sdp.proofs.Acceptance.{accepts-iff, room-iff}
 
 -- a digit that is written is read
-digit-back : (v : ℕ) → v < 16 → digitValue (digitText v) ≡ v
-unfolding digitText digitValue
+digit-back : (v : ℕ) → v < 16 → digitValue (digit v) ≡ v
+unfolding digitValue
 digit-back v h = go (ltb v 10) refl
   where
     go : (t : Bool) → ltb v 10 ≡ t
@@ -44,18 +45,18 @@ digit-back v h = go (ltb v 10) refl
         )
         (omega arith)
 
-hex-numeral : (n : ℕ) → n < 256 → Numeral hexBase hexMost n (hexText n)
-unfolding number
+hex-numeral : (n : ℕ) → n < 256 → Numeral hexBase hexMost n (hex 2 n)
+unfolding number hex digits
 hex-numeral n h =
-    let a = digit-back (n / 16) (omega arith) in
+    let a = digit-back (n / 16 % 16) (omega arith) in
     let b = digit-back (n % 16) (omega arith) in
     record { digits = (omega arith, (omega arith, tt)); some = omega arith; few = omega arith; writes = omega arith }
 
-decimal-numeral : (n : ℕ) → n < 256 → Numeral decimalBase decimalMost n (decimalText n)
+decimal-numeral : (n : ℕ) → n < 256 → Numeral decimalBase decimalMost n (decimal n)
 unfolding number
 decimal-numeral n h = go (ltb n 10) refl (ltb n 100) refl
   where
-    go : (s : Bool) → ltb n 10 ≡ s → (t : Bool) → ltb n 100 ≡ t → Numeral decimalBase decimalMost n (decimalText n)
+    go : (s : Bool) → ltb n 10 ≡ s → (t : Bool) → ltb n 100 ≡ t → Numeral decimalBase decimalMost n (decimal n)
     go true p t q =
         let l = ltb-true n 10 p in
         let a = digit-back n (omega arith) in
@@ -69,20 +70,20 @@ decimal-numeral n h = go (ltb n 10) refl (ltb n 100) refl
         (record { digits = (omega arith, (omega arith, tt)); some = omega arith; few = omega arith; writes = omega arith })
     go false p false q =
         let m = ltb-false n 100 q in
-        let a = digit-back (n / 100) (omega arith) in
+        let a = digit-back (n / 10 / 10) (omega arith) in
         let b = digit-back (n / 10 % 10) (omega arith) in
         let d = digit-back (n % 10) (omega arith) in
-        subst (Numeral decimalBase decimalMost n) (sym (decimal-three n m))
+        subst (Numeral decimalBase decimalMost n) (sym (decimal-three n m (omega arith)))
         (record { digits = (omega arith, (omega arith, (omega arith, tt))); some = omega arith; few = omega arith; writes = omega arith })
 
 pair-item : (did sdid : ℕ) → did < 256 → sdid < 256 → ItemText (DidSdid did sdid) (pairText did sdid)
 unfolding pairText
 pair-item did sdid h k =
-    record { didDigits = hexText did; sdidDigits = hexText sdid; didNumeral = hex-numeral did h; sdidNumeral = hex-numeral sdid k; text = refl }
+    record { didDigits = hex 2 did; sdidDigits = hex 2 sdid; didNumeral = hex-numeral did h; sdidNumeral = hex-numeral sdid k; text = refl }
 
 code-item : (code : ℕ) → code < 256 → ItemText (VpidCode code) (codeText code)
 unfolding codeText
-code-item code h = record { codeDigits = decimalText code; codeNumeral = decimal-numeral code h; most = omega arith; text = refl }
+code-item code h = record { codeDigits = decimal code; codeNumeral = decimal-numeral code h; most = omega arith; text = refl }
 
 -- items and their texts, one by one
 abbrev Texts : List Item → List (List ℕ) → Type 0
@@ -137,13 +138,6 @@ written-codes [] Absent = refl
 written-codes (did ∷ []) (Code code) = refl
 written-codes (did ∷ []) Absent = refl
 written-codes (did ∷ sdid ∷ l) v = written-codes l v
-
--- the parameters that can be written: octets, pairs whole, at most 64 of them
-pub record Writable (k : Content) : Type 0 where
-  pub octets : Below 256 (k .pairs)
-  pub code : Below 256 (codes (k .vpid))
-  pub whole : length (k .pairs) % 2 ≡ 0
-  pub few : length (k .pairs) ≤ 2 * maxPairs
 
 pub text-says : (k : Content) → Writable k → Says (textOf k) k
 text-says k w =

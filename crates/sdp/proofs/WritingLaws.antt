@@ -1,36 +1,25 @@
 -- The size of a written text: 21 octets for each pair with its `;`, and a `;` less than there are items.
 -- By the items from left to right.
 use mathlib.Core.Path.{_≡_, refl, ap, sym, _∙_}
-use mathlib.Core.Bool.{Bool, true, false, cond}
 use mathlib.Core.List.{List, [], _∷_, _++_, append-assoc}
 use Prim.Native.Nat.{ℕ, _+_, _-_, _*_, _/_, _%_, _<_, _≤_}
 use native.Mathlib.Omega.{arith}
-use lib.Dec.{ltb}
 use lib.ListN.{length, length-append}
 use borrow.Author.Tests.{lt-ltb, le-ltb}
+use Rattle.text.specs.Text.{digit, digits, decimalMost, decimalIn, decimal, hex}
+use Rattle.text.proofs.TextLaws.{length-decimal}
 use Rattle.sdp.specs.declared.parameters.Vpid.{Vpid}
 use Rattle.sdp.specs.declared.parameters.Vpid.the-variants.{Code, Absent}
 use Rattle.sdp.specs.Text.{semicolon, vpidCodeWord}
-use Rattle.sdp.specs.Writing.{digitText, decimalText, pairText, codeText, pairTexts, codeTexts, separated, joined}
+use Rattle.sdp.specs.Writing.{pairText, codeText, pairTexts, codeTexts, separated, joined}
 
 pub pair-size : (did sdid : ℕ) → length (pairText did sdid) ≡ 20
-unfolding pairText
+unfolding pairText hex digits
 pair-size did sdid = refl
 
-pub decimal-few : (n : ℕ) → (0 < length (decimalText n)) × (length (decimalText n) ≤ 3)
-unfolding decimalText
-decimal-few n = go (ltb n 10) (ltb n 100)
-  where
-    go : (s t : Bool)
-        → (0 < length (cond s (digitText n ∷ []) (cond t (digitText (n / 10) ∷ digitText (n % 10) ∷ []) (digitText (n / 100) ∷ digitText (n / 10 % 10) ∷ digitText (n % 10) ∷ []))))
-        × (length (cond s (digitText n ∷ []) (cond t (digitText (n / 10) ∷ digitText (n % 10) ∷ []) (digitText (n / 100) ∷ digitText (n / 10 % 10) ∷ digitText (n % 10) ∷ []))) ≤ 3)
-    go true t = omega arith
-    go false true = omega arith
-    go false false = omega arith
-
-pub code-size : (code : ℕ) → length (codeText code) ≡ 10 + length (decimalText code)
+pub code-size : (code : ℕ) → length (codeText code) ≡ 10 + length (decimal code)
 unfolding codeText
-code-size code = length-append vpidCodeWord (decimalText code)
+code-size code = length-append vpidCodeWord (decimal code)
 
 pub separated-append : (xs ys : List (List ℕ)) → separated (xs ++ ys) ≡ separated xs ++ separated ys
 unfolding separated
@@ -54,26 +43,26 @@ pairs-size (did ∷ sdid ∷ l) h =
     omega arith
 
 -- the digits of a number
-pub decimal-one : (n : ℕ) → n < 10 → decimalText n ≡ digitText n ∷ []
-unfolding decimalText
+pub decimal-one : (n : ℕ) → n < 10 → decimal n ≡ digit n ∷ []
+unfolding decimal decimalIn
 decimal-one n h = rw (lt-ltb n 10 h)
 
-pub decimal-two : (n : ℕ) → 10 ≤ n → n < 100 → decimalText n ≡ digitText (n / 10) ∷ digitText (n % 10) ∷ []
-unfolding decimalText
-decimal-two n h k = rw (le-ltb n 10 h, lt-ltb n 100 k)
+pub decimal-two : (n : ℕ) → 10 ≤ n → n < 100 → decimal n ≡ digit (n / 10) ∷ digit (n % 10) ∷ []
+unfolding decimal decimalIn
+decimal-two n h k = rw (le-ltb n 10 h, lt-ltb (n / 10) 10 (omega arith))
 
-pub decimal-three : (n : ℕ) → 100 ≤ n → decimalText n ≡ digitText (n / 100) ∷ digitText (n / 10 % 10) ∷ digitText (n % 10) ∷ []
-unfolding decimalText
-decimal-three n h = rw (le-ltb n 10 (omega arith), le-ltb n 100 h)
+pub decimal-three : (n : ℕ) → 100 ≤ n → n < 1000 → decimal n ≡ digit (n / 10 / 10) ∷ digit (n / 10 % 10) ∷ digit (n % 10) ∷ []
+unfolding decimal decimalIn
+decimal-three n h k = rw (le-ltb n 10 (omega arith), le-ltb (n / 10) 10 (omega arith), lt-ltb (n / 10 / 10) 10 (omega arith))
 
 -- the item of a VPID code with its `;`
-pub codes-size : (code : ℕ) → length (separated (codeTexts (Code code))) ≡ 11 + length (decimalText code)
+pub codes-size : (code : ℕ) → length (separated (codeTexts (Code code))) ≡ 11 + length (decimal code)
 unfolding separated
 codes-size code = omega (arith, code-size code, length-append (codeText code) [])
 
-pub codes-few : (v : Vpid) → length (separated (codeTexts v)) ≤ 14
+pub codes-few : (v : Vpid) → length (separated (codeTexts v)) ≤ 11 + decimalMost
 unfolding separated
-codes-few (Code code) = omega (arith, codes-size code, decimal-few code)
+codes-few (Code code) = omega (arith, codes-size code, length-decimal code)
 codes-few Absent = omega arith
 
 -- a whole text

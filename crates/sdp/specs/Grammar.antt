@@ -11,7 +11,7 @@ use Rattle.sdp.specs.declared.parameters.Vpid.{Vpid}
 use Rattle.sdp.specs.declared.parameters.Vpid.the-variants.{Code, Absent}
 use Rattle.sdp.specs.Text.{semicolon, space, equalsSign, didSdidName, vpidCodeName, didSdidWord, vpidCodeWord, openWord, commaWord, closeWord, isName, isValue, digitValue, number, hexBase, hexMost, decimalBase, decimalMost, maxCode, maxText, maxPairs}
 
--- one to `most` digits of a base, that write the number `n`
+-- "one or two hex digits", "one to three digits": one to `most` digits of a base, that write the number `n`
 pub record Numeral (base most n : ℕ) (ds : List ℕ) : Type 0 where
   pub digits : Each (λ (d : ℕ). digitValue d < base) ds
   pub some : 0 < length ds
@@ -88,6 +88,7 @@ pub record Content : Type 0 where
   pub pairs : List ℕ
   pub vpid : Vpid
 
+-- "the VPID_Code or none", as a list
 abbrev pub codes : Vpid → List ℕ
 codes (Code code) = code ∷ []
 codes Absent = []

@@ -124,6 +124,7 @@ unfoldable pub gather : ℕ → Parameters → List Item → Result Parameters
 gather i p [] = accepted p
 gather i p (x ∷ xs) = add i p x then λ q. gather (i + 1) q xs
 
+-- before the first item
 abbrev pub none : Parameters
 none = record { pairs = 0; vpid = Absent }
 

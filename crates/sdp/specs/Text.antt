@@ -39,6 +39,7 @@ commaWord = 0x2C ∷ 0x30 ∷ 0x78 ∷ []
 abbrev pub closeWord : List ℕ
 closeWord = 0x7D ∷ []
 
+-- the octets from `a` to `b`
 abbrev pub within : ℕ → ℕ → ℕ → Bool
 within a b o = leb a o && leb o b
 

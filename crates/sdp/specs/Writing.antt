@@ -1,56 +1,47 @@
 -- Writing parameters: "pairs in order, two lower-case digits, then VPID_Code if present, without leading zeros or spaces".
-use mathlib.Core.Bool.{cond}
+use mathlib.Core.Path.{_≡_}
 use mathlib.Core.List.{List, [], _∷_, _++_}
-use Prim.Native.Nat.{ℕ, _+_, _*_, _/_, _%_}
-use lib.Dec.{eqb, leb, ltb}
+use Prim.Native.Nat.{ℕ, _*_, _%_, _≤_}
+use lib.Dec.{eqb, leb}
 use lib.ListN.{length}
+use Rattle.wire.specs.Bits.{Below}
 use Rattle.wire.specs.Result.{Result, accepted, judge}
+use Rattle.text.specs.Text.{hex, decimal}
 use Rattle.sdp.specs.declared.parameters.Vpid.{Vpid}
 use Rattle.sdp.specs.declared.parameters.Vpid.the-variants.{Code, Absent}
 use Rattle.sdp.specs.Text.{semicolon, didSdidWord, vpidCodeWord, openWord, commaWord, closeWord, maxPairs}
-use Rattle.sdp.specs.Grammar.{Content}
+use Rattle.sdp.specs.Grammar.{codes, Content}
 
--- a lower-case digit
-unfoldable pub digitText : ℕ → ℕ
-digitText v = cond (ltb v 10) (0x30 + v) (0x57 + v)
-
--- "two lower-case digits"
-abbrev pub hexText : ℕ → List ℕ
-hexText n = digitText (n / 16) ∷ digitText (n % 16) ∷ []
-
--- "without leading zeros"
-unfoldable pub decimalText : ℕ → List ℕ
-decimalText n =
-    cond (ltb n 10) (digitText n ∷ [])
-    (cond (ltb n 100) (digitText (n / 10) ∷ digitText (n % 10) ∷ [])
-    (digitText (n / 100) ∷ digitText (n / 10 % 10) ∷ digitText (n % 10) ∷ []))
-
+-- "`DID_SDID={0xH,0xH}`", "two lower-case digits"
 unfoldable pub pairText : ℕ → ℕ → List ℕ
-pairText did sdid = didSdidWord ++ (openWord ++ (hexText did ++ (commaWord ++ (hexText sdid ++ closeWord))))
+pairText did sdid = didSdidWord ++ (openWord ++ (hex 2 did ++ (commaWord ++ (hex 2 sdid ++ closeWord))))
 
+-- "`VPID_Code=` and one to three digits", "without leading zeros"
 unfoldable pub codeText : ℕ → List ℕ
-codeText code = vpidCodeWord ++ decimalText code
+codeText code = vpidCodeWord ++ decimal code
 
--- the items: the pairs in order, then the VPID code
+-- the items: "pairs in order", ..
 unfoldable pub pairTexts : List ℕ → List (List ℕ)
 pairTexts [] = []
 pairTexts (did ∷ []) = []
 pairTexts (did ∷ sdid ∷ pairs) = pairText did sdid ∷ pairTexts pairs
 
+-- .. "then VPID_Code if present"
 abbrev pub codeTexts : Vpid → List (List ℕ)
 codeTexts (Code code) = codeText code ∷ []
 codeTexts Absent = []
 
--- each item behind a `;`
+-- "Items are separated by `;`": each item behind a `;`
 unfoldable pub separated : List (List ℕ) → List ℕ
 separated [] = []
 separated (t ∷ ts) = semicolon ∷ (t ++ separated ts)
 
--- items with a `;` between them
+-- items with a `;` between them, without spaces
 unfoldable pub joined : List (List ℕ) → List ℕ
 joined [] = []
 joined (t ∷ ts) = t ++ separated ts
 
+-- the text that is written
 abbrev pub textOf : Content → List ℕ
 textOf k = joined (pairTexts (k .pairs) ++ codeTexts (k .vpid))
 
@@ -63,3 +54,10 @@ writeText k room =
     ∷ (leb (length (textOf k)) room, 44)
     ∷ [])
     (accepted (textOf k))
+
+-- the parameters that are written and read back: octets, "DID then SDID", none odd (41), at most 64 pairs (43)
+pub record Writable (k : Content) : Type 0 where
+  pub octets : Below 256 (k .pairs)
+  pub code : Below 256 (codes (k .vpid))
+  pub whole : length (k .pairs) % 2 ≡ 0
+  pub few : length (k .pairs) ≤ 2 * maxPairs

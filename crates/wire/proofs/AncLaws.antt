@@ -1,7 +1,7 @@
 -- An ANC data packet is accepted exactly where the octets of a well-formed record stand, and so is a run of them.
 -- Octets that pass the checks read as the fields of their record, and back; `packed` takes fields read to octets.
 use mathlib.Core.Path.{_≡_, refl, ap, ap₂, sym, _∙_, subst}
-use mathlib.Core.Bool.{true}
+use mathlib.Core.Bool.{Bool, true}
 use mathlib.Core.Logic.{_↔_}
 use mathlib.Core.List.{List, [], _∷_, _++_, nil≢cons, append-assoc, cons-eq-cons}
 use Prim.Native.Nat.{ℕ, zero, suc, _+_, _*_, _%_, _^_, _<_, _≤_}
@@ -20,7 +20,7 @@ use Rattle.wire.specs.Anc.{Each, Record, WellFormed, checksum, headerFie
 use Rattle.wire.proofs.BitLaws.{Reads, packed, unpacked, reads-append, width-row, length-rowAt, reads-rowAt, rowAt-reads, below-drop, below-octets, below-append, fit-append}
 use Rattle.wire.proofs.SizeLaws.{width-body, width-anc, length-anc, least-size}
 use Rattle.wire.proofs.WordLaws.{header-mod, header-lt, header-passes, checksum-lt}
-use Rattle.wire.proofs.ResultLaws.{Passed, accepted-inj, judge-accepts, judge-passes, then-accepts, and-true, and-both}
+use Rattle.wire.proofs.ResultLaws.{Numbered, numbers, judge-numbered, then-numbered, Passed, accepted-inj, judge-accepts, judge-passes, then-accepts, and-true, and-both}
 
 -- numbers fit a row exactly where each is below its bound
 fit-row : (w : ℕ) (vs : List ℕ) → Fit (row w vs) ↔ Below (2 ^ w) vs
@@ -226,3 +226,11 @@ length-run L (r ∷ rs) = length-append (ancOctets L r) (runOctets L rs) ∙ ap�
 pub below-run : (L : Layout) (rs : List Record) → Below 256 (runOctets L rs)
 below-run L [] = tt
 below-run L (r ∷ rs) = below-append 256 (ancOctets L r) (runOctets L rs) (below-octets _ _) (below-run L rs)
+
+-- a run is refused by a number of its packets' checks
+pub run-numbered : (P : ℕ → Bool) (L : Layout) → ((s : List ℕ) → numbers P (ancChecks L s) ≡ true) → (i n : ℕ) (s : List ℕ) → Numbered P (readRun L i n s)
+unfolding readRun readAnc
+run-numbered P L h i zero s = tt
+run-numbered P L h i (suc n) s =
+    then-numbered P (readAnc L i s) _ (judge-numbered P i (ancChecks L s) _ (h s) tt)
+    (λ r. then-numbered P (readRun L (i + 1) n (behind L s)) _ (run-numbered P L h (i + 1) n (behind L s)) (λ q. tt))

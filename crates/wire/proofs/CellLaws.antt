@@ -4,11 +4,11 @@ use mathlib.Core.Path.{_≡_, refl, ap, ap₂, sym, _∙_, subst}
 use mathlib.Core.Bool.{true}
 use mathlib.Core.Logic.{_↔_}
 use mathlib.Core.List.{List, [], _∷_, _++_, nil≢cons, cons-eq-cons}
-use Prim.Native.Nat.{ℕ, zero, suc, _+_, _^_, _<_, _≤_}
+use Prim.Native.Nat.{ℕ, zero, suc, _+_, _^_, _≤_}
 use native.Mathlib.Nat.{le-refl}
 use native.Mathlib.Omega.{arith}
 use lib.ListN.{length, take, drop, getD, length-append, length-drop, take-append-drop}
-use lib.Seq.{drop-cons, take-append-seam, drop-append-seam, length-take-le, drop-drop}
+use lib.Seq.{take-append-seam, drop-append-seam, length-take-le, drop-drop}
 use lib.Dec.{ltb}
 use borrow.Author.Tests.{leb-true, le-leb, ltb-true, lt-ltb}
 use Rattle.wire.specs.Bits.{Below}
@@ -17,6 +17,7 @@ use Rattle.wire.specs.Layout.{rfc8331, sBits, streamBits}
 use Rattle.wire.specs.Result.{accepted}
 use Rattle.wire.specs.Anc.{Record, WellFormed, Each}
 use Rattle.wire.specs.Cells.{headCells, cellsOf, listOf, cellCount, cellRecord, allBelow, headInRange, cellChecks, rest, recordsFrom, readList}
+use Rattle.wire.proofs.ListLaws.{drop-run}
 use Rattle.wire.proofs.ResultLaws.{Passed, accepted-inj, judge-accepts, judge-passes, then-accepts, and-true, and-both}
 
 -- the test of a bound is the bound
@@ -28,18 +29,7 @@ below-iff b (x ∷ xs) =
 
 eight-cells : (l : List ℕ) → headCells ≤ length l
     → l ≡ getD l 0 0 ∷ getD l 1 0 ∷ getD l 2 0 ∷ getD l 3 0 ∷ getD l 4 0 ∷ getD l 5 0 ∷ getD l 6 0 ∷ cellCount l ∷ drop headCells l
-eight-cells l h =
-    let at : (k : ℕ) → k < length l → getD l k 0 ∷ drop (suc k) l ≡ drop k l = λ k lt. sym (drop-cons l k 0 lt) in
-    rw (
-      at 7 (omega arith),
-      at 6 (omega arith),
-      at 5 (omega arith),
-      at 4 (omega arith),
-      at 3 (omega arith),
-      at 2 (omega arith),
-      at 1 (omega arith),
-      at 0 (omega arith),
-    )
+eight-cells l h = drop-run 7 0 0 l h
 
 -- cells that pass start with the cells of their record, which is well-formed
 pub front-passed : (l : List ℕ) → Passed (cellChecks l) → WellFormed rfc8331 (cellRecord l) × (l ≡ cellsOf (cellRecord l) ++ rest l)

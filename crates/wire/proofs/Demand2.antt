@@ -11,19 +11,20 @@ use lib.Dec.{eqb, leb}
 use lib.ListN.{length, length-append}
 use lib.Pow.{pow-pos}
 use borrow.Author.Tests.{ne-eqb, leb-true, le-leb}
-use Rattle.wire.specs.Bits.{bitsAt, pack, Fit, Below, row}
+use Rattle.wire.specs.Bits.{pack, Fit, Below, row}
 use Rattle.wire.specs.Layout.{Layout, rfc8331, fBits, reservedBits, payloadHeaderSize}
 use Rattle.wire.specs.Result.{accepted, judge, _then_}
 use Rattle.wire.specs.Anc.{Record, WellFormed, Each, ancOctets, runOctets}
 use Rattle.wire.specs.Cells.{listOf, readList}
-use Rattle.wire.specs.Packet.{maxPacket, Packet, rtpFields, extensionFields, payloadFields, packetFields, packetOctets, lastOctet, WellFormedPacket, sourceCount, hasExtension, payloadAt, packetRead, readPacket, Content, content, readContent}
-use Rattle.wire.specs.Writing.{maxRecords, maxCells, maxType, plain, contentOctets, withRecords, headChecks, limitChecks, writeContent}
+use Rattle.wire.specs.Packet.{maxPacket, Packet, rtpFields, extensionFields, payloadFields, packetFields, packetOctets, lastOctet, WellFormedPacket, sourceCount, packetRead, readPacket, BareOctets, Content, content, readContent}
+use Rattle.wire.specs.Writing.{maxRecords, maxCells, maxType, plain, contentOctets, HeadFits, withRecords, headChecks, limitChecks, writeContent}
 use Rattle.wire.proofs.BitLaws.{length-rowAt, below-octets, below-append, fit-append}
 use Rattle.wire.proofs.ResultLaws.{accepted-inj, judge-accepts, judge-passes, then-accepts, and-true, and-both}
 use Rattle.wire.proofs.SizeLaws.{length-anc, size-cells}
 use Rattle.wire.proofs.AncLaws.{below-run}
 use Rattle.wire.proofs.CellLaws.{list-iff}
-use Rattle.wire.proofs.PacketLaws.{no-length, not-eqb, length-packet, packet-iff, read-is}
+use Rattle.wire.proofs.PacketLaws.{no-length, not-eqb, length-packet}
+use Rattle.wire.proofs.PacketIff.{packet-iff, read-is}
 
 -- "A packet is accepted exactly when the rules of RFC 8331 and ST 291-1, as document 01 fixes them, hold, and the
 -- records are the ones they define."
@@ -55,13 +56,6 @@ content-plain k =
 pub plain-read : (L : Layout) (k : Content) → WellFormedPacket L (plain k) → readContent L (contentOctets L k) ≡ accepted k
 plain-read L k h = acceptance L (contentOctets L k) (below-packet L (plain k) tt) k .1 (plain k, h, refl, content-plain k)
 
--- the numbers that the writer is given fit their types
-pub record Head (k : Content) : Type 0 where
-  pub marker : k .marker < 2
-  pub number : k .number < 2 ^ 32
-  pub timestamp : k .timestamp < 2 ^ 32
-  pub source : k .source < 2 ^ 32
-
 -- the records of a list, and F up to 3, are what each layout writes
 layout-each : (L : Layout) (rs : List Record) → Each (WellFormed rfc8331) rs ↔ Each (WellFormed L) rs
 layout-each rfc8331 rs = (λ h. h, λ h. h)
@@ -70,7 +64,7 @@ layout-f : (L : Layout) (f : ℕ) → (f ≤ 3) ↔ (f < 2 ^ fBits L)
 layout-f rfc8331 f = (λ h. omega arith, λ h. omega arith)
 
 -- what passes the writer's checks is a well-formed packet
-plain-formed : (L : Layout) (k : Content) → Head k → k .type ≤ maxType → k .f ≤ 3 → (k .f ≡ 1 → ⊥) → Each (WellFormed rfc8331) (k .records)
+plain-formed : (L : Layout) (k : Content) → HeadFits k → k .type ≤ maxType → k .f ≤ 3 → (k .f ≡ 1 → ⊥) → Each (WellFormed rfc8331) (k .records)
     → length (k .records) ≤ maxRecords → length (contentOctets L k) ≤ maxPacket → WellFormedPacket L (plain k)
 plain-formed L k h t f nf r n l =
     let z = pow-pos (reservedBits L) in
@@ -86,7 +80,7 @@ plain-formed L k h t f nf r n l =
     }
 
 -- "Writing records and reading them gives the same records."
-pub written-read : (L : Layout) (k : Content) (cells : List ℕ) (room : ℕ) (o : List ℕ) → Head k → writeContent L k cells room ≡ accepted o
+pub written-read : (L : Layout) (k : Content) (cells : List ℕ) (room : ℕ) (o : List ℕ) → HeadFits k → writeContent L k cells room ≡ accepted o
     → (rs : List Record) × (cells ≡ listOf rs) × Each (WellFormed rfc8331) rs × (o ≡ contentOctets L (withRecords k rs)) × (length o ≤ room)
     × (readContent L o ≡ accepted (withRecords k rs))
 unfolding writeContent
@@ -102,7 +96,7 @@ written-read L k cells room o h e =
     let l = leb-true (length (contentOctets L q)) maxPacket search in
     let m = leb-true (length (contentOctets L q)) room search in
     let r = list-iff cells rs .0 (b .1) in
-    let hq : Head q = record { marker = h .marker; number = h .number; timestamp = h .timestamp; source = h .source } in
+    let hq : HeadFits q = record { marker = h .marker; number = h .number; timestamp = h .timestamp; source = h .source } in
     let g = plain-formed L q hq (leb-true (k .type) maxType (a1 .0)) (leb-true (k .f) 3 (a2 .0)) (not-eqb (k .f) 1 (a2 .1)) (r .0) n l in
     let same : contentOctets L q ≡ o = accepted-inj (c .1) in
     (rs, r .1, r .0, sym same, subst (λ (x : List ℕ). length x ≤ room) same m, ap (readContent L) (sym same) ∙ plain-read L q g)
@@ -183,13 +177,6 @@ module _ (L : Layout) (k : Packet) (h : WellFormedPacket L k) where
         padding = sym padding i;
       }
 
--- no padding, extension or contributing sources, and zero reserved bits
-pub record BareOctets (L : Layout) (s : List ℕ) : Type 0 where
-  pub padding : bitsAt s 2 1 ≡ 0
-  pub extension : hasExtension s ≡ 0
-  pub sources : sourceCount s ≡ 0
-  pub reserved : bitsAt s (payloadAt s + 16 + 16 + 8 + fBits L) (reservedBits L) ≡ 0
-
 -- an accepted packet is bare exactly where its octets are
 pub bare-iff : (L : Layout) (s : List ℕ) (k : Packet) → readPacket L s ≡ accepted k → Bare k ↔ BareOctets L s
 unfolding packetRead
@@ -220,17 +207,11 @@ module _ (L : Layout) (s : List ℕ) (below : Below 256 s) (k : Content) (e : re
         λ o. ap (contentOctets L) (sym says) ∙ ap (packetOctets L) (bare-plain L p (f .0) (bare .1 o)) ∙ sym (f .1),
       )
 
-  -- what an accepted packet says has a well-formed plain packet ..
+  -- what an accepted packet says has a well-formed plain packet
   pub rewritten-formed : WellFormedPacket L (plain k)
   rewritten-formed =
       let a = acceptance L s below k .0 e in
       subst (λ (y : Content). WellFormedPacket L (plain y)) (a .3) (plain-again L (a .0) (a .1))
-
-  -- .. that is no longer than the packet
-  pub rewritten-length : length (contentOctets L k) ≤ length s
-  rewritten-length =
-      let a = acceptance L s below k .0 e in
-      rw (a .2) (subst (λ (y : Content). length (contentOctets L y) ≤ length (packetOctets L (a .0))) (a .3) (plain-shorter L (a .0) (a .1)))
 
   -- "Rewriting an accepted packet whose list fits the writer gives the same octets exactly when it had no padding,
   -- extension or contributing sources, and zero reserved bits." The list has at most 255 records, for ANC_Count has

@@ -15,5 +15,6 @@ pub mod LocationLaws
 pub mod HeaderLaws
 pub mod Examples
 pub mod PacketLaws
+pub mod PacketIff
 pub mod Demand2
 pub mod PacketExamples

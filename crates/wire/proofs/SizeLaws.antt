@@ -1,16 +1,16 @@
 -- The size of an ANC data packet: whole octets, a multiple of the alignment, never under the least size.
 -- By cases on the layout, where its numbers are numerals; the rest is linear.
-use mathlib.Core.Path.{_≡_, ap, ap₂, _∙_}
+use mathlib.Core.Path.{_≡_, _∙_}
 use mathlib.Core.Logic.{⊎-elim}
-use mathlib.Core.List.{List, [], _∷_, _++_}
-use Prim.Native.Nat.{ℕ, zero, suc, _+_, _-_, _*_, _/_, _%_, _<_, _≤_}
+use mathlib.Core.List.{[], _∷_}
+use Prim.Native.Nat.{ℕ, zero, suc, _+_, _*_, _/_, _%_, _<_, _≤_}
 use native.Mathlib.Nat.{eq-zero-or-pos, add-zero}
 use native.Mathlib.Omega.{arith}
-use lib.ListN.{length, length-append}
-use Rattle.wire.specs.Bits.{Fields, width, row}
+use lib.ListN.{length}
+use Rattle.wire.specs.Bits.{width, row}
 use Rattle.wire.specs.Words.{wordBits}
 use Rattle.wire.specs.Layout.{Layout, rfc8331, alignment, leastSize}
-use Rattle.wire.specs.Anc.{Record, checksum, headerFields, bodyFields, padding, ancFields, ancOctets, runOctets, bodyBits, ancSize}
+use Rattle.wire.specs.Anc.{Record, checksum, bodyFields, padding, ancFields, ancOctets, bodyBits, ancSize}
 use Rattle.wire.specs.Cells.{headCells}
 use Rattle.wire.proofs.BitLaws.{width-append, width-row, length-pack}
 

@@ -1,12 +1,11 @@
 -- An ANC data packet (RFC 8331, section 2.1; 01, "The packet"): its record, its octets, and how it is read.
-use mathlib.Core.Path.{_≡_}
-use mathlib.Core.Bool.{Bool, true, false, _&&_}
+use mathlib.Core.Bool.{Bool, true, _&&_}
 use mathlib.Core.List.{List, [], _∷_, _++_}
 use Prim.Native.Nat.{ℕ, zero, suc, _+_, _-_, _*_, _/_, _%_, _^_, _<_}
 use lib.Dec.{eqb, leb}
 use lib.ListN.{length, drop}
 use Rattle.wire.specs.Bits.{Fields, width, pack, bitsAt, row, rowAt, Below}
-use Rattle.wire.specs.Layout.{Layout, sBits, streamBits, rBits, alignment, leastSize}
+use Rattle.wire.specs.Layout.{Layout, sAt, sBits, streamBits, rBits, alignment, leastSize}
 use Rattle.wire.specs.Words.{wordBits, headerNumbers, headerWord, isHeaderWord, sumLow, checksumWord}
 use Rattle.wire.specs.Result.{Result, accepted, Checks, judge, _then_}
 
@@ -22,7 +21,7 @@ pub record Record : Type 0 where
   pub sdid : ℕ
   pub words : List ℕ
 
--- each number of the record is one that its field can hold
+-- each number fits its field (01, "The packet"; 20: "a cell too large for its field"); "User data words may be any ten-bit number"
 pub record WellFormed (L : Layout) (r : Record) : Type 0 where
   pub c : r .c < 2 ^ 1
   pub line : r .line < 2 ^ 11
@@ -44,16 +43,18 @@ abbrev pub checksum : Record → ℕ
 checksum r =
     checksumWord (sumLow (headerWord (r .did) ∷ headerWord (r .sdid) ∷ headerWord (length (r .words)) ∷ r .words))
 
--- RFC 8331, figure 1, with n = 4 user data words:
+-- RFC 8331, figure 1, its first packet, with n = 4 user data words:
 --
 --      0                   1                   2                   3
 --      0 1 2 3 4 5 6 7 8 9 0 1 2 3 4 5 6 7 8 9 0 1 2 3 4 5 6 7 8 9 0 1
 --     +-+-+-+-+-+-+-+-+-+-+-+-+-+-+-+-+-+-+-+-+-+-+-+-+-+-+-+-+-+-+-+-+
 --     |C|     Line_Number     |   Horizontal_Offset   |S|  StreamNum  |
 --     +-+-+-+-+-+-+-+-+-+-+-+-+-+-+-+-+-+-+-+-+-+-+-+-+-+-+-+-+-+-+-+-+
---     |        DID        |       SDID        |    Data_Count     | User
---     +-+-+-+-+-+-+-+-+-+-+-+-+-+-+-+-+-+-+-+-+-+-+-+-+-+-+-+-+-+-+-+-+
---      _Data_Words                            |    Checksum   |word_align
+--     |        DID        |        SDID       |     Data_Count    |   |
+--     +-+-+-+-+-+-+-+-+-+-+-+-+-+-+-+-+-+-+-+-+-+-+-+-+-+-+-+-+-+-+   +
+--     |                        User_Data_Words                        |
+--     +           +-+-+-+-+-+-+-+-+-+-+-+-+-+-+-+-+-+-+-+-+-+-+-+-+-+-+
+--     |           |   Checksum_Word   |           word_align          |
 --     +-+-+-+-+-+-+-+-+-+-+-+-+-+-+-+-+-+-+-+-+-+-+-+-+-+-+-+-+-+-+-+-+
 abbrev pub headerFields : Layout → Record → Fields
 headerFields L r =
@@ -61,16 +62,19 @@ headerFields L r =
     ∷ (wordBits, headerWord (r .did)) ∷ (wordBits, headerWord (r .sdid)) ∷ (wordBits, headerWord (length (r .words)))
     ∷ (rBits L, 0) ∷ []
 
+-- ".. DID, SDID, Data_Count, n user data words, checksum, .."
 abbrev pub bodyFields : Layout → Record → Fields
 bodyFields L r = headerFields L r ++ (row wordBits (r .words) ++ (wordBits, checksum r) ∷ [])
 
--- zero bits that take `n` bits up to a multiple of `a`
+-- word_align (RFC 8331, section 2.1): the bits that take `n` bits up to a multiple of `a`
 abbrev pub padding : ℕ → ℕ → ℕ
 padding a n = (a - n % a) % a
 
+-- ".. then zero bits up to a multiple of 32"
 abbrev pub ancFields : Layout → Record → Fields
 ancFields L r = bodyFields L r ++ (padding (alignment L) (width (bodyFields L r)), 0) ∷ []
 
+-- "All fields run most significant bit first."
 abbrev pub ancOctets : Layout → Record → List ℕ
 ancOctets L r = pack (ancFields L r)
 
@@ -79,31 +83,34 @@ abbrev pub runOctets : Layout → List Record → List ℕ
 runOctets L [] = []
 runOctets L (r ∷ rs) = ancOctets L r ++ runOctets L rs
 
--- bits of a packet with `n` user data words before its alignment, and its size in octets
+-- bits before the alignment of a packet with `n` user data words: 72 + 10n in RFC 8331's layout
 abbrev pub bodyBits : Layout → ℕ → ℕ
-bodyBits L n = 24 + sBits L + streamBits L + 4 * wordBits + rBits L + wordBits * n
+bodyBits L n = sAt + sBits L + streamBits L + 4 * wordBits + rBits L + wordBits * n
 
+-- "Size in octets: 4 x ceiling((72 + 10n) / 32)"
 unfoldable pub ancSize : Layout → ℕ → ℕ
 ancSize L n = (bodyBits L n + padding (alignment L) (bodyBits L n)) / 8
 
--- Reading the packet at the front of the octets `s`: where DID and the user data words stand, and Data_Count.
+-- Reading the packet at the front of the octets `s`: the bits at which DID and the user data words start.
 abbrev pub didAt : Layout → ℕ
-didAt L = 24 + sBits L + streamBits L
+didAt L = sAt + sBits L + streamBits L
 
 abbrev pub wordsAt : Layout → ℕ
 wordsAt L = didAt L + wordBits + wordBits + wordBits + rBits L
 
+-- RFC 8331, section 2.1: "The lower 8 bits of Data_Count .. contain the actual count"
 abbrev pub dataCount : Layout → List ℕ → ℕ
 dataCount L s = bitsAt s (didAt L + wordBits + wordBits) wordBits % headerNumbers
 
+-- the record that stands there; "StreamNum is kept even if S is 0"
 unfoldable pub ancRecord : Layout → List ℕ → Record
 ancRecord L s =
     record {
       c = bitsAt s 0 1;
       line = bitsAt s 1 11;
       offset = bitsAt s 12 12;
-      s = bitsAt s 24 (sBits L);
-      stream = bitsAt s (24 + sBits L) (streamBits L);
+      s = bitsAt s sAt (sBits L);
+      stream = bitsAt s (sAt + sBits L) (streamBits L);
       did = bitsAt s (didAt L) wordBits % headerNumbers;
       sdid = bitsAt s (didAt L + wordBits) wordBits % headerNumbers;
       words = rowAt wordBits s (wordsAt L) (dataCount L s);
@@ -113,6 +120,7 @@ ancRecord L s =
 abbrev pub headerWords : Layout → List ℕ → List ℕ
 headerWords L s = rowAt wordBits s (didAt L) 3
 
+-- 10: "DID, SDID or Data_Count word malformed"
 abbrev pub areHeaderWords : List ℕ → Bool
 areHeaderWords [] = true
 areHeaderWords (w ∷ ws) = isHeaderWord w && areHeaderWords ws
@@ -120,11 +128,13 @@ areHeaderWords (w ∷ ws) = isHeaderWord w && areHeaderWords ws
 unfoldable pub headersOk : Layout → List ℕ → Bool
 headersOk L s = areHeaderWords (headerWords L s)
 
+-- 11: "checksum word wrong"
 unfoldable pub checksumOk : Layout → List ℕ → Bool
 checksumOk L s =
     eqb (bitsAt s (wordsAt L + wordBits * dataCount L s) wordBits)
     (checksumWord (sumLow (headerWords L s ++ rowAt wordBits s (wordsAt L) (dataCount L s))))
 
+-- 12: "alignment bit set"
 unfoldable pub alignmentOk : Layout → List ℕ → Bool
 alignmentOk L s = eqb (bitsAt s (bodyBits L (dataCount L s)) (padding (alignment L) (bodyBits L (dataCount L s)))) 0
 

@@ -9,7 +9,7 @@ use Rattle.wire.specs.Layout.{rfc8331, sBits, streamBits}
 use Rattle.wire.specs.Anc.{Record}
 use Rattle.wire.specs.Result.{Result, accepted, refuse, Checks, judge, _then_}
 
--- cells before a record's words
+-- "8 + n cells": those before a record's words
 abbrev pub headCells : ℕ
 headCells = 8
 
@@ -18,14 +18,16 @@ abbrev pub cellsOf : Record → List ℕ
 cellsOf r =
     r .c ∷ r .line ∷ r .offset ∷ r .s ∷ r .stream ∷ r .did ∷ r .sdid ∷ length (r .words) ∷ r .words
 
+-- records one behind the other
 abbrev pub listOf : List Record → List ℕ
 listOf [] = []
 listOf (r ∷ rs) = cellsOf r ++ listOf rs
 
--- Reading the record at the front of the cells `l`.
+-- Reading the record at the front of the cells `l`: n, the last cell before its words.
 abbrev pub cellCount : List ℕ → ℕ
 cellCount l = getD l 7 0
 
+-- the record that stands there
 unfoldable pub cellRecord : List ℕ → Record
 cellRecord l =
     record {
@@ -39,6 +41,7 @@ cellRecord l =
       words = take (cellCount l) (drop headCells l);
     }
 
+-- each number of a list is below a bound
 abbrev pub allBelow : ℕ → List ℕ → Bool
 allBelow b [] = true
 allBelow b (x ∷ xs) = ltb x b && allBelow b xs

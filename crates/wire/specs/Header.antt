@@ -9,6 +9,7 @@ use Rattle.wire.specs.Layout.{rfc8331, sBits, streamBits}
 use Rattle.wire.specs.Location.{lineOf, lineNumber, offsetOf, offsetNumber}
 use Rattle.wire.specs.Anc.{Record}
 
+-- what a record says before its words
 abbrev pub headerOf : Record → Header
 headerOf r =
     record {

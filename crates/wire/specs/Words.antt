@@ -22,6 +22,7 @@ ones (suc k) x = x % 2 + ones k (x / 2)
 unfoldable pub headerWord : ℕ → ℕ
 headerWord x = x + 256 * (ones 8 x % 2) + 512 * (1 - ones 8 x % 2)
 
+-- b8 and b9 are those of the number in b7..b0
 abbrev pub isHeaderWord : ℕ → Bool
 isHeaderWord w = eqb w (headerWord (w % headerNumbers))
 

@@ -1,7 +1,7 @@
 -- Writing an RTP packet (01, "Writing": 24, 20, 21, 22, 23; "Written packets have P, X and CC zero").
-use mathlib.Core.Bool.{not, _&&_}
+use mathlib.Core.Bool.{Bool, not, _&&_}
 use mathlib.Core.List.{List, [], _∷_}
-use Prim.Native.Nat.{ℕ, _/_, _%_}
+use Prim.Native.Nat.{ℕ, _/_, _%_, _^_, _<_}
 use lib.Dec.{eqb, leb}
 use lib.ListN.{length}
 use Rattle.wire.specs.Layout.{Layout}
@@ -10,17 +10,25 @@ use Rattle.wire.specs.Anc.{Record}
 use Rattle.wire.specs.Cells.{readList}
 use Rattle.wire.specs.Packet.{maxPacket, Packet, packetOctets, Content}
 
--- records and cells that a packet may have, and that a field may have (01, refusals 21 and 35)
+-- records and cells that a packet may have (01, refusal 21)
 abbrev pub maxRecords : ℕ
 maxRecords = 255
 
 abbrev pub maxCells : ℕ
 maxCells = 16384
 
+-- records and cells that a field may have (01, refusals 21 of a file and 35; "overfull")
+abbrev pub maxFieldRecords : ℕ
+maxFieldRecords = maxRecords
+
+abbrev pub maxFieldCells : ℕ
+maxFieldCells = maxCells
+
+-- 24: "payload type over 127"
 abbrev pub maxType : ℕ
 maxType = 127
 
--- the packet with nothing but what the content says
+-- the packet with nothing but what the content says: "P, X and CC zero"; the reserved bits are "written as zero (house rule)"
 abbrev pub plain : Content → Packet
 plain k =
     record {
@@ -41,10 +49,18 @@ plain k =
       padding = [];
     }
 
+-- its octets
 abbrev pub contentOctets : Layout → Content → List ℕ
 contentOctets L k = packetOctets L (plain k)
 
--- the six values of `k`, and the records `rs`
+-- the numbers that a writer is given fit their types
+pub record HeadFits (k : Content) : Type 0 where
+  pub marker : k .marker < 2
+  pub number : k .number < 2 ^ 32
+  pub timestamp : k .timestamp < 2 ^ 32
+  pub source : k .source < 2 ^ 32
+
+-- "the writer takes the first six and a list": the six values of `k`, and the records `rs`
 abbrev pub withRecords : Content → List Record → Content
 withRecords k rs =
     record {
@@ -58,8 +74,11 @@ withRecords k rs =
     }
 
 -- 24: "payload type over 127, or F is 1 or over 3"
+abbrev pub headOk : (type f : ℕ) → Bool
+headOk type f = leb type maxType && (leb f 3 && not (eqb f 1))
+
 abbrev pub headChecks : Content → Checks
-headChecks k = (leb (k .type) maxType && (leb (k .f) 3 && not (eqb (k .f) 1)), 24) ∷ []
+headChecks k = (headOk (k .type) (k .f), 24) ∷ []
 
 -- 21, 22, 23, for a list of so many cells and lent room for so many octets
 abbrev pub limitChecks : Layout → Content → (cells room : ℕ) → Checks
@@ -69,6 +88,7 @@ limitChecks L k cells room =
     ∷ (leb (length (contentOctets L k)) room, 23)
     ∷ []
 
+-- "Writing: 24, 20, 21, 22, 23."
 unfoldable pub writeContent : Layout → Content → List ℕ → ℕ → Result (List ℕ)
 writeContent L k cells room =
     judge 0 (headChecks k)

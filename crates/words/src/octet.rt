@@ -4,7 +4,7 @@ ghost use mathlib.Core.List.{[], _∷_};
 ghost use Prim.Native.Nat.{_+_, _*_, _/_, _%_, _^_, _<_, _≤_};
 ghost use lib.ListN.{length};
 ghost use Rattle.wire.specs.Bits.{bits, bitsAt, overwrite, splice, toBits};
-ghost use Rattle.words.specs.Row.{quadOf, turnedOf};
+ghost use Rattle.words.specs.Octet.{quadOf, reversedOf};
 
 pub fn wide(x: u8) -> usize
     ensures { λ r. ⌜ r ≡ x ⌝ }
@@ -35,24 +35,24 @@ fn quad(a: u8, b: u8, c: u8, d: u8) -> u32
 // The four octets at `at`, the last one most significant.
 fn back_at(octets: &[u8], at: usize) -> u32
     requires { ⌜ at + 4 ≤ length (now octets) ⌝ }
-    ensures { λ r. ⌜ turnedOf r ≡ bitsAt (now (octets .entry)) (8 * at) 32 ⌝ }
+    ensures { λ r. ⌜ reversedOf r ≡ bitsAt (now (octets .entry)) (8 * at) 32 ⌝ }
 {
     quad(octets[at + 3], octets[at + 2], octets[at + 1], octets[at])
 }
 
-// The four octets of a number, in the other order.
-fn turned(x: u32) -> u32
-    ensures { λ r. ⌜ r ≡ turnedOf x ⌝ }
+// The four octets of a number, in reverse order.
+fn reversed(x: u32) -> u32
+    ensures { λ r. ⌜ r ≡ reversedOf x ⌝ }
 {
     x % 256 * 16777216 + x / 256 % 256 * 65536 + x / 65536 % 256 * 256 + x / 16777216
 }
 
-// The four octets at `at`. Two steps, which the compiler makes one load and one turn of.
+// The four octets at `at`. Two steps, which the compiler makes one load and one swap of octets of.
 pub fn quad_at(octets: &[u8], at: usize) -> u32
     requires { ⌜ at + 4 ≤ length (now octets) ⌝ }
     ensures { λ r. ⌜ r ≡ bitsAt (now (octets .entry)) (8 * at) 32 ⌝ }
 {
-    turned(back_at(octets, at))
+    reversed(back_at(octets, at))
 }
 
 fn joined(q: u32, o: u8) -> u64
@@ -80,12 +80,12 @@ fn store_back(octets: &mut [u8], at: usize, x: u32)
     octets[at + 3] = (x / 16777216) as u8;
 }
 
-// Stores a number of five octets from `at` on. The compiler makes one turn and one store of the first four.
+// Stores a number of five octets from `at` on. The compiler makes one swap of octets and one store of the first four.
 pub fn store_five(octets: &mut [u8], at: usize, x: u64)
     requires { ⌜ (at + 5 ≤ length (now octets)) × (x < 2 ^ 40) ⌝ }
     ensures { λ r. ⌜ bits (now (octets .exit)) ≡ splice (bits (now (octets .entry))) (8 * at) (toBits 40 x) ⌝ }
 {
-    store_back(octets, at, turned((x / 256) as u32));
+    store_back(octets, at, reversed((x / 256) as u32));
     octets[at + 4] = (x % 256) as u8;
 }
 

@@ -1,10 +1,9 @@
 // One ten-bit word, fetched from or stored to the two neighbouring octets that hold it.
 ghost use mathlib.Core.Path.{_≡_};
 ghost use Prim.Native.Nat.{ℕ, _+_, _*_, _/_, _^_, _%_, _<_, _≤_};
-ghost use lib.ListN.{length};
 ghost use Rattle.wire.specs.Bits.{bits, bitsAt, toBits, splice};
 ghost use Rattle.wire.specs.Words.{wordBits};
-ghost use Rattle.words.specs.Row.{WordsFit, replaced};
+ghost use Rattle.words.specs.Word.{WordsFit, replaced};
 
 // Two octets as one number.
 fn pair(a: u8, b: u8) -> u16
@@ -51,12 +50,4 @@ pub fn store(octets: &mut [u8], bit: usize, w: u16)
     let b = second_octet(octets[i + 1], m, w);
     octets[i] = a;
     octets[i + 1] = b;
-}
-
-// Words from the bit `bit` on before the first that starts an octet.
-pub fn words_before_octet(bit: usize) -> usize
-    requires { ⌜ bit % 2 ≡ 0 ⌝ }
-    ensures { λ r. ⌜ (r ≤ 3) × ((bit + 10 * r) % 8 ≡ 0) ⌝ }
-{
-    (8 - bit % 8) / 2 % 4
 }

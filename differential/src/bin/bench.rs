@@ -10,7 +10,7 @@ use std::hint::black_box;
 use std::time::Instant;
 
 use differential::{Archive, Head, Side, ANSWER, STATE};
-use reference::keeper::{self, State};
+use reference::depacketizer::{self, State};
 use reference::packet;
 use reference::random::{record, Parts, Random};
 use reference::realistic::{Packets, PACKETS};
@@ -154,9 +154,9 @@ fn archive_arrive(bench: &mut Bench, packet: &Packet) {
 #[inline(never)]
 fn reference_arrive(bench: &mut Bench, packet: &Packet) {
     let octets = black_box(&packet.octets);
-    let (state, answer) = keeper::arrive(bench.kept, octets, &mut bench.cells);
+    let (state, answer) = depacketizer::arrive(bench.kept, octets, &mut bench.cells);
     bench.kept = state;
-    if let keeper::Answer::Whole { cells, .. } = black_box(answer) {
+    if let depacketizer::Answer::Whole { cells, .. } = black_box(answer) {
         bench.sum += cells as u64;
     }
 }
@@ -175,7 +175,7 @@ impl Bench {
             out: vec![0; MOST],
             answer: [0; ANSWER],
             state: [0; STATE],
-            kept: keeper::open(0, 0).unwrap(),
+            kept: depacketizer::open(0, 0).unwrap(),
             sum: 0,
         }
     }
@@ -185,7 +185,7 @@ impl Bench {
         let head = input.packets[0].head;
         let (source, payload_type) = (head.source, head.payload_type);
         Archive::open(source, payload_type, &mut self.state, &mut self.answer);
-        self.kept = keeper::open(source, payload_type).unwrap();
+        self.kept = depacketizer::open(source, payload_type).unwrap();
         for packet in &input.packets {
             step(self, packet);
             black_box((&self.cells, &self.out));

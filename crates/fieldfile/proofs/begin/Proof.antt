@@ -16,15 +16,6 @@ use Rattle.fieldfile.proofs.begin.Tie as tie
 returns : tie.Need-returns
 returns c = let h = lt-leb fileHeadSize (length (c .before .before .args .out .now)) (c .if1 .taken) in (rw h, rw h)
 
-slice-aggregate-copy : tie.Need-slice-aggregate-copy
-slice-aggregate-copy c = search needs
-
-copy-requires : tie.Need-copy-requires
-copy-requires c κs = search needs
-
-same-length : tie.Need-same-length
-same-length c = search needs
-
 returns-2 : tie.Need-returns-2
 returns-2 c =
     let out = c .before .before .before .before .before .before .before .args .out .now in
@@ -32,4 +23,5 @@ returns-2 c =
     (rw h (ap (λ (x : List ℕ). written.Octets (record { 0 = length x })) head-packed), rw h (c .before .before .copy .ensures ∙ ap (λ (x : List ℕ). overwrite x out) head-packed))
 
 pub begin-spec : {M : Type 1} → statement M
-begin-spec = tie.close (tie.spec returns slice-aggregate-copy copy-requires same-length returns-2)
+begin-spec = tie.close
+    (tie.spec returns (λ c. search needs) (λ c κs. search needs) (λ c. search needs) returns-2)

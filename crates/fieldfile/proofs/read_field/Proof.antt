@@ -14,17 +14,12 @@ use Rattle.fieldfile.proofs.read_field.Statement.{statement}
 use Rattle.fieldfile.proofs.read_field.Tie as tie
 
 -- the field was accepted, with what the check told
-found : (c : tie.After-known-told) → RunTold (c .before .before .before .before .before .before .args .file .now) (c .before .before .before .before .before .before .args .at .0) _ (sym (c .before .before .before .check .ensures) ∙ c .before .checked .given .1)
-found c = run-told (c .before .before .before .before .before .before .args .file .now) (c .before .before .before .before .before .before .args .at .0) _ (sym (c .before .before .before .check .ensures) ∙ c .before .checked .given .1) (below-all (c .before .before .before .before .before .before .args .file .now) (λ j. c .before .before .before .before .before .shared-slice-known .given j .fits))
-
-check-requires : tie.Need-check-requires
-check-requires c κs = search needs
-
-enum-known-checked : tie.Need-enum-known-checked
-enum-known-checked c = search needs
-
-enum-told : tie.Need-enum-told
-enum-told c = search needs
+found : (c : tie.After-known-told)
+    → let a = c .before .before .before .before .before .before .args in RunTold (a .file .now) (a .at .0) _ (sym (c .before .before .before .check .ensures) ∙ c .before .checked .given .1)
+found c =
+    let a = c .before .before .before .before .before .before .args in
+    let below = below-all (a .file .now) (λ j. c .before .before .before .before .before .shared-slice-known .given j .fits) in
+    run-told (a .file .now) (a .at .0) _ (sym (c .before .before .before .check .ensures) ∙ c .before .checked .given .1) below
 
 returns : tie.Need-returns
 returns c =
@@ -36,7 +31,8 @@ returns c =
 returns-2 : tie.Need-returns-2
 returns-2 c =
     let a = c .before .before .before .before .before .before .before .before .args in
-    let e = into-short (a .file .now) (a .at .0) _ (sym (c .before .before .before .before .before .check .ensures) ∙ c .before .before .before .checked .given .1) (length (a .cells .now)) (c .if1 .taken) in
+    let h = sym (c .before .before .before .before .before .check .ensures) ∙ c .before .before .before .checked .given .1 in
+    let e = into-short (a .file .now) (a .at .0) _ h (length (a .cells .now)) (c .if1 .taken) in
     (ap readOf (sym e), ap (λ (r : Result (FieldContent × ℕ)). cellsAfter r (a .cells .now)) (sym e))
 
 add-from : tie.Need-add-from
@@ -48,35 +44,19 @@ sub-read-run c = found (c .before .before .before) .inside
 part-read-run-start : tie.Need-part-read-run-start
 part-read-run-start c = found (c .before .before .before) .inside
 
-part-read-run-end : tie.Need-part-read-run-end
-part-read-run-end c = search needs
-
 read-run-requires : tie.Need-read-run-requires
 read-run-requires c κs = let t = found (c .before .before .before .before .before) in (t .accepts, omega (arith, t .size, c .before .before .before .if1 .left))
-
-same-length : tie.Need-same-length
-same-length c = search needs
 
 returns-3 : tie.Need-returns-3
 returns-3 c =
     let a = c .before .before .before .before .before .before .before .before .before .before .before .before .before .before .args in
     let h = sym (c .before .before .before .before .before .before .before .before .before .before .before .check .ensures) ∙ c .before .before .before .before .before .before .before .before .before .checked .given .1 in
     let e = into-fits (a .file .now) (a .at .0) _ h (length (a .cells .now)) (c .before .before .before .before .before .before .if1 .left) in
-    (sym (ap readOf e ∙ h), c .before .before .read-run .ensures ∙ found (c .before .before .before .before .before .before .before .before) .after _ ∙ ap (λ (r : Result (FieldContent × ℕ)). cellsAfter r (a .cells .now)) (sym e))
+    let cells = c .before .before .read-run .ensures ∙ found (c .before .before .before .before .before .before .before .before) .after _ in
+    (sym (ap readOf e ∙ h), cells ∙ ap (λ (r : Result (FieldContent × ℕ)). cellsAfter r (a .cells .now)) (sym e))
 
 pub read-field-spec : {M : Type 1} → statement M
 read-field-spec =
     tie.close
-    (tie.spec
-    check-requires
-    enum-known-checked
-    enum-told
-    returns
-    returns-2
-    add-from
-    sub-read-run
-    part-read-run-start
-    part-read-run-end
-    read-run-requires
-    same-length
-    returns-3)
+    (tie.spec (λ c κs. search needs) (λ c. search needs) (λ c. search needs) returns returns-2 add-from sub-read-run part-read-run-start
+    (λ c. search needs) read-run-requires (λ c. search needs) returns-3)

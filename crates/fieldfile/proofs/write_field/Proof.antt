@@ -16,29 +16,21 @@ use Rattle.fieldfile.proofs.write_field.Statement.{statement}
 use Rattle.fieldfile.proofs.write_field.Tie as tie
 
 -- the field was measured and fits
-found : (c : tie.After-known-told) → Taken (recordsToWrite (c .before .before .before .before .before .before .args .f) (c .before .before .before .before .before .before .args .cells .now) (length (c .before .before .before .before .before .before .args .out .now))) (c .before .listed .given .0 .0) (c .before .listed .given .0 .1 .0)
-found c = taken (recordsToWrite (c .before .before .before .before .before .before .args .f) (c .before .before .before .before .before .before .args .cells .now) (length (c .before .before .before .before .before .before .args .out .now))) _ _ (sym (c .before .before .before .measure .ensures) ∙ c .before .listed .given .1)
+found : (c : tie.After-known-told)
+    → let a = c .before .before .before .before .before .before .args in let n = c .before .listed .given .0 in
+    Taken (recordsToWrite (a .f) (a .cells .now) (length (a .out .now))) (n .0) (n .1 .0)
+found c =
+    let a = c .before .before .before .before .before .before .args in
+    taken (recordsToWrite (a .f) (a .cells .now) (length (a .out .now))) _ _ (sym (c .before .before .before .measure .ensures) ∙ c .before .listed .given .1)
 
-fits : (c : tie.After-known-told) → Writes (c .before .before .before .before .before .before .args .f) (c .before .before .before .before .before .before .args .cells .now) (length (c .before .before .before .before .before .before .args .out .now)) (found c .rs)
-fits c = writes (c .before .before .before .before .before .before .args .f) (c .before .before .before .before .before .before .args .cells .now) (length (c .before .before .before .before .before .before .args .out .now)) (found c .rs) (found c .reads)
+fits : (c : tie.After-known-told) → let a = c .before .before .before .before .before .before .args in Writes (a .f) (a .cells .now) (length (a .out .now)) (found c .rs)
+fits c = let a = c .before .before .before .before .before .before .args in writes (a .f) (a .cells .now) (length (a .out .now)) (found c .rs) (found c .reads)
 
 enough : (c : tie.After-known-told) → fieldHeaderSize + c .before .listed .given .0 .1 .0 .0 ≤ length (c .before .before .before .before .before .before .args .out .now)
 enough c = omega (arith, fits c .enough, found c .size)
 
 same : (c : tie.After-slice-known2) → length (c .before .before .write-header .last .1 .1 .1 .0) ≡ length (c .before .before .before .before .before .before .before .before .before .before .args .out .now)
 same c = c .before .before .write-header .kept .1 .1 .1 .0
-
-measure-requires : tie.Need-measure-requires
-measure-requires c κs = search needs
-
-enum-known-listed : tie.Need-enum-known-listed
-enum-known-listed c = search needs
-
-enum-told : tie.Need-enum-told
-enum-told c = search needs
-
-refusal-requires : tie.Need-refusal-requires
-refusal-requires c κs = search needs
 
 returns : tie.Need-returns
 returns c =
@@ -59,9 +51,6 @@ sub-write-run c = omega (arith, same c, enough (c .before .before .before .befor
 part-write-run-start : tie.Need-part-write-run-start
 part-write-run-start c = omega (arith, same c, enough (c .before .before .before .before))
 
-part-write-run-end : tie.Need-part-write-run-end
-part-write-run-end c = search needs
-
 write-run-requires : tie.Need-write-run-requires
 write-run-requires c κs =
     let w = fits (c .before .before .before .before .before) in
@@ -70,34 +59,24 @@ write-run-requires c κs =
     (subst IsAccepted (sym (w .reads)) tt, simp (length-take, length-drop) (omega (arith, e, same (c .before), enough (c .before .before .before .before .before))))
 
 add-t8 : tie.Need-add-t8
-add-t8 c = omega (arith, enough (c .before .before .before .before .before .before .before .before .before), small (c .before .before .before .before .before .before .before .before .before .before .before .before .before .before .before .args .cells .now) (found (c .before .before .before .before .before .before .before .before .before) .rs) (fits (c .before .before .before .before .before .before .before .before .before) .reads) (fits (c .before .before .before .before .before .before .before .before .before) .short), found (c .before .before .before .before .before .before .before .before .before) .size)
-
-same-length : tie.Need-same-length
-same-length c = search needs
+add-t8 c =
+    let e = c .before .before .before .before .before .before .before .before .before in
+    omega (arith, enough e, small (e .before .before .before .before .before .before .args .cells .now) (found e .rs) (fits e .reads) (fits e .short), found e .size)
 
 returns-2 : tie.Need-returns-2
 returns-2 c =
     let a = c .before .before .before .before .before .before .before .before .before .before .before .before .before .before .before .args in
-    let t = found (c .before .before .before .before .before .before .before .before .before) in (
-      sym (written-length (a .timestamp .0) (a .f) (a .cells .now) (length (a .out .now)) (t .rs) (t .reads) ∙ ap (λ (n : ℕ). written.Octets (record { 0 = fieldHeaderSize + n })) (t .size)),
-      written-whole (a .timestamp .0) (a .f) (a .cells .now) (length (a .out .now)) (t .rs) (t .reads) _ (sym (t .count)) (a .out .now) (c .before .before .before .before .before .before .before .write-header .last .1 .1 .1 .0) (c .before .before .before .write-run .last .1 .0) (c .before .before .before .before .before .before .before .write-header .ensures) (c .before .before .before .write-run .ensures),
+    let t = found (c .before .before .before .before .before .before .before .before .before) in
+    let size = written-length (a .timestamp .0) (a .f) (a .cells .now) (length (a .out .now)) (t .rs) (t .reads) in
+    let all = written-whole (a .timestamp .0) (a .f) (a .cells .now) (length (a .out .now)) (t .rs) (t .reads) _ (sym (t .count)) in
+    let h = c .before .before .before .before .before .before .before .write-header in
+    let w = c .before .before .before .write-run in (
+      sym (size ∙ ap (λ (n : ℕ). written.Octets (record { 0 = fieldHeaderSize + n })) (t .size)),
+      all (a .out .now) (h .last .1 .1 .1 .0) (w .last .1 .0) (h .ensures) (w .ensures),
     )
 
 pub write-field-spec : {M : Type 1} → statement M
 write-field-spec =
     tie.close
-    (tie.spec
-    measure-requires
-    enum-known-listed
-    enum-told
-    refusal-requires
-    returns
-    cast-write-header
-    write-header-requires
-    sub-write-run
-    part-write-run-start
-    part-write-run-end
-    write-run-requires
-    add-t8
-    same-length
-    returns-2)
+    (tie.spec (λ c κs. search needs) (λ c. search needs) (λ c. search needs) (λ c κs. search needs) returns cast-write-header write-header-requires
+    sub-write-run part-write-run-start (λ c. search needs) write-run-requires add-t8 (λ c. search needs) returns-2)

@@ -17,59 +17,15 @@ fits c =
     let f = subst (λ (t : Text). TextFits t (length (c .before .before .before .before .before .before .before .before .before .before .args .out .now))) (c .before .text .given .1) (c .before .before .before .before .before .finish .ensures .1 .1) in
     omega (arith, f, c .before .before .before .before .out .given)
 
-sub-finish : tie.Need-sub-finish
-sub-finish c = search needs
-
-part-finish-start : tie.Need-part-finish-start
-part-finish-start c = search needs
-
-part-finish-end : tie.Need-part-finish-end
-part-finish-end c = search needs
-
-finish-requires : tie.Need-finish-requires
-finish-requires c κs = search needs
-
-enum-known-text : tie.Need-enum-known-text
-enum-known-text c = search needs
-
 slice-reshare-prefix-write-all : tie.Need-slice-reshare-prefix-write-all
 slice-reshare-prefix-write-all c = fits c
 
 slice-aggregate-write-all : tie.Need-slice-aggregate-write-all
 slice-aggregate-write-all c = sym (length-take-le (c .before .before .text .given .0 .0) (c .before .before .before .before .before .before .finish .last .1 .1 .0) (fits (c .before)))
 
-write-all-requires : tie.Need-write-all-requires
-write-all-requires c κs = search needs
-
-enum-told : tie.Need-enum-told
-enum-told c = search needs
-
-same-length : tie.Need-same-length
-same-length c = search needs
-
-returns : tie.Need-returns
-returns c = search needs
-
-same-length-2 : tie.Need-same-length-2
-same-length-2 c = search needs
-
-returns-2 : tie.Need-returns-2
-returns-2 c = search needs
-
 pub close-spec : {M : Type 1} → statement M
 close-spec =
     tie.close
-    (tie.spec
-    sub-finish
-    part-finish-start
-    part-finish-end
-    finish-requires
-    enum-known-text
-    slice-reshare-prefix-write-all
-    slice-aggregate-write-all
-    write-all-requires
-    enum-told
-    same-length
-    returns
-    same-length-2
-    returns-2)
+    (tie.spec (λ c. search needs) (λ c. search needs) (λ c. search needs) (λ c κs. search needs) (λ c. search needs) slice-reshare-prefix-write-all
+    slice-aggregate-write-all (λ c κs. search needs) (λ c. search needs) (λ c. search needs) (λ c. search needs) (λ c. search needs)
+    (λ c. search needs))

@@ -10,4 +10,5 @@ unfolding matching
 returns c = refl
 
 pub matches-spec : {M : Type 1} → statement M
-matches-spec = tie.close (tie.spec returns)
+matches-spec = tie.close
+    (tie.spec returns)

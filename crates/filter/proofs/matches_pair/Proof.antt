@@ -4,11 +4,9 @@ use borrow.Author.Needs.{needs}
 use Rattle.filter.proofs.matches_pair.Statement.{statement}
 use Rattle.filter.proofs.matches_pair.Tie as tie
 
-matches-requires : tie.Need-matches-requires
-matches-requires c κs = search needs
-
 returns : tie.Need-returns
 returns c = c .matches .ensures
 
 pub matches-pair-spec : {M : Type 1} → statement M
-matches-pair-spec = tie.close (tie.spec matches-requires returns)
+matches-pair-spec = tie.close
+    (tie.spec (λ c κs. search needs) returns)

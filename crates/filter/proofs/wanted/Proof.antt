@@ -50,32 +50,8 @@ Inv-loop did sdid pairs i₀ i = (i ≤ length pairs) × (anyIn did sdid (drop i
 abbrev μ-loop : tie.MeasureT-loop
 μ-loop did sdid pairs i₀ i = length pairs - i
 
-loop-holds : tie.Need-loop-holds Inv-loop μ-loop
-loop-holds c = search needs
-
-sub-loop : tie.Need-sub-loop Inv-loop μ-loop
-sub-loop c = search needs
-
-shared-slice-read-matches : tie.Need-shared-slice-read-matches Inv-loop μ-loop
-shared-slice-read-matches c = search needs
-
-add-matches : tie.Need-add-matches Inv-loop μ-loop
-add-matches c = search needs
-
-shared-slice-read-matches-2 : tie.Need-shared-slice-read-matches-2 Inv-loop μ-loop
-shared-slice-read-matches-2 c = search needs
-
-matches-requires : tie.Need-matches-requires Inv-loop μ-loop
-matches-requires c κs = search needs
-
 returns : tie.Need-returns Inv-loop μ-loop
 returns c = let l = c .before .before .before .before .before .loop in on-hit _ _ _ (l .i) (c .before .before .before .before .loop-test .taken) (l .inv .1) (sym (c .before .matches .ensures) ∙ c .if1 .taken)
-
-add-i : tie.Need-add-i Inv-loop μ-loop
-add-i c = search needs
-
-loop-less : tie.Need-loop-less Inv-loop μ-loop
-loop-less c = search needs
 
 loop-again : tie.Need-loop-again Inv-loop μ-loop
 loop-again c = let l = c .before .before .before .before .before .loop in (search needs, on-miss _ _ _ (l .i) (c .before .before .before .before .loop-test .taken) (l .inv .1) (sym (c .before .matches .ensures) ∙ c .if1 .left))
@@ -86,17 +62,5 @@ returns-2 c = on-end _ _ _ _ (c .loop-test .left) (c .before .loop .inv .1)
 pub wanted-spec : {M : Type 1} → statement M
 wanted-spec =
     tie.close
-    (tie.spec
-    Inv-loop
-    μ-loop
-    loop-holds
-    sub-loop
-    shared-slice-read-matches
-    add-matches
-    shared-slice-read-matches-2
-    matches-requires
-    returns
-    add-i
-    loop-less
-    loop-again
-    returns-2)
+    (tie.spec Inv-loop μ-loop (λ c. search needs) (λ c. search needs) (λ c. search needs) (λ c. search needs) (λ c. search needs)
+    (λ c κs. search needs) returns (λ c. search needs) (λ c. search needs) loop-again returns-2)

@@ -1,31 +1,15 @@
 -- `read` reads a packet into the lent cells, or gives the refusal and leaves them.
 -- By what the check found, and 14 last.
 use borrow.Author.Needs.{needs}
-use mathlib.Core.Path.{_≡_, refl, ap, sym, _∙_}
-use mathlib.Core.List.{List}
-use Prim.Native.Nat.{ℕ, _<_}
-use native.Mathlib.Omega.{arith}
+use mathlib.Core.Path.{ap, sym, _∙_}
 use lib.ListN.{length}
-use Rattle.wire.specs.Layout.{rfc8331}
 use Rattle.wire.specs.Result.{Result}
-use Rattle.wire.specs.Packet.{Content, readInto}
+use Rattle.wire.specs.Packet.{Content}
 use Rattle.rtp.specs.Answers.{checkedRefusal, readOf, cellsAfter}
 use Rattle.rtp.specs.declared.packet.Read.the-variants as read
 use Rattle.rtp.proofs.ReadLaws.{into-refused, into-short, into-fits}
 use Rattle.rtp.proofs.read.Statement.{statement}
 use Rattle.rtp.proofs.read.Tie as tie
-
-check-requires : tie.Need-check-requires
-check-requires c κs = search needs
-
-enum-known-checked : tie.Need-enum-known-checked
-enum-known-checked c = search needs
-
-enum-told : tie.Need-enum-told
-enum-told c = search needs
-
-refusal-requires : tie.Need-refusal-requires
-refusal-requires c κs = search needs
 
 returns : tie.Need-returns
 returns c =
@@ -43,9 +27,6 @@ returns-2 c =
 read-records-requires : tie.Need-read-records-requires
 read-records-requires c κs = (sym (c .before .before .before .before .before .before .before .check .ensures) ∙ c .before .before .before .before .before .checked .given .1, c .before .if1 .left)
 
-same-length : tie.Need-same-length
-same-length c = search needs
-
 returns-3 : tie.Need-returns-3
 returns-3 c =
     let a = c .before .before .before .before .before .before .before .before .before .before .before .before .before .args in
@@ -55,13 +36,5 @@ returns-3 c =
 pub read-spec : {M : Type 1} → statement M
 read-spec =
     tie.close
-    (tie.spec
-    check-requires
-    enum-known-checked
-    enum-told
-    refusal-requires
-    returns
-    returns-2
-    read-records-requires
-    same-length
-    returns-3)
+    (tie.spec (λ c κs. search needs) (λ c. search needs) (λ c. search needs) (λ c κs. search needs) returns returns-2 read-records-requires
+    (λ c. search needs) returns-3)

@@ -1,12 +1,12 @@
 -- `check_run` tells what a run of packets is.
 -- Invariant: what was counted, with what the packets that are left come to, is what the whole run comes to.
 use borrow.Author.Needs.{needs}
-use mathlib.Core.Path.{_≡_, refl, ap, sym, _∙_}
+use mathlib.Core.Path.{_≡_, ap, sym, _∙_}
 use mathlib.Core.List.{List}
 use Prim.Native.Nat.{ℕ, suc, _≤_, _<_, _+_, _-_, _*_}
 use native.Mathlib.Nat.{add-zero, sub-zero, zero-add}
 use native.Mathlib.Omega.{arith}
-use lib.ListN.{length, drop, length-take, length-drop}
+use lib.ListN.{length, drop, length-drop}
 use Rattle.wire.specs.Anc.{readRun, ancSize}
 use Rattle.wire.specs.Layout.{rfc8331}
 use Rattle.wire.specs.Cells.{headCells}
@@ -38,12 +38,6 @@ loop-holds c =
     let a = c .before .args in
     (omega arith, c .before .fits .count .fits, zero-add _, omega arith, rw (sub-zero (a .count)) (tally-none (readRun rfc8331 0 (a .count) (a .octets .now))))
 
-check-packet-requires : tie.Need-check-packet-requires Inv-loop μ-loop
-check-packet-requires c κs = search needs
-
-enum-known-verdict : tie.Need-enum-known-verdict Inv-loop μ-loop
-enum-known-verdict c = search needs
-
 returns : tie.Need-returns Inv-loop μ-loop
 returns c =
     let a = c .before .before .before .before .before .before .before .args in
@@ -52,12 +46,6 @@ returns c =
     sym (refused-next (l .rest .now) (l .i) (a .count - (l .i + 1)) (l .used) (l .cells) _ (sym (c .before .before .before .check-packet .ensures) ∙ c .before .verdict .given .1))
     ∙ (rw n at (l .inv .4))
 
-enum-known-verdict-2 : tie.Need-enum-known-verdict-2 Inv-loop μ-loop
-enum-known-verdict-2 c = search needs
-
-packet-size-requires : tie.Need-packet-size-requires Inv-loop μ-loop
-packet-size-requires c κs = search needs
-
 sub-rest : tie.Need-sub-rest Inv-loop μ-loop
 sub-rest c = omega (arith, next (c .before) .fits, c .packet-size .ensures)
 
@@ -65,25 +53,25 @@ part-rest-start : tie.Need-part-rest-start Inv-loop μ-loop
 part-rest-start c = omega (arith, next (c .before) .fits, c .packet-size .ensures)
 
 part-rest-end : tie.Need-part-rest-end Inv-loop μ-loop
-part-rest-end c = search needs
+part-rest-end c = omega arith
 
 add-used : tie.Need-add-used Inv-loop μ-loop
 add-used c = omega (arith, next (c .before .before) .fits, c .before .packet-size .ensures)
 
 cast-cells : tie.Need-cast-cells Inv-loop μ-loop
-cast-cells c = search needs
+cast-cells c = omega arith
 
 add-cells : tie.Need-add-cells Inv-loop μ-loop
-add-cells c = search needs
+add-cells c = omega arith
 
 add-cells-2 : tie.Need-add-cells-2 Inv-loop μ-loop
-add-cells-2 c = search needs
+add-cells-2 c = omega arith
 
 add-i : tie.Need-add-i Inv-loop μ-loop
-add-i c = search needs
+add-i c = omega arith
 
 loop-less : tie.Need-loop-less Inv-loop μ-loop
-loop-less c = search needs
+loop-less c = omega arith
 
 loop-again : tie.Need-loop-again Inv-loop μ-loop
 loop-again c =
@@ -116,23 +104,5 @@ returns-2 c =
 pub check-run-spec : {M : Type 1} → statement M
 check-run-spec =
     tie.close
-    (tie.spec
-    Inv-loop
-    μ-loop
-    loop-holds
-    check-packet-requires
-    enum-known-verdict
-    returns
-    enum-known-verdict-2
-    packet-size-requires
-    sub-rest
-    part-rest-start
-    part-rest-end
-    add-used
-    cast-cells
-    add-cells
-    add-cells-2
-    add-i
-    loop-less
-    loop-again
-    returns-2)
+    (tie.spec Inv-loop μ-loop loop-holds (λ c κs. search needs) (λ c. search needs) returns (λ c. search needs) (λ c κs. search needs) sub-rest
+    part-rest-start part-rest-end add-used cast-cells add-cells add-cells-2 add-i loop-less loop-again returns-2)

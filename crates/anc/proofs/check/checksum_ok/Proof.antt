@@ -1,7 +1,6 @@
 -- `checksum_ok` tests the checksum word.
 -- By the law that the words from DID on are one row.
 use borrow.Author.Needs.{needs}
-use mathlib.Core.Path.{_≡_, ap, sym, _∙_}
 use native.Mathlib.Omega.{arith}
 use Rattle.wire.proofs.SizeLaws.{size-rfc8331}
 use Rattle.anc.proofs.PacketLaws.{checksum-test}
@@ -9,10 +8,10 @@ use Rattle.anc.proofs.check.checksum_ok.Statement.{statement}
 use Rattle.anc.proofs.check.checksum_ok.Tie as tie
 
 cast-n : tie.Need-cast-n
-cast-n c = search needs
+cast-n c = omega arith
 
 add-sum-octets : tie.Need-add-sum-octets
-add-sum-octets c = search needs
+add-sum-octets c = omega arith
 
 sum-octets-requires : tie.Need-sum-octets-requires
 sum-octets-requires c κs =
@@ -20,18 +19,15 @@ sum-octets-requires c κs =
     omega (arith, size-rfc8331 n)
 
 mul-fetch : tie.Need-mul-fetch
-mul-fetch c = search needs
+mul-fetch c = omega arith
 
 add-fetch : tie.Need-add-fetch
-add-fetch c = search needs
+add-fetch c = omega arith
 
 fetch-requires : tie.Need-fetch-requires
 fetch-requires c κs =
     let n = c .before .before .before .args .words .0 in
     omega (arith, size-rfc8331 n)
-
-checksum-word-requires : tie.Need-checksum-word-requires
-checksum-word-requires c κs = search needs
 
 returns : tie.Need-returns
 returns c =
@@ -42,12 +38,4 @@ returns c =
 pub checksum-ok-spec : {M : Type 1} → statement M
 checksum-ok-spec =
     tie.close
-    (tie.spec
-    cast-n
-    add-sum-octets
-    sum-octets-requires
-    mul-fetch
-    add-fetch
-    fetch-requires
-    checksum-word-requires
-    returns)
+    (tie.spec cast-n add-sum-octets sum-octets-requires mul-fetch add-fetch fetch-requires (λ c κs. search needs) returns)

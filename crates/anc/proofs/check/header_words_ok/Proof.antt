@@ -1,30 +1,16 @@
 -- `header_words_ok` tests DID, SDID and Data_Count.
 -- Each return knows the tests of the words before it.
 use borrow.Author.Needs.{needs}
-use mathlib.Core.Path.{_≡_}
 use mathlib.Core.Bool.{and-true}
 use borrow.Author.Tests.{not-true, not-false}
-use Rattle.wire.specs.Words.{isHeaderWord}
 use Rattle.anc.proofs.PacketLaws.{headers-test, fetched}
 use Rattle.anc.proofs.check.header_words_ok.Statement.{statement}
 use Rattle.anc.proofs.check.header_words_ok.Tie as tie
-
-fetch-requires : tie.Need-fetch-requires
-fetch-requires c κs = search needs
-
-is-header-word-requires : tie.Need-is-header-word-requires
-is-header-word-requires c κs = search needs
 
 returns : tie.Need-returns
 returns c =
     let t = c .before .is-header-word in
     rw (headers-test (c .before .before .before .before .args .octets .now), fetched _ _ _ (c .before .before .fetch .ensures) (t .ensures), not-true (t .result) (c .if1 .taken))
-
-fetch-requires-2 : tie.Need-fetch-requires-2
-fetch-requires-2 c κs = search needs
-
-is-header-word-requires-2 : tie.Need-is-header-word-requires-2
-is-header-word-requires-2 c κs = search needs
 
 returns-2 : tie.Need-returns-2
 returns-2 c =
@@ -37,12 +23,6 @@ returns-2 c =
       fetched _ _ _ (c .before .before .fetch2 .ensures) (u .ensures),
       not-true (u .result) (c .if2 .taken),
     )
-
-fetch-requires-3 : tie.Need-fetch-requires-3
-fetch-requires-3 c κs = search needs
-
-is-header-word-requires-3 : tie.Need-is-header-word-requires-3
-is-header-word-requires-3 c κs = search needs
 
 returns-3 : tie.Need-returns-3
 returns-3 c =
@@ -62,13 +42,5 @@ returns-3 c =
 pub header-words-ok-spec : {M : Type 1} → statement M
 header-words-ok-spec =
     tie.close
-    (tie.spec
-    fetch-requires
-    is-header-word-requires
-    returns
-    fetch-requires-2
-    is-header-word-requires-2
-    returns-2
-    fetch-requires-3
-    is-header-word-requires-3
-    returns-3)
+    (tie.spec (λ c κs. search needs) (λ c κs. search needs) returns (λ c κs. search needs) (λ c κs. search needs) returns-2 (λ c κs. search needs)
+    (λ c κs. search needs) returns-3)

@@ -1,6 +1,5 @@
 -- `is_header_word` tests the parity of a word.
 -- By the header word of the number that the word carries.
-use borrow.Author.Needs.{needs}
 use mathlib.Core.Path.{ap}
 use Prim.Native.Nat.{ℕ}
 use native.Mathlib.Omega.{arith}
@@ -15,4 +14,5 @@ returns : tie.Need-returns
 returns c = ap (λ (x : ℕ). eqb (c .before .args .w) x) (c .header-word .ensures)
 
 pub is-header-word-spec : {M : Type 1} → statement M
-is-header-word-spec = tie.close (tie.spec header-word-requires returns)
+is-header-word-spec = tie.close
+    (tie.spec header-word-requires returns)

@@ -8,50 +8,26 @@ use Rattle.wire.specs.Header.{headerCells}
 use Rattle.anc.proofs.header.store_header.Statement.{statement}
 use Rattle.anc.proofs.header.store_header.Tie as tie
 
-flag-requires : tie.Need-flag-requires
-flag-requires c κs = search needs
-
 slice-write-cells : tie.Need-slice-write-cells
-slice-write-cells c = search needs
-
-number-requires : tie.Need-number-requires
-number-requires c κs = search needs
+slice-write-cells c = omega arith
 
 slice-write-cells-2 : tie.Need-slice-write-cells-2
 slice-write-cells-2 c = simp length-set (omega arith)
 
-number-requires-2 : tie.Need-number-requires-2
-number-requires-2 c κs = search needs
-
 slice-write-cells-3 : tie.Need-slice-write-cells-3
 slice-write-cells-3 c = simp length-set (omega arith)
-
-flag-requires-2 : tie.Need-flag-requires-2
-flag-requires-2 c κs = search needs
 
 slice-write-cells-4 : tie.Need-slice-write-cells-4
 slice-write-cells-4 c = simp length-set (omega arith)
 
-wide-requires : tie.Need-wide-requires
-wide-requires c κs = search needs
-
 slice-write-cells-5 : tie.Need-slice-write-cells-5
 slice-write-cells-5 c = simp length-set (omega arith)
-
-wide-requires-2 : tie.Need-wide-requires-2
-wide-requires-2 c κs = search needs
 
 slice-write-cells-6 : tie.Need-slice-write-cells-6
 slice-write-cells-6 c = simp length-set (omega arith)
 
-wide-requires-3 : tie.Need-wide-requires-3
-wide-requires-3 c κs = search needs
-
 slice-write-cells-7 : tie.Need-slice-write-cells-7
 slice-write-cells-7 c = simp length-set (omega arith)
-
-wide-requires-4 : tie.Need-wide-requires-4
-wide-requires-4 c κs = search needs
 
 slice-write-cells-8 : tie.Need-slice-write-cells-8
 slice-write-cells-8 c = simp length-set (omega arith)
@@ -77,22 +53,6 @@ returns c =
 pub store-header-spec : {M : Type 1} → statement M
 store-header-spec =
     tie.close
-    (tie.spec
-    flag-requires
-    slice-write-cells
-    number-requires
-    slice-write-cells-2
-    number-requires-2
-    slice-write-cells-3
-    flag-requires-2
-    slice-write-cells-4
-    wide-requires
-    slice-write-cells-5
-    wide-requires-2
-    slice-write-cells-6
-    wide-requires-3
-    slice-write-cells-7
-    wide-requires-4
-    slice-write-cells-8
-    same-length
-    returns)
+    (tie.spec (λ c κs. search needs) slice-write-cells (λ c κs. search needs) slice-write-cells-2 (λ c κs. search needs) slice-write-cells-3
+    (λ c κs. search needs) slice-write-cells-4 (λ c κs. search needs) slice-write-cells-5 (λ c κs. search needs) slice-write-cells-6
+    (λ c κs. search needs) slice-write-cells-7 (λ c κs. search needs) slice-write-cells-8 same-length returns)

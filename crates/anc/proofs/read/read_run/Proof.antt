@@ -3,7 +3,7 @@
 use borrow.Author.Needs.{needs}
 use mathlib.Core.Path.{_≡_, refl, ap, sym, _∙_}
 use Prim.Native.Nat.{suc, _≤_, _<_, _+_, _-_}
-use native.Mathlib.Nat.{sub-zero, zero-add}
+use native.Mathlib.Nat.{sub-zero}
 use native.Mathlib.Omega.{arith}
 use lib.ListN.{length, length-take, length-drop}
 use Rattle.wire.specs.Anc.{ancSize, readRun}
@@ -54,22 +54,19 @@ loop-holds c =
     )
 
 mul-read-packet : tie.Need-mul-read-packet Inv-loop μ-loop
-mul-read-packet c = search needs
+mul-read-packet c = omega arith
 
 sub-read-packet : tie.Need-sub-read-packet Inv-loop μ-loop
-sub-read-packet c = search needs
+sub-read-packet c = omega arith
 
 part-read-packet-start : tie.Need-part-read-packet-start Inv-loop μ-loop
-part-read-packet-start c = search needs
+part-read-packet-start c = omega arith
 
 part-read-packet-end : tie.Need-part-read-packet-end Inv-loop μ-loop
-part-read-packet-end c = search needs
+part-read-packet-end c = omega arith
 
 read-packet-requires : tie.Need-read-packet-requires Inv-loop μ-loop
 read-packet-requires c κs = (found (c .before) .fits, simp (length-take, length-drop) (omega (arith, found (c .before) .room)))
-
-packet-size-requires : tie.Need-packet-size-requires Inv-loop μ-loop
-packet-size-requires c κs = search needs
 
 sub-rest : tie.Need-sub-rest Inv-loop μ-loop
 sub-rest c = size-there c
@@ -78,22 +75,22 @@ part-rest-start : tie.Need-part-rest-start Inv-loop μ-loop
 part-rest-start c = size-there c
 
 part-rest-end : tie.Need-part-rest-end Inv-loop μ-loop
-part-rest-end c = search needs
+part-rest-end c = omega arith
 
 cast-to : tie.Need-cast-to Inv-loop μ-loop
-cast-to c = search needs
+cast-to c = omega arith
 
 add-to : tie.Need-add-to Inv-loop μ-loop
-add-to c = search needs
+add-to c = omega arith
 
 add-to-2 : tie.Need-add-to-2 Inv-loop μ-loop
 add-to-2 c = omega (arith, found (c .before .before .before .before .before .before .before) .room, c .before .before .before .before .before .read-packet .ensures .0)
 
 add-i : tie.Need-add-i Inv-loop μ-loop
-add-i c = search needs
+add-i c = omega arith
 
 loop-less : tie.Need-loop-less Inv-loop μ-loop
-loop-less c = search needs
+loop-less c = omega arith
 
 loop-again : tie.Need-loop-again Inv-loop μ-loop
 loop-again c =
@@ -104,9 +101,6 @@ loop-again c =
       l .inv .1,
       left-next _ _ _ _ _ _ _ (here (c .before .before .before .before .before .before .before)) (r .result .0) (z .result .0) (r .last .1 .0) (r .ensures .0) (z .ensures) (r .ensures .1),
     )
-
-same-length : tie.Need-same-length Inv-loop μ-loop
-same-length c = search needs
 
 returns : tie.Need-returns Inv-loop μ-loop
 unfolding readRun
@@ -119,24 +113,5 @@ returns c =
 pub read-run-spec : {M : Type 1} → statement M
 read-run-spec =
     tie.close
-    (tie.spec
-    Inv-loop
-    μ-loop
-    loop-holds
-    mul-read-packet
-    sub-read-packet
-    part-read-packet-start
-    part-read-packet-end
-    read-packet-requires
-    packet-size-requires
-    sub-rest
-    part-rest-start
-    part-rest-end
-    cast-to
-    add-to
-    add-to-2
-    add-i
-    loop-less
-    loop-again
-    same-length
-    returns)
+    (tie.spec Inv-loop μ-loop loop-holds mul-read-packet sub-read-packet part-read-packet-start part-read-packet-end read-packet-requires
+    (λ c κs. search needs) sub-rest part-rest-start part-rest-end cast-to add-to add-to-2 add-i loop-less loop-again (λ c. search needs) returns)

@@ -1,75 +1,27 @@
 -- `jibhotran_file_read` reads a field, or gives 255.
 -- By what the library gives, where the answer is long enough.
 use borrow.Author.Needs.{needs}
-use mathlib.Core.Path.{ap, sym, _∙_}
+use mathlib.Core.Path.{ap, _∙_}
 use borrow.Author.Tests.{le-leb, lt-leb}
 use lib.ListN.{length}
 use Rattle.wire.specs.Bits.{overwrite}
-use Rattle.capi.specs.Rows.{Reply, answerSize, fieldReply}
+use Rattle.fieldfile.specs.declared.field.FieldRead.{FieldRead}
+use Rattle.boundary.specs.Rows.{answerSize, fieldReply}
 use Rattle.capi.proofs.file.jibhotran_file_read.Statement.{statement}
 use Rattle.capi.proofs.file.jibhotran_file_read.Tie as tie
 
 returns : tie.Need-returns
 returns c = let h = lt-leb answerSize (length (c .before .before .before .before .args .answer .now)) (c .if1 .taken) in (rw h, (rw h, rw h))
 
-read-field-requires : tie.Need-read-field-requires
-read-field-requires c κs = search needs
-
-enum-known-read : tie.Need-enum-known-read
-enum-known-read c = search needs
-
-refuse-requires : tie.Need-refuse-requires
-refuse-requires c κs = search needs
-
-enum-known-read-2 : tie.Need-enum-known-read-2
-enum-known-read-2 c = search needs
-
-put-field-requires : tie.Need-put-field-requires
-put-field-requires c κs = search needs
-
-same-length : tie.Need-same-length
-same-length c = search needs
-
-same-length-2 : tie.Need-same-length-2
-same-length-2 c = search needs
-
 returns-2 : tie.Need-returns-2
 returns-2 c =
-    let a = c .before .before .before .before .before .before .before .before .before .before .before .before .before .before .before .args in
-    let h = le-leb answerSize (length (a .answer .now)) (c .before .before .before .before .before .before .before .before .before .before .before .if1 .left) in
-    let e = ap fieldReply (sym (c .before .before .before .before .before .read .given .1) ∙ c .before .before .before .before .before .before .before .before .before .read-field .ensures .0) in (
-      rw h (c .before .before .refuse .ensures .0 ∙ ap (λ (y : Reply). y .number) e),
-      (rw h (c .before .before .before .before .before .before .before .before .before .read-field .ensures .1), rw h (c .before .before .refuse .ensures .1 ∙ ap (λ (y : Reply). overwrite (y .row) (a .answer .now)) e)),
-    )
-
-same-length-3 : tie.Need-same-length-3
-same-length-3 c = search needs
-
-same-length-4 : tie.Need-same-length-4
-same-length-4 c = search needs
-
-returns-3 : tie.Need-returns-3
-returns-3 c =
-    let a = c .before .before .before .before .before .before .before .before .before .before .before .before .before .before .before .args in
-    let h = le-leb answerSize (length (a .answer .now)) (c .before .before .before .before .before .before .before .before .before .before .before .if1 .left) in
-    let e = ap fieldReply (sym (c .before .before .before .before .before .read2 .given .1) ∙ c .before .before .before .before .before .before .before .before .before .read-field .ensures .0) in (
-      rw h (ap (λ (y : Reply). y .number) e),
-      (rw h (c .before .before .before .before .before .before .before .before .before .read-field .ensures .1), rw h (c .before .before .put-field .ensures ∙ ap (λ (y : Reply). overwrite (y .row) (a .answer .now)) e)),
-    )
+    let a = c .before .before .before .before .before .before .before .before .before .before .before .before .args in
+    let h = le-leb answerSize (length (a .answer .now)) (c .before .before .before .before .before .before .before .before .if1 .left) in
+    let w = c .before .before .before .before .before .before .read-field .ensures in
+    let r = c .before .before .reply-field .ensures in
+    (rw h (r .0 ∙ ap (λ (x : FieldRead). fieldReply x .number) (w .0)), (rw h (w .1), rw h (r .1 ∙ ap (λ (x : FieldRead). overwrite (fieldReply x .row) (a .answer .now)) (w .0))))
 
 pub jibhotran-file-read-spec : {M : Type 1} → statement M
 jibhotran-file-read-spec =
     tie.close
-    (tie.spec
-    returns
-    read-field-requires
-    enum-known-read
-    refuse-requires
-    enum-known-read-2
-    put-field-requires
-    same-length
-    same-length-2
-    returns-2
-    same-length-3
-    same-length-4
-    returns-3)
+    (tie.spec returns (λ c κs. search needs) (λ c κs. search needs) (λ c. search needs) (λ c. search needs) returns-2)

@@ -1,75 +1,27 @@
 -- `jibhotran_sdp_read` reads a text, or gives 255.
 -- By what the library gives, where the answer is long enough.
 use borrow.Author.Needs.{needs}
-use mathlib.Core.Path.{ap, sym, _∙_}
+use mathlib.Core.Path.{ap, _∙_}
 use borrow.Author.Tests.{le-leb, lt-leb}
 use lib.ListN.{length}
 use Rattle.wire.specs.Bits.{overwrite}
-use Rattle.capi.specs.Rows.{Reply, answerSize, parametersReply}
+use Rattle.fmtp.specs.declared.read.Reading.{Reading}
+use Rattle.boundary.specs.Rows.{answerSize, parametersReply}
 use Rattle.capi.proofs.parameters.jibhotran_sdp_read.Statement.{statement}
 use Rattle.capi.proofs.parameters.jibhotran_sdp_read.Tie as tie
 
 returns : tie.Need-returns
 returns c = let h = lt-leb answerSize (length (c .before .before .before .before .args .answer .now)) (c .if1 .taken) in (rw h, (rw h, rw h))
 
-read-requires : tie.Need-read-requires
-read-requires c κs = search needs
-
-enum-known-reading : tie.Need-enum-known-reading
-enum-known-reading c = search needs
-
-refuse-requires : tie.Need-refuse-requires
-refuse-requires c κs = search needs
-
-enum-known-reading-2 : tie.Need-enum-known-reading-2
-enum-known-reading-2 c = search needs
-
-put-parameters-requires : tie.Need-put-parameters-requires
-put-parameters-requires c κs = search needs
-
-same-length : tie.Need-same-length
-same-length c = search needs
-
-same-length-2 : tie.Need-same-length-2
-same-length-2 c = search needs
-
 returns-2 : tie.Need-returns-2
 returns-2 c =
-    let a = c .before .before .before .before .before .before .before .before .before .before .before .before .before .before .before .args in
-    let h = le-leb answerSize (length (a .answer .now)) (c .before .before .before .before .before .before .before .before .before .before .before .if1 .left) in
-    let e = ap parametersReply (sym (c .before .before .before .before .before .reading .given .1) ∙ c .before .before .before .before .before .before .before .before .before .read .ensures .0) in (
-      rw h (c .before .before .refuse .ensures .0 ∙ ap (λ (y : Reply). y .number) e),
-      (rw h (c .before .before .before .before .before .before .before .before .before .read .ensures .1), rw h (c .before .before .refuse .ensures .1 ∙ ap (λ (y : Reply). overwrite (y .row) (a .answer .now)) e)),
-    )
-
-same-length-3 : tie.Need-same-length-3
-same-length-3 c = search needs
-
-same-length-4 : tie.Need-same-length-4
-same-length-4 c = search needs
-
-returns-3 : tie.Need-returns-3
-returns-3 c =
-    let a = c .before .before .before .before .before .before .before .before .before .before .before .before .before .before .before .args in
-    let h = le-leb answerSize (length (a .answer .now)) (c .before .before .before .before .before .before .before .before .before .before .before .if1 .left) in
-    let e = ap parametersReply (sym (c .before .before .before .before .before .reading2 .given .1) ∙ c .before .before .before .before .before .before .before .before .before .read .ensures .0) in (
-      rw h (ap (λ (y : Reply). y .number) e),
-      (rw h (c .before .before .before .before .before .before .before .before .before .read .ensures .1), rw h (c .before .before .put-parameters .ensures ∙ ap (λ (y : Reply). overwrite (y .row) (a .answer .now)) e)),
-    )
+    let a = c .before .before .before .before .before .before .before .before .before .before .before .before .args in
+    let h = le-leb answerSize (length (a .answer .now)) (c .before .before .before .before .before .before .before .before .if1 .left) in
+    let w = c .before .before .before .before .before .before .read .ensures in
+    let r = c .before .before .reply-reading .ensures in
+    (rw h (r .0 ∙ ap (λ (x : Reading). parametersReply x .number) (w .0)), (rw h (w .1), rw h (r .1 ∙ ap (λ (x : Reading). overwrite (parametersReply x .row) (a .answer .now)) (w .0))))
 
 pub jibhotran-sdp-read-spec : {M : Type 1} → statement M
 jibhotran-sdp-read-spec =
     tie.close
-    (tie.spec
-    returns
-    read-requires
-    enum-known-reading
-    refuse-requires
-    enum-known-reading-2
-    put-parameters-requires
-    same-length
-    same-length-2
-    returns-2
-    same-length-3
-    same-length-4
-    returns-3)
+    (tie.spec returns (λ c κs. search needs) (λ c κs. search needs) (λ c. search needs) (λ c. search needs) returns-2)

@@ -6,7 +6,7 @@ use borrow.Author.Tests.{le-leb, lt-leb}
 use lib.ListN.{length}
 use Rattle.wire.specs.declared.written.Written.{Written}
 use Rattle.wire.specs.Bits.{overwrite}
-use Rattle.capi.specs.Rows.{answerSize, writtenReply}
+use Rattle.boundary.specs.Rows.{answerSize, writtenReply}
 use Rattle.capi.specs.Calls.{vpidOf}
 use Rattle.capi.proofs.parameters.jibhotran_sdp_write.Statement.{statement}
 use Rattle.capi.proofs.parameters.jibhotran_sdp_write.Tie as tie
@@ -14,38 +14,16 @@ use Rattle.capi.proofs.parameters.jibhotran_sdp_write.Tie as tie
 returns : tie.Need-returns
 returns c = let h = lt-leb answerSize (length (c .before .before .before .before .args .answer .now)) (c .if1 .taken) in (rw h, (rw h, rw h))
 
-vpid-of-requires : tie.Need-vpid-of-requires
-vpid-of-requires c κs = search needs
-
-write-requires : tie.Need-write-requires
-write-requires c κs = search needs
-
-reply-requires : tie.Need-reply-requires
-reply-requires c κs = search needs
-
-same-length : tie.Need-same-length
-same-length c = search needs
-
-same-length-2 : tie.Need-same-length-2
-same-length-2 c = search needs
-
 returns-2 : tie.Need-returns-2
 returns-2 c =
     let a = c .before .before .before .before .before .before .before .before .before .before .before .before .before .args in
     let h = le-leb answerSize (length (a .answer .now)) (c .before .before .before .before .before .before .before .before .before .if1 .left) in
     let v : c .before .before .before .before .before .before .before .before .vpid-of .result ≡ vpidOf (a .vpid) = c .before .before .before .before .before .before .before .before .vpid-of .ensures in
     let w = c .before .before .before .before .before .before .write .ensures in
-    let r = c .before .before .reply .ensures in
+    let r = c .before .before .reply-written .ensures in
     (rw (h, ← v) (r .0 ∙ ap (λ (x : Written). writtenReply x .number) (w .0)), (rw (h, ← v) (w .1), rw (h, ← v) (r .1 ∙ ap (λ (x : Written). overwrite (writtenReply x .row) (a .answer .now)) (w .0))))
 
 pub jibhotran-sdp-write-spec : {M : Type 1} → statement M
 jibhotran-sdp-write-spec =
     tie.close
-    (tie.spec
-    returns
-    vpid-of-requires
-    write-requires
-    reply-requires
-    same-length
-    same-length-2
-    returns-2)
+    (tie.spec returns (λ c κs. search needs) (λ c κs. search needs) (λ c κs. search needs) (λ c. search needs) (λ c. search needs) returns-2)

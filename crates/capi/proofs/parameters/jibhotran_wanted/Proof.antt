@@ -6,9 +6,6 @@ use Rattle.wire.specs.Bits.{bit}
 use Rattle.capi.proofs.parameters.jibhotran_wanted.Statement.{statement}
 use Rattle.capi.proofs.parameters.jibhotran_wanted.Tie as tie
 
-wanted-requires : tie.Need-wanted-requires
-wanted-requires c κs = search needs
-
 returns : tie.Need-returns
 returns c = ap bit (sym (c .if1 .taken) ∙ c .before .wanted .ensures)
 
@@ -16,4 +13,5 @@ returns-2 : tie.Need-returns-2
 returns-2 c = ap bit (sym (c .if1 .left) ∙ c .before .wanted .ensures)
 
 pub jibhotran-wanted-spec : {M : Type 1} → statement M
-jibhotran-wanted-spec = tie.close (tie.spec wanted-requires returns returns-2)
+jibhotran-wanted-spec = tie.close
+    (tie.spec (λ c κs. search needs) returns returns-2)

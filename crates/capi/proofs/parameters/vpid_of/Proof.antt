@@ -6,9 +6,6 @@ use Rattle.sdp.specs.Text.{maxCode}
 use Rattle.capi.proofs.parameters.vpid_of.Statement.{statement}
 use Rattle.capi.proofs.parameters.vpid_of.Tie as tie
 
-cast-t4 : tie.Need-cast-t4
-cast-t4 c = search needs
-
 returns : tie.Need-returns
 returns c = rw (le-leb (c .before .args .code) maxCode (c .if1 .taken))
 
@@ -16,4 +13,5 @@ returns-2 : tie.Need-returns-2
 returns-2 c = rw (lt-leb (c .before .args .code) maxCode (c .if1 .left))
 
 pub vpid-of-spec : {M : Type 1} → statement M
-vpid-of-spec = tie.close (tie.spec cast-t4 returns returns-2)
+vpid-of-spec = tie.close
+    (tie.spec (λ c. search needs) returns returns-2)

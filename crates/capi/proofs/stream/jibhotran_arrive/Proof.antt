@@ -7,11 +7,11 @@ use borrow.Author.Tests.{not-true, not-false}
 use lib.ListN.{length}
 use Rattle.wire.specs.Bits.{overwrite}
 use Rattle.depacketizer.specs.declared.state.Arrival.{Arrival}
-use Rattle.capi.specs.declared.state.Restored.{Restored}
-use Rattle.capi.specs.Rows.{answerSize, arrivalReply, stateSize}
+use Rattle.boundary.specs.declared.state.Restored.{Restored}
+use Rattle.boundary.specs.Rows.{answerSize, arrivalReply, stateSize}
 use Prim.Native.Nat.{_≤_}
-use Rattle.capi.specs.declared.state.Restored.the-variants as restored
-use Rattle.capi.specs.State.{numbersOf}
+use Rattle.boundary.specs.declared.state.Restored.the-variants as restored
+use Rattle.boundary.specs.State.{numbersOf}
 use Rattle.capi.specs.Calls.{Arrived, arrivedAt, rowsFit, stateAfter}
 use Rattle.capi.proofs.RowLaws.{rows-long}
 use Rattle.capi.proofs.stream.jibhotran_arrive.Statement.{statement}
@@ -24,38 +24,20 @@ fits c = sym (c .before .rows-fit .ensures) ∙ not-false _ (c .if1 .left)
 long : (c : tie.Else1) → (stateSize ≤ length (c .before .before .before .before .before .before .args .state .now)) × (answerSize ≤ length (c .before .before .before .before .before .before .args .answer .now))
 long c = let a = c .before .before .before .before .before .before .args in rows-long (length (a .state .now)) (length (a .answer .now)) (fits c)
 
-rows-fit-requires : tie.Need-rows-fit-requires
-rows-fit-requires c κs = search needs
-
 returns : tie.Need-returns
 returns c = let h = sym (c .before .rows-fit .ensures) ∙ not-true _ (c .if1 .taken) in (rw h, (rw h, (rw h, (rw h, rw h))))
 
 state-in-requires : tie.Need-state-in-requires
 state-in-requires c κs = long (c .before) .0
 
-enum-told : tie.Need-enum-told
-enum-told c = search needs
-
 refuse-requires : tie.Need-refuse-requires
 refuse-requires c κs = long (c .before .before .before .before .before) .1
-
-enum-known-restored : tie.Need-enum-known-restored
-enum-known-restored c = search needs
-
-arrive-requires : tie.Need-arrive-requires
-arrive-requires c κs = search needs
 
 put-state-requires : tie.Need-put-state-requires
 put-state-requires c κs = long (c .before .before .before .before .before .before .before .before .before .before .before) .0
 
-reply-requires : tie.Need-reply-requires
-reply-requires c κs = long (c .before .before .before .before .before .before .before .before .before .before .before .before .before .before .before) .1
-
-same-length : tie.Need-same-length
-same-length c = search needs
-
-same-length-2 : tie.Need-same-length-2
-same-length-2 c = search needs
+reply-arrival-requires : tie.Need-reply-arrival-requires
+reply-arrival-requires c κs = long (c .before .before .before .before .before .before .before .before .before .before .before .before .before .before .before) .1
 
 returns-2 : tie.Need-returns-2
 returns-2 c =
@@ -73,15 +55,6 @@ returns-2 c =
       ),
     )
 
-same-length-3 : tie.Need-same-length-3
-same-length-3 c = search needs
-
-same-length-4 : tie.Need-same-length-4
-same-length-4 c = search needs
-
-same-length-5 : tie.Need-same-length-5
-same-length-5 c = search needs
-
 returns-3 : tie.Need-returns-3
 returns-3 c =
     let a = c .before .before .before .before .before .before .before .before .before .before .before .before .before .before .before .before .before .before .before .before .before .before .before .before .args in
@@ -89,13 +62,13 @@ returns-3 c =
     let r = sym (c .before .before .before .before .before .before .before .before .before .before .before .before .before .before .restored .given .1) ∙ c .before .before .before .before .before .before .before .before .before .before .before .before .before .before .before .before .state-in .ensures in
     let e = ap (λ (x : Restored). arrivedAt x (a .octets .now) (a .store .now)) r in
     let s = c .before .before .before .before .before .before .before .before .before .before .before .arrive .ensures in (
-      rw h (c .before .before .reply .ensures .0 ∙ ap (λ (y : Arrival). arrivalReply (y .answer) .number) (s .0) ∙ ap (λ (y : Arrived). y .reply .number) e),
+      rw h (c .before .before .reply-arrival .ensures .0 ∙ ap (λ (y : Arrival). arrivalReply (y .answer) .number) (s .0) ∙ ap (λ (y : Arrived). y .reply .number) e),
       (
         rw h (c .before .before .before .before .before .before .put-state .ensures .0 ∙ ap (λ (y : Arrival). overwrite (numbersOf (y .state)) (a .state .now)) (s .0) ∙ ap (λ (y : Arrived). overwrite (y .numbers) (a .state .now)) e),
         (
           rw h (s .1 ∙ ap (λ (y : Arrived). y .store) e),
           (
-            rw h (c .before .before .reply .ensures .1 ∙ ap (λ (y : Arrival). overwrite (arrivalReply (y .answer) .row) (a .answer .now)) (s .0) ∙ ap (λ (y : Arrived). overwrite (y .reply .row) (a .answer .now)) e),
+            rw h (c .before .before .reply-arrival .ensures .1 ∙ ap (λ (y : Arrival). overwrite (arrivalReply (y .answer) .row) (a .answer .now)) (s .0) ∙ ap (λ (y : Arrived). overwrite (y .reply .row) (a .answer .now)) e),
             rw h (c .before .before .before .before .before .before .put-state .ensures .1 ∙ ap (λ (y : Arrival). restored.State (y .state)) (s .0) ∙ ap (λ (x : Restored). stateAfter x (a .octets .now) (a .store .now)) r),
           ),
         ),
@@ -105,20 +78,6 @@ returns-3 c =
 pub jibhotran-arrive-spec : {M : Type 1} → statement M
 jibhotran-arrive-spec =
     tie.close
-    (tie.spec
-    rows-fit-requires
-    returns
-    state-in-requires
-    enum-told
-    refuse-requires
-    enum-known-restored
-    arrive-requires
-    put-state-requires
-    reply-requires
-    same-length
-    same-length-2
-    returns-2
-    same-length-3
-    same-length-4
-    same-length-5
-    returns-3)
+    (tie.spec (λ c κs. search needs) returns state-in-requires (λ c. search needs) refuse-requires (λ c. search needs) (λ c κs. search needs)
+    put-state-requires reply-arrival-requires (λ c. search needs) (λ c. search needs) returns-2 (λ c. search needs) (λ c. search needs)
+    (λ c. search needs) returns-3)

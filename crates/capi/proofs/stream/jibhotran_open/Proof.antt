@@ -8,8 +8,8 @@ use borrow.Author.Tests.{not-true, not-false}
 use lib.ListN.{length}
 use Rattle.wire.specs.Bits.{overwrite}
 use Rattle.depacketizer.specs.declared.state.Opened.{Opened}
-use Rattle.capi.specs.Rows.{answerSize, stateSize}
-use Rattle.capi.specs.State.{stateIn}
+use Rattle.boundary.specs.Rows.{answerSize, stateSize}
+use Rattle.boundary.specs.State.{stateIn}
 use Rattle.capi.specs.Calls.{openedIn, openedNumbers, openedReply, rowsFit}
 use Rattle.capi.proofs.RowLaws.{rows-long}
 use Rattle.capi.proofs.stream.jibhotran_open.Statement.{statement}
@@ -22,29 +22,14 @@ fits c = sym (c .before .rows-fit .ensures) ∙ not-false _ (c .if1 .left)
 long : (c : tie.Else1) → (stateSize ≤ length (c .before .before .before .before .args .state .now)) × (answerSize ≤ length (c .before .before .before .before .args .answer .now))
 long c = let a = c .before .before .before .before .args in rows-long (length (a .state .now)) (length (a .answer .now)) (fits c)
 
-rows-fit-requires : tie.Need-rows-fit-requires
-rows-fit-requires c κs = search needs
-
 returns : tie.Need-returns
 returns c = let h = sym (c .before .rows-fit .ensures) ∙ not-true _ (c .if1 .taken) in (rw h, (rw h, (rw h, rw h)))
-
-open-requires : tie.Need-open-requires
-open-requires c κs = search needs
-
-enum-known-opened : tie.Need-enum-known-opened
-enum-known-opened c = search needs
 
 refuse-requires : tie.Need-refuse-requires
 refuse-requires c κs = long (c .before .before .before .before .before) .1
 
-enum-known-opened-2 : tie.Need-enum-known-opened-2
-enum-known-opened-2 c = search needs
-
 put-state-requires : tie.Need-put-state-requires
 put-state-requires c κs = long (c .before .before .before .before .before) .0
-
-same-length : tie.Need-same-length
-same-length c = search needs
 
 returns-2 : tie.Need-returns-2
 returns-2 c =
@@ -57,9 +42,6 @@ returns-2 c =
         (rw h (c .before .before .refuse .ensures .1 ∙ ap (λ (y : Opened). overwrite (openedReply y .row) (a .answer .now)) e), rw h (ap (λ (y : Opened). openedIn y (stateIn (a .state .now))) e)),
       ),
     )
-
-same-length-2 : tie.Need-same-length-2
-same-length-2 c = search needs
 
 returns-3 : tie.Need-returns-3
 returns-3 c =
@@ -76,15 +58,5 @@ returns-3 c =
 pub jibhotran-open-spec : {M : Type 1} → statement M
 jibhotran-open-spec =
     tie.close
-    (tie.spec
-    rows-fit-requires
-    returns
-    open-requires
-    enum-known-opened
-    refuse-requires
-    enum-known-opened-2
-    put-state-requires
-    same-length
-    returns-2
-    same-length-2
-    returns-3)
+    (tie.spec (λ c κs. search needs) returns (λ c κs. search needs) (λ c. search needs) refuse-requires (λ c. search needs) put-state-requires
+    (λ c. search needs) returns-2 (λ c. search needs) returns-3)

@@ -8,4 +8,5 @@ returns : tie.Need-returns
 returns c = refl
 
 pub rows-fit-spec : {M : Type 1} → statement M
-rows-fit-spec = tie.close (tie.spec returns)
+rows-fit-spec = tie.close
+    (tie.spec returns)

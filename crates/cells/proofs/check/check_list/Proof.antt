@@ -28,21 +28,12 @@ abbrev μ-loop : tie.MeasureT-loop
 loop-holds : tie.Need-loop-holds Inv-loop μ-loop
 loop-holds c = (omega arith, omega arith, tally-none (readList (c .before .args .cells .now)))
 
-check-record-requires : tie.Need-check-record-requires Inv-loop μ-loop
-check-record-requires c κs = search needs
-
-enum-told : tie.Need-enum-told Inv-loop μ-loop
-enum-told c = search needs
-
 returns : tie.Need-returns Inv-loop μ-loop
 returns c =
     let k = c .before .before in
     let l = k .before .before .loop in
     sym (tally-stops (l .count) (l .octets) (l .rest .now) (k .before .loop-test .taken) (sym (k .check-record .ensures) ∙ c .enum-told .given .1))
     ∙ l .inv .2
-
-enum-known-front : tie.Need-enum-known-front Inv-loop μ-loop
-enum-known-front c = search needs
 
 -- the record at the front passes its checks, and lies in the cells
 front-passes : (c : tie.After-front Inv-loop μ-loop)
@@ -52,11 +43,8 @@ front-passes c =
     let p = taken _ (c .front .given .0 .0) (sym (c .before .before .check-record .ensures) ∙ c .front .given .1) in
     (p .0, lies _ (p .0), p .1)
 
-packet-size-requires : tie.Need-packet-size-requires Inv-loop μ-loop
-packet-size-requires c κs = search needs
-
 cast-step : tie.Need-cast-step Inv-loop μ-loop
-cast-step c = search needs
+cast-step c = omega arith
 
 add-step : tie.Need-add-step Inv-loop μ-loop
 add-step c = omega (arith, front-passes (c .before .before .before))
@@ -71,7 +59,7 @@ part-rest-start : tie.Need-part-rest-start Inv-loop μ-loop
 part-rest-start c = omega (arith, front-passes (c .before .before .before))
 
 part-rest-end : tie.Need-part-rest-end Inv-loop μ-loop
-part-rest-end c = search needs
+part-rest-end c = omega arith
 
 -- its packet's size, at most one and a half octets for each of its cells
 size-is : (c : tie.After-packet-size Inv-loop μ-loop)
@@ -85,13 +73,13 @@ add-octets : tie.Need-add-octets Inv-loop μ-loop
 add-octets c = omega (arith, front-passes (c .before .before .before .before .before), size-is (c .before .before .before))
 
 add-count : tie.Need-add-count Inv-loop μ-loop
-add-count c = search needs
+add-count c = omega arith
 
 loop-less : tie.Need-loop-less Inv-loop μ-loop
 loop-less c =
     let f = c .before .before .before .before .before in
     let r = f .before .before .before .before .loop .rest .now in
-    let k = 8 + f .front .given .0 .0 .0 in
+    let k = headCells + f .front .given .0 .0 .0 in
     rw (part-all k r, length-drop k r) (omega arith)
 
 loop-again : tie.Need-loop-again Inv-loop μ-loop
@@ -119,23 +107,5 @@ returns-2 c =
 pub check-list-spec : {M : Type 1} → statement M
 check-list-spec =
     tie.close
-    (tie.spec
-    Inv-loop
-    μ-loop
-    loop-holds
-    check-record-requires
-    enum-told
-    returns
-    enum-known-front
-    packet-size-requires
-    cast-step
-    add-step
-    mul-rest
-    sub-rest
-    part-rest-start
-    part-rest-end
-    add-octets
-    add-count
-    loop-less
-    loop-again
-    returns-2)
+    (tie.spec Inv-loop μ-loop loop-holds (λ c κs. search needs) (λ c. search needs) returns (λ c. search needs) (λ c κs. search needs) cast-step
+    add-step mul-rest sub-rest part-rest-start part-rest-end add-octets add-count loop-less loop-again returns-2)

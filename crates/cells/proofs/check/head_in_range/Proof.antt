@@ -1,6 +1,6 @@
 -- `head_in_range` tells whether each cell before the words fits its field.
 -- Its tests are those of the definition, grouped from the other side.
-use borrow.Author.Needs.{needs}
+use native.Mathlib.Omega.{arith}
 use mathlib.Core.Path.{_≡_}
 use mathlib.Core.Bool.{Bool, _&&_, and-assoc}
 use Prim.Native.Nat.{ℕ}
@@ -11,28 +11,28 @@ use Rattle.cells.proofs.check.head_in_range.Statement.{statement}
 use Rattle.cells.proofs.check.head_in_range.Tie as tie
 
 shared-slice-read-result : tie.Need-shared-slice-read-result
-shared-slice-read-result c = search needs
+shared-slice-read-result c = omega arith
 
 shared-slice-read-result-2 : tie.Need-shared-slice-read-result-2
-shared-slice-read-result-2 c = search needs
+shared-slice-read-result-2 c = omega arith
 
 shared-slice-read-result-3 : tie.Need-shared-slice-read-result-3
-shared-slice-read-result-3 c = search needs
+shared-slice-read-result-3 c = omega arith
 
 shared-slice-read-result-4 : tie.Need-shared-slice-read-result-4
-shared-slice-read-result-4 c = search needs
+shared-slice-read-result-4 c = omega arith
 
 shared-slice-read-result-5 : tie.Need-shared-slice-read-result-5
-shared-slice-read-result-5 c = search needs
+shared-slice-read-result-5 c = omega arith
 
 shared-slice-read-result-6 : tie.Need-shared-slice-read-result-6
-shared-slice-read-result-6 c = search needs
+shared-slice-read-result-6 c = omega arith
 
 shared-slice-read-result-7 : tie.Need-shared-slice-read-result-7
-shared-slice-read-result-7 c = search needs
+shared-slice-read-result-7 c = omega arith
 
 shared-slice-read-result-8 : tie.Need-shared-slice-read-result-8
-shared-slice-read-result-8 c = search needs
+shared-slice-read-result-8 c = omega arith
 
 regroup : (a b c d e f g h : Bool) → a && b && c && d && e && f && g && h ≡ a && (b && (c && (d && (e && (f && (g && h))))))
 regroup a b c d e f g h = simp and-assoc
@@ -47,13 +47,5 @@ returns c =
 pub head-in-range-spec : {M : Type 1} → statement M
 head-in-range-spec =
     tie.close
-    (tie.spec
-    shared-slice-read-result
-    shared-slice-read-result-2
-    shared-slice-read-result-3
-    shared-slice-read-result-4
-    shared-slice-read-result-5
-    shared-slice-read-result-6
-    shared-slice-read-result-7
-    shared-slice-read-result-8
-    returns)
+    (tie.spec shared-slice-read-result shared-slice-read-result-2 shared-slice-read-result-3 shared-slice-read-result-4 shared-slice-read-result-5
+    shared-slice-read-result-6 shared-slice-read-result-7 shared-slice-read-result-8 returns)

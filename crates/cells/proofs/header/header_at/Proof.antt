@@ -11,46 +11,40 @@ use Rattle.cells.proofs.header.header_at.Statement.{statement}
 use Rattle.cells.proofs.header.header_at.Tie as tie
 
 shared-slice-read-t3 : tie.Need-shared-slice-read-t3
-shared-slice-read-t3 c = search needs
+shared-slice-read-t3 c = omega arith
 
 shared-slice-read-of : tie.Need-shared-slice-read-of
-shared-slice-read-of c = search needs
-
-of-requires : tie.Need-of-requires
-of-requires c κs = search needs
+shared-slice-read-of c = omega arith
 
 shared-slice-read-of-2 : tie.Need-shared-slice-read-of-2
-shared-slice-read-of-2 c = search needs
-
-of-requires-2 : tie.Need-of-requires-2
-of-requires-2 c κs = search needs
+shared-slice-read-of-2 c = omega arith
 
 shared-slice-read-t13 : tie.Need-shared-slice-read-t13
-shared-slice-read-t13 c = search needs
+shared-slice-read-t13 c = omega arith
 
 shared-slice-read-t16 : tie.Need-shared-slice-read-t16
-shared-slice-read-t16 c = search needs
+shared-slice-read-t16 c = omega arith
 
 cast-t17 : tie.Need-cast-t17
 unfolding cellRecord
 cast-t17 c = omega (arith, c .before .before .before .before .before .before .before .before .pre .0 .stream)
 
 shared-slice-read-t19 : tie.Need-shared-slice-read-t19
-shared-slice-read-t19 c = search needs
+shared-slice-read-t19 c = omega arith
 
 cast-t20 : tie.Need-cast-t20
 unfolding cellRecord
 cast-t20 c = omega (arith, c .before .before .before .before .before .before .before .before .before .pre .0 .did)
 
 shared-slice-read-t22 : tie.Need-shared-slice-read-t22
-shared-slice-read-t22 c = search needs
+shared-slice-read-t22 c = omega arith
 
 cast-t23 : tie.Need-cast-t23
 unfolding cellRecord
 cast-t23 c = omega (arith, c .before .before .before .before .before .before .before .before .before .before .pre .0 .sdid)
 
 shared-slice-read-t25 : tie.Need-shared-slice-read-t25
-shared-slice-read-t25 c = search needs
+shared-slice-read-t25 c = omega arith
 
 cast-t26 : tie.Need-cast-t26
 cast-t26 c =
@@ -75,19 +69,5 @@ returns c =
 pub header-at-spec : {M : Type 1} → statement M
 header-at-spec =
     tie.close
-    (tie.spec
-    shared-slice-read-t3
-    shared-slice-read-of
-    of-requires
-    shared-slice-read-of-2
-    of-requires-2
-    shared-slice-read-t13
-    shared-slice-read-t16
-    cast-t17
-    shared-slice-read-t19
-    cast-t20
-    shared-slice-read-t22
-    cast-t23
-    shared-slice-read-t25
-    cast-t26
-    returns)
+    (tie.spec shared-slice-read-t3 shared-slice-read-of (λ c κs. search needs) shared-slice-read-of-2 (λ c κs. search needs) shared-slice-read-t13
+    shared-slice-read-t16 cast-t17 shared-slice-read-t19 cast-t20 shared-slice-read-t22 cast-t23 shared-slice-read-t25 cast-t26 returns)

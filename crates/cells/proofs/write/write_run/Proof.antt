@@ -8,7 +8,7 @@ use lib.ListN.{length, length-drop}
 use Rattle.wire.specs.Bits.{overwrite, splice}
 use Rattle.wire.specs.Layout.{rfc8331}
 use Rattle.wire.specs.Anc.{ancOctets, ancSize}
-use Rattle.wire.specs.Cells.{cellCount, cellRecord, rest, readList}
+use Rattle.wire.specs.Cells.{headCells, cellCount, cellRecord, rest, readList}
 use Rattle.wire.proofs.ListLaws.{part-all, part-written}
 use Rattle.cells.specs.Answers.{listOctets}
 use Rattle.cells.proofs.ListRun.{rest-is}
@@ -22,9 +22,6 @@ Inv-loop cells octets₀ table rest₀ to₀ octets rest to =
 
 abbrev μ-loop : tie.MeasureT-loop
 μ-loop cells octets₀ table rest₀ to₀ octets rest to = length rest
-
-header-words-requires : tie.Need-header-words-requires Inv-loop μ-loop
-header-words-requires c κs = search needs
 
 loop-holds : tie.Need-loop-holds Inv-loop μ-loop
 loop-holds c =
@@ -45,7 +42,7 @@ part-write-packet-start : tie.Need-part-write-packet-start Inv-loop μ-loop
 part-write-packet-start c = omega (arith, next-here c .room)
 
 part-write-packet-end : tie.Need-part-write-packet-end Inv-loop μ-loop
-part-write-packet-end c = search needs
+part-write-packet-end c = omega arith
 
 write-packet-requires : tie.Need-write-packet-requires Inv-loop μ-loop
 write-packet-requires c κs =
@@ -57,17 +54,14 @@ write-packet-requires c κs =
 count-is : (c : tie.After-write-packet Inv-loop μ-loop) → c .write-packet .result .0 ≡ cellCount (c .before .before .before .before .loop .rest .now)
 count-is c = c .write-packet .ensures .0
 
-step-inside : (c : tie.After-write-packet Inv-loop μ-loop) → 8 + c .write-packet .result .0 ≤ length (c .before .before .before .before .loop .rest .now)
+step-inside : (c : tie.After-write-packet Inv-loop μ-loop) → headCells + c .write-packet .result .0 ≤ length (c .before .before .before .before .loop .rest .now)
 step-inside c = omega (arith, count-is c, next-here (c .before .before .before) .inside)
-
-packet-size-requires : tie.Need-packet-size-requires Inv-loop μ-loop
-packet-size-requires c κs = search needs
 
 size-is : (c : tie.After-packet-size Inv-loop μ-loop) → c .packet-size .result .0 ≡ ancSize rfc8331 (cellCount (c .before .before .before .before .before .before .before .loop .rest .now))
 size-is c = c .packet-size .ensures ∙ ap (ancSize rfc8331) (count-is (c .before .before .before))
 
 cast-step : tie.Need-cast-step Inv-loop μ-loop
-cast-step c = search needs
+cast-step c = omega arith
 
 add-step : tie.Need-add-step Inv-loop μ-loop
 add-step c = omega (arith, step-inside (c .before .before .before .before))
@@ -82,7 +76,7 @@ part-rest-start : tie.Need-part-rest-start Inv-loop μ-loop
 part-rest-start c = omega (arith, step-inside (c .before .before .before .before))
 
 part-rest-end : tie.Need-part-rest-end Inv-loop μ-loop
-part-rest-end c = search needs
+part-rest-end c = omega arith
 
 add-to : tie.Need-add-to Inv-loop μ-loop
 add-to c =
@@ -94,7 +88,7 @@ loop-less c =
     let w = c .before .before .before .before .before .before in
     let i = w .before .before .before in
     let r = i .before .loop .rest .now in
-    let k = 8 + w .write-packet .result .0 in
+    let k = headCells + w .write-packet .result .0 in
     rw (part-all k r, length-drop k r) (omega (arith, i .loop-test .taken))
 
 loop-again : tie.Need-loop-again Inv-loop μ-loop
@@ -111,9 +105,6 @@ loop-again c =
           (ap (λ (z : ℕ). l .to + z) (size-is p)) (next-here i .then),
     )
 
-same-length : tie.Need-same-length Inv-loop μ-loop
-same-length c = search needs
-
 returns : tie.Need-returns Inv-loop μ-loop
 returns c =
     let l = c .before .loop in
@@ -122,24 +113,5 @@ returns c =
 pub write-run-spec : {M : Type 1} → statement M
 write-run-spec =
     tie.close
-    (tie.spec
-    Inv-loop
-    μ-loop
-    header-words-requires
-    loop-holds
-    sub-write-packet
-    part-write-packet-start
-    part-write-packet-end
-    write-packet-requires
-    packet-size-requires
-    cast-step
-    add-step
-    mul-rest
-    sub-rest
-    part-rest-start
-    part-rest-end
-    add-to
-    loop-less
-    loop-again
-    same-length
-    returns)
+    (tie.spec Inv-loop μ-loop (λ c κs. search needs) loop-holds sub-write-packet part-write-packet-start part-write-packet-end write-packet-requires
+    (λ c κs. search needs) cast-step add-step mul-rest sub-rest part-rest-start part-rest-end add-to loop-less loop-again (λ c. search needs) returns)

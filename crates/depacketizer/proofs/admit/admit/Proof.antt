@@ -25,25 +25,10 @@ says c = found _ _ _ (sym (c .before .before .before .check .ensures) ∙ c .bef
 said : (c : tie.After-known-told) → headOf (says c .says) ≡ c .before .checked .given .0 .0 .summary .head
 said c = ap (λ (y : Outline). y .summary .head) (says c .outline)
 
-is-sound-requires : tie.Need-is-sound-requires
-is-sound-requires c κs = search needs
-
 returns : tie.Need-returns
 returns c =
     let a = c .before .before .before .args in
     rw (unsound (a .state) (a .room) (a .octets .now) (sym (c .before .is-sound .ensures) ∙ not-true _ (c .if1 .taken)))
-
-check-requires : tie.Need-check-requires
-check-requires c κs = search needs
-
-enum-known-checked : tie.Need-enum-known-checked
-enum-known-checked c = search needs
-
-enum-told : tie.Need-enum-told
-enum-told c = search needs
-
-refusal-requires : tie.Need-refusal-requires
-refusal-requires c κs = search needs
 
 returns-2 : tie.Need-returns-2
 returns-2 c =
@@ -86,14 +71,5 @@ returns-5 c =
 pub admit-spec : {M : Type 1} → statement M
 admit-spec =
     tie.close
-    (tie.spec
-    is-sound-requires
-    returns
-    check-requires
-    enum-known-checked
-    enum-told
-    refusal-requires
-    returns-2
-    returns-3
-    returns-4
-    returns-5)
+    (tie.spec (λ c κs. search needs) returns (λ c κs. search needs) (λ c. search needs) (λ c. search needs) (λ c κs. search needs) returns-2 returns-3
+    returns-4 returns-5)

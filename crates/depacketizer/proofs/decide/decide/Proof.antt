@@ -4,17 +4,12 @@ use borrow.Author.Needs.{needs}
 use Rattle.depacketizer.proofs.decide.decide.Statement.{statement}
 use Rattle.depacketizer.proofs.decide.decide.Tie as tie
 
-follow-requires : tie.Need-follow-requires
-follow-requires c κs = search needs
-
 returns : tie.Need-returns
 returns c = rw (c .follow .ensures, c .before .if1 .taken)
-
-dropped-requires : tie.Need-dropped-requires
-dropped-requires c κs = search needs
 
 returns-2 : tie.Need-returns-2
 returns-2 c = rw (c .dropped .ensures, c .before .before .if1 .left)
 
 pub decide-spec : {M : Type 1} → statement M
-decide-spec = tie.close (tie.spec follow-requires returns dropped-requires returns-2)
+decide-spec = tie.close
+    (tie.spec (λ c κs. search needs) returns (λ c κs. search needs) returns-2)

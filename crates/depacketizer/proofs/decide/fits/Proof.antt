@@ -8,4 +8,5 @@ returns : tie.Need-returns
 returns c = refl
 
 pub fits-spec : {M : Type 1} → statement M
-fits-spec = tie.close (tie.spec returns)
+fits-spec = tie.close
+    (tie.spec returns)

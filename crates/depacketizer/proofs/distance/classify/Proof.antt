@@ -2,17 +2,15 @@
 -- By the sign of the distance.
 use borrow.Author.Needs.{needs}
 use mathlib.Core.Path.{_≡_, ap, sym, subst, _∙_}
-use mathlib.Core.Bool.{true, false}
-use Prim.Native.Nat.{ℕ}
+use mathlib.Core.Bool.{false}
 use borrow.Author.Tests.{not-true, not-false}
 use lib.IntN.{ℤ, pos, _-ℤ_, natAbs}
-use lib.Signed.{leZ, nonNeg}
+use lib.Signed.{leZ}
 use native.Mathlib.Omega.{arith}
-use mir.Facts.{toZ-ofZ, fits-natAbs}
+use mir.Facts.{toZ-ofZ}
 use mir.Syntax.{w32}
 use mir.Val.{toZ, ofZ, SFits}
-use Rattle.depacketizer.specs.Step as step
-use Rattle.depacketizer.specs.declared.distance.Place.the-variants as place
+use Rattle.depacketizer.specs.declared.distance.Freshness.the-variants as freshness
 use Rattle.depacketizer.proofs.SignedLaws.{late-is, next-is, Gap, gap-is}
 use Rattle.depacketizer.proofs.distance.classify.Statement.{statement}
 use Rattle.depacketizer.proofs.distance.classify.Tie as tie
@@ -38,9 +36,6 @@ less-back c = ap (λ (z : ℤ). toZ w32 (ofZ w32 z)) (one-less c) ∙ toZ-ofZ (f
 returns : tie.Need-returns
 returns c = rw (not-true (c .before .args .heard) (c .if1 .taken))
 
-distance-requires : tie.Need-distance-requires
-distance-requires c κs = search needs
-
 returns-2 : tie.Need-returns-2
 returns-2 c =
     let d = c .before .distance in
@@ -62,8 +57,9 @@ returns-4 : tie.Need-returns-4
 returns-4 c =
     let d = c .before .before .distance in
     rw (not-false (c .before .before .before .before .args .heard) (c .before .before .before .if1 .left), ← d .ensures, found c .class)
-    (ap (λ (z : ℤ). place.Fresh (natAbs z) false) (less-back c))
+    (ap (λ (z : ℤ). freshness.Fresh (natAbs z) false) (less-back c))
 
 pub classify-spec : {M : Type 1} → statement M
 classify-spec =
-    tie.close (tie.spec returns distance-requires returns-2 returns-3 sub-t6 cast-t7 returns-4)
+    tie.close
+    (tie.spec returns (λ c κs. search needs) returns-2 returns-3 sub-t6 cast-t7 returns-4)

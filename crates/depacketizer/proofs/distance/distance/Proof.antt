@@ -8,15 +8,6 @@ use Rattle.depacketizer.proofs.SignedLaws.{less-fits, less-cast, less-s
 use Rattle.depacketizer.proofs.distance.distance.Statement.{statement}
 use Rattle.depacketizer.proofs.distance.distance.Tie as tie
 
-wrapping-sub-u32-requires : tie.Need-wrapping-sub-u32-requires
-wrapping-sub-u32-requires c κs = search needs
-
-cast-result : tie.Need-cast-result
-cast-result c = search needs
-
-cast-result-2 : tie.Need-cast-result-2
-cast-result-2 c = search needs
-
 sub-result : tie.Need-sub-result
 sub-result c = less-fits (c .before .wrapping-sub-u32 .result) (omega arith)
 
@@ -38,11 +29,4 @@ returns-2 c =
 pub distance-spec : {M : Type 1} → statement M
 distance-spec =
     tie.close
-    (tie.spec
-    wrapping-sub-u32-requires
-    cast-result
-    cast-result-2
-    sub-result
-    cast-result-3
-    returns
-    returns-2)
+    (tie.spec (λ c κs. search needs) (λ c. search needs) (λ c. search needs) sub-result cast-result-3 returns returns-2)

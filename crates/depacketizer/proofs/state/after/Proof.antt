@@ -4,14 +4,9 @@ use borrow.Author.Needs.{needs}
 use Rattle.depacketizer.proofs.state.after.Statement.{statement}
 use Rattle.depacketizer.proofs.state.after.Tie as tie
 
-increased-requires : tie.Need-increased-requires
-increased-requires c κs = search needs
-
-increased-requires-2 : tie.Need-increased-requires-2
-increased-requires-2 c κs = search needs
-
 returns : tie.Need-returns
 returns c = rw (c .before .increased .ensures, c .increased2 .ensures)
 
 pub after-spec : {M : Type 1} → statement M
-after-spec = tie.close (tie.spec increased-requires increased-requires-2 returns)
+after-spec = tie.close
+    (tie.spec (λ c κs. search needs) (λ c κs. search needs) returns)

@@ -4,11 +4,9 @@ use borrow.Author.Needs.{needs}
 use Rattle.depacketizer.proofs.state.later.Statement.{statement}
 use Rattle.depacketizer.proofs.state.later.Tie as tie
 
-increased-requires : tie.Need-increased-requires
-increased-requires c κs = search needs
-
 returns : tie.Need-returns
 returns c = rw (c .increased .ensures)
 
 pub later-spec : {M : Type 1} → statement M
-later-spec = tie.close (tie.spec increased-requires returns)
+later-spec = tie.close
+    (tie.spec (λ c κs. search needs) returns)

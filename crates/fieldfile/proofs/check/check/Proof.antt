@@ -26,35 +26,11 @@ offset-passed c = stage-passed (offsetChecks (c .before .before .before .before 
 inside : (c : tie.After-enum-told3) → c .before .before .before .before .before .before .before .args .at .0 ≤ length (c .before .before .before .before .before .before .before .args .file .now)
 inside c = offset-there (c .before .before .before .before .before .before .before .args .file .now) (c .before .before .before .before .before .before .before .args .at .0) (offset-passed c)
 
-check-file-requires : tie.Need-check-file-requires
-check-file-requires c κs = search needs
-
-enum-told : tie.Need-enum-told
-enum-told c = search needs
-
-enum-told-2 : tie.Need-enum-told-2
-enum-told-2 c = search needs
-
-refusal-requires : tie.Need-refusal-requires
-refusal-requires c κs = search needs
-
 returns : tie.Need-returns
 returns c =
     let a = c .before .before .before .before .before .args in
     let t = c .before .enum-told2 .given in
     rw (refused-file (a .file .now) (a .at .0) _ (sym (c .before .before .before .check-file .ensures) ∙ t .1)) (ap read.Refused (c .refusal .ensures ∙ ap stageRefusal (t .1)))
-
-check-offset-requires : tie.Need-check-offset-requires
-check-offset-requires c κs = search needs
-
-enum-told-3 : tie.Need-enum-told-3
-enum-told-3 c = search needs
-
-enum-told-4 : tie.Need-enum-told-4
-enum-told-4 c = search needs
-
-refusal-requires-2 : tie.Need-refusal-requires-2
-refusal-requires-2 c κs = search needs
 
 returns-2 : tie.Need-returns-2
 returns-2 c =
@@ -68,12 +44,6 @@ sub-check-front c = inside c
 part-check-front-start : tie.Need-part-check-front-start
 part-check-front-start c = inside c
 
-part-check-front-end : tie.Need-part-check-front-end
-part-check-front-end c = search needs
-
-check-front-requires : tie.Need-check-front-requires
-check-front-requires c κs = search needs
-
 returns-3 : tie.Need-returns-3
 returns-3 c =
     let a = c .before .before .before .before .before .before .before .before .before .args in
@@ -84,19 +54,5 @@ returns-3 c =
 pub check-spec : {M : Type 1} → statement M
 check-spec =
     tie.close
-    (tie.spec
-    check-file-requires
-    enum-told
-    enum-told-2
-    refusal-requires
-    returns
-    check-offset-requires
-    enum-told-3
-    enum-told-4
-    refusal-requires-2
-    returns-2
-    sub-check-front
-    part-check-front-start
-    part-check-front-end
-    check-front-requires
-    returns-3)
+    (tie.spec (λ c κs. search needs) (λ c. search needs) (λ c. search needs) (λ c κs. search needs) returns (λ c κs. search needs) (λ c. search needs)
+    (λ c. search needs) (λ c κs. search needs) returns-2 sub-check-front part-check-front-start (λ c. search needs) (λ c κs. search needs) returns-3)

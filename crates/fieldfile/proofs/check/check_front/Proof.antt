@@ -12,7 +12,7 @@ use Rattle.wire.proofs.ResultLaws.{Passed}
 use Rattle.wire.proofs.ListLaws.{part-all}
 use Rattle.wire.proofs.Window.{below-all}
 use Rattle.anc.specs.Answers.{runOf, runRefusal}
-use Rattle.fieldfile.specs.File.{fieldHeaderSize, countField, headerChecks}
+use Rattle.fieldfile.specs.File.{fieldHeaderSize, countField, fieldHeaderChecks}
 use Rattle.fieldfile.specs.Answers.{stageRefusal}
 use Rattle.fieldfile.specs.declared.field.FieldRead.the-variants as read
 use Rattle.fieldfile.proofs.HeadFields.{f-at, count-at}
@@ -23,8 +23,8 @@ use Rattle.fieldfile.proofs.check.check_front.Statement.{statement}
 use Rattle.fieldfile.proofs.check.check_front.Tie as tie
 
 -- the header's stage passed
-passed : (c : tie.After-enum-told) → Passed (headerChecks (c .before .before .before .before .args .octets .now))
-passed c = stage-passed (headerChecks (c .before .before .before .before .args .octets .now)) (sym (c .before .before .check-header .ensures) ∙ c .enum-told .given .1)
+passed : (c : tie.After-enum-told) → Passed (fieldHeaderChecks (c .before .before .before .before .args .octets .now))
+passed c = stage-passed (fieldHeaderChecks (c .before .before .before .before .args .octets .now)) (sym (c .before .before .check-header .ensures) ∙ c .enum-told .given .1)
 
 -- what the run was checked on
 ran : (c : tie.After-check-run) → let s = c .before .before .before .before .before .before .before .args .octets .now in runOf (readRun rfc8331 0 (countField s) (drop fieldHeaderSize s)) ≡ c .check-run .result
@@ -38,18 +38,6 @@ fits : (c : tie.After-known-told) → fieldHeaderSize + c .before .run .given .0
 fits c =
     let s = c .before .before .before .before .before .before .before .before .before .before .args .octets .now in
     run-fits s (passed (c .before .before .before .before .before .before)) (below-all s (λ j. c .before .before .before .before .before .before .before .before .before .shared-slice-known .given j .fits)) _ _ (ran (c .before .before .before) ∙ c .before .run .given .1)
-
-check-header-requires : tie.Need-check-header-requires
-check-header-requires c κs = search needs
-
-enum-told : tie.Need-enum-told
-enum-told c = search needs
-
-enum-told-2 : tie.Need-enum-told-2
-enum-told-2 c = search needs
-
-refusal-requires : tie.Need-refusal-requires
-refusal-requires c κs = search needs
 
 returns : tie.Need-returns
 returns c =
@@ -65,21 +53,6 @@ sub-check-run c = header-there (c .before .before .before .before .before .args 
 
 part-check-run-start : tie.Need-part-check-run-start
 part-check-run-start c = header-there (c .before .before .before .before .before .args .octets .now) (passed (c .before))
-
-part-check-run-end : tie.Need-part-check-run-end
-part-check-run-end c = search needs
-
-check-run-requires : tie.Need-check-run-requires
-check-run-requires c κs = search needs
-
-enum-known-run : tie.Need-enum-known-run
-enum-known-run c = search needs
-
-enum-told-3 : tie.Need-enum-told-3
-enum-told-3 c = search needs
-
-refusal-requires-2 : tie.Need-refusal-requires-2
-refusal-requires-2 c κs = search needs
 
 returns-2 : tie.Need-returns-2
 returns-2 c =
@@ -117,24 +90,6 @@ returns-4 c =
 pub check-front-spec : {M : Type 1} → statement M
 check-front-spec =
     tie.close
-    (tie.spec
-    check-header-requires
-    enum-told
-    enum-told-2
-    refusal-requires
-    returns
-    shared-slice-read-count
-    sub-check-run
-    part-check-run-start
-    part-check-run-end
-    check-run-requires
-    enum-known-run
-    enum-told-3
-    refusal-requires-2
-    returns-2
-    returns-3
-    quad-at-requires
-    shared-slice-read-t10
-    add-t12
-    add-t21
-    returns-4)
+    (tie.spec (λ c κs. search needs) (λ c. search needs) (λ c. search needs) (λ c κs. search needs) returns shared-slice-read-count sub-check-run
+    part-check-run-start (λ c. search needs) (λ c κs. search needs) (λ c. search needs) (λ c. search needs) (λ c κs. search needs) returns-2 returns-3
+    quad-at-requires shared-slice-read-t10 add-t12 add-t21 returns-4)

@@ -10,21 +10,12 @@ use Rattle.fieldfile.specs.File.{nameSize, fileHeadSize, fileVersion, fi
 use Rattle.fieldfile.proofs.stage.check_file.Statement.{statement}
 use Rattle.fieldfile.proofs.stage.check_file.Tie as tie
 
-refuse-requires : tie.Need-refuse-requires
-refuse-requires c κs = search needs
-
 returns : tie.Need-returns
 unfolding fileChecks
 returns c =
     let s = c .before .before .before .args .file .now in
     let h1 = lt-leb nameSize (length s) (c .before .if1 .taken) in
     rw (c .refuse .ensures, h1)
-
-name-ok-requires : tie.Need-name-ok-requires
-name-ok-requires c κs = search needs
-
-refuse-requires-2 : tie.Need-refuse-requires-2
-refuse-requires-2 c κs = search needs
 
 returns-2 : tie.Need-returns-2
 unfolding fileChecks
@@ -34,9 +25,6 @@ returns-2 c =
     let h2 = sym (c .before .before .name-ok .ensures) ∙ not-true _ (c .before .if2 .taken) in
     rw (c .refuse2 .ensures, h1, h2)
 
-refuse-requires-3 : tie.Need-refuse-requires-3
-refuse-requires-3 c κs = search needs
-
 returns-3 : tie.Need-returns-3
 unfolding fileChecks
 returns-3 c =
@@ -45,12 +33,6 @@ returns-3 c =
     let h2 = sym (c .before .before .before .name-ok .ensures) ∙ not-false _ (c .before .before .if2 .left) in
     let h3 = lt-leb fileHeadSize (length s) (c .before .if3 .taken) in
     rw (c .refuse3 .ensures, h1, h2, h3)
-
-pair-at-requires : tie.Need-pair-at-requires
-pair-at-requires c κs = search needs
-
-refuse-requires-4 : tie.Need-refuse-requires-4
-refuse-requires-4 c κs = search needs
 
 returns-4 : tie.Need-returns-4
 unfolding fileChecks
@@ -75,15 +57,5 @@ returns-5 c =
 pub check-file-spec : {M : Type 1} → statement M
 check-file-spec =
     tie.close
-    (tie.spec
-    refuse-requires
-    returns
-    name-ok-requires
-    refuse-requires-2
-    returns-2
-    refuse-requires-3
-    returns-3
-    pair-at-requires
-    refuse-requires-4
-    returns-4
-    returns-5)
+    (tie.spec (λ c κs. search needs) returns (λ c κs. search needs) (λ c κs. search needs) returns-2 (λ c κs. search needs) returns-3
+    (λ c κs. search needs) (λ c κs. search needs) returns-4 returns-5)

@@ -4,32 +4,20 @@ use borrow.Author.Needs.{needs}
 use mathlib.Core.Path.{ap, sym, _∙_}
 use borrow.Author.Tests.{le-leb, lt-leb, not-true, not-false}
 use lib.ListN.{length}
-use Rattle.fieldfile.specs.File.{fieldHeaderSize, fileFOk, headerChecks}
+use Rattle.fieldfile.specs.File.{fieldHeaderSize, fileFOk, fieldHeaderChecks}
 use Rattle.fieldfile.proofs.HeadFields.{f-at}
 use Rattle.fieldfile.proofs.stage.check_header.Statement.{statement}
 use Rattle.fieldfile.proofs.stage.check_header.Tie as tie
 
-refuse-requires : tie.Need-refuse-requires
-refuse-requires c κs = search needs
-
 returns : tie.Need-returns
-unfolding headerChecks
+unfolding fieldHeaderChecks
 returns c =
     let s = c .before .before .before .args .octets .now in
     let h1 = lt-leb fieldHeaderSize (length s) (c .before .if1 .taken) in
     rw (c .refuse .ensures, h1)
 
-shared-slice-read-f-ok : tie.Need-shared-slice-read-f-ok
-shared-slice-read-f-ok c = search needs
-
-f-ok-requires : tie.Need-f-ok-requires
-f-ok-requires c κs = search needs
-
-refuse-requires-2 : tie.Need-refuse-requires-2
-refuse-requires-2 c κs = search needs
-
 returns-2 : tie.Need-returns-2
-unfolding headerChecks
+unfolding fieldHeaderChecks
 returns-2 c =
     let s = c .before .before .before .before .before .before .args .octets .now in
     let h1 = le-leb fieldHeaderSize (length s) (c .before .before .before .before .if1 .left) in
@@ -38,7 +26,7 @@ returns-2 c =
     rw (c .refuse2 .ensures, h1, h2)
 
 returns-3 : tie.Need-returns-3
-unfolding headerChecks
+unfolding fieldHeaderChecks
 returns-3 c =
     let s = c .before .before .before .before .before .args .octets .now in
     let h1 = le-leb fieldHeaderSize (length s) (c .before .before .before .if1 .left) in
@@ -49,11 +37,4 @@ returns-3 c =
 pub check-header-spec : {M : Type 1} → statement M
 check-header-spec =
     tie.close
-    (tie.spec
-    refuse-requires
-    returns
-    shared-slice-read-f-ok
-    f-ok-requires
-    refuse-requires-2
-    returns-2
-    returns-3)
+    (tie.spec (λ c κs. search needs) returns (λ c. search needs) (λ c κs. search needs) (λ c κs. search needs) returns-2 returns-3)

@@ -8,20 +8,11 @@ use Rattle.fieldfile.specs.File.{offsetChecks}
 use Rattle.fieldfile.proofs.stage.check_offset.Statement.{statement}
 use Rattle.fieldfile.proofs.stage.check_offset.Tie as tie
 
-offset-ok-requires : tie.Need-offset-ok-requires
-offset-ok-requires c κs = search needs
-
-refuse-requires : tie.Need-refuse-requires
-refuse-requires c κs = search needs
-
 returns : tie.Need-returns
 unfolding offsetChecks
 returns c =
     let h1 = sym (c .before .before .offset-ok .ensures) ∙ not-true _ (c .before .if1 .taken) in
     rw (c .refuse .ensures, h1)
-
-refuse-requires-2 : tie.Need-refuse-requires-2
-refuse-requires-2 c κs = search needs
 
 returns-2 : tie.Need-returns-2
 unfolding offsetChecks
@@ -42,4 +33,4 @@ returns-3 c =
 pub check-offset-spec : {M : Type 1} → statement M
 check-offset-spec =
     tie.close
-    (tie.spec offset-ok-requires refuse-requires returns refuse-requires-2 returns-2 returns-3)
+    (tie.spec (λ c κs. search needs) (λ c κs. search needs) returns (λ c κs. search needs) returns-2 returns-3)

@@ -8,4 +8,5 @@ returns : tie.Need-returns
 returns c = refl
 
 pub f-ok-spec : {M : Type 1} → statement M
-f-ok-spec = tie.close (tie.spec returns)
+f-ok-spec = tie.close
+    (tie.spec returns)

@@ -8,4 +8,5 @@ returns : tie.Need-returns
 returns c = refl
 
 pub offset-ok-spec : {M : Type 1} → statement M
-offset-ok-spec = tie.close (tie.spec returns)
+offset-ok-spec = tie.close
+    (tie.spec returns)

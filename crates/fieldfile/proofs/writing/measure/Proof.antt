@@ -10,25 +10,10 @@ use Rattle.fieldfile.proofs.WriteLaws.{taken, listed-refused, small, re
 use Rattle.fieldfile.proofs.writing.measure.Statement.{statement}
 use Rattle.fieldfile.proofs.writing.measure.Tie as tie
 
-f-ok-requires : tie.Need-f-ok-requires
-f-ok-requires c κs = search needs
-
-refuse-requires : tie.Need-refuse-requires
-refuse-requires c κs = search needs
-
 returns : tie.Need-returns
 returns c =
     let a = c .before .before .before .before .args in
     c .refuse .ensures ∙ ap listedOf (sym (refused-f (a .f) (a .cells .now) (a .room) (sym (c .before .before .f-ok .ensures) ∙ not-true _ (c .before .if1 .taken))))
-
-check-list-requires : tie.Need-check-list-requires
-check-list-requires c κs = search needs
-
-enum-known-listed : tie.Need-enum-known-listed
-enum-known-listed c = search needs
-
-enum-told : tie.Need-enum-told
-enum-told c = search needs
 
 returns-2 : tie.Need-returns-2
 returns-2 c =
@@ -37,18 +22,12 @@ returns-2 c =
     let t = c .enum-told .given in
     t .1 ∙ ap listedOf (sym (refused-list (a .f) (a .cells .now) (a .room) ok _ (listed-refused (readList (a .cells .now)) _ (sym (c .before .before .check-list .ensures) ∙ t .1))))
 
-refuse-requires-2 : tie.Need-refuse-requires-2
-refuse-requires-2 c κs = search needs
-
 returns-3 : tie.Need-returns-3
 returns-3 c =
     let a = c .before .before .before .before .before .before .before .before .before .args in
     let ok = sym (c .before .before .before .before .before .before .before .f-ok .ensures) ∙ not-false _ (c .before .before .before .before .before .before .if1 .left) in
     let t = taken (readList (a .cells .now)) _ _ (sym (c .before .before .before .before .before .check-list .ensures) ∙ c .before .before .before .listed .given .1) in
     c .refuse2 .ensures ∙ ap listedOf (sym (over-records (a .f) (a .cells .now) (a .room) ok (t .rs) (t .reads) (omega (arith, t .count, c .before .if2 .taken))))
-
-refuse-requires-3 : tie.Need-refuse-requires-3
-refuse-requires-3 c κs = search needs
 
 returns-4 : tie.Need-returns-4
 returns-4 c =
@@ -62,9 +41,6 @@ add-if4 c =
     let a = c .before .before .before .before .before .before .before .before .before .before .args in
     let t = taken (readList (a .cells .now)) _ _ (sym (c .before .before .before .before .before .before .check-list .ensures) ∙ c .before .before .before .before .listed .given .1) in
     omega (arith, small (a .cells .now) (t .rs) (t .reads) (c .before .if3 .left), t .size)
-
-refuse-requires-4 : tie.Need-refuse-requires-4
-refuse-requires-4 c κs = search needs
 
 returns-5 : tie.Need-returns-5
 returns-5 c =
@@ -83,19 +59,5 @@ returns-6 c =
 pub measure-spec : {M : Type 1} → statement M
 measure-spec =
     tie.close
-    (tie.spec
-    f-ok-requires
-    refuse-requires
-    returns
-    check-list-requires
-    enum-known-listed
-    enum-told
-    returns-2
-    refuse-requires-2
-    returns-3
-    refuse-requires-3
-    returns-4
-    add-if4
-    refuse-requires-4
-    returns-5
-    returns-6)
+    (tie.spec (λ c κs. search needs) (λ c κs. search needs) returns (λ c κs. search needs) (λ c. search needs) (λ c. search needs) returns-2
+    (λ c κs. search needs) returns-3 (λ c κs. search needs) returns-4 add-if4 (λ c κs. search needs) returns-5 returns-6)

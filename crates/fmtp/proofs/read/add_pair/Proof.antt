@@ -6,17 +6,12 @@ use Rattle.sdp.specs.Text.{maxPairs}
 use Rattle.fmtp.proofs.read.add_pair.Statement.{statement}
 use Rattle.fmtp.proofs.read.add_pair.Tie as tie
 
-refuse-requires : tie.Need-refuse-requires
-refuse-requires c κs = search needs
-
 returns : tie.Need-returns
 returns c = rw (c .refuse .ensures, le-ltb (c .before .before .before .args .found .pairs) maxPairs (c .before .if1 .taken))
-
-add-t5 : tie.Need-add-t5
-add-t5 c = search needs
 
 returns-2 : tie.Need-returns-2
 returns-2 c = rw (lt-ltb (c .before .before .before .args .found .pairs) maxPairs (c .before .if1 .left))
 
 pub add-pair-spec : {M : Type 1} → statement M
-add-pair-spec = tie.close (tie.spec refuse-requires returns add-t5 returns-2)
+add-pair-spec = tie.close
+    (tie.spec (λ c κs. search needs) returns (λ c. search needs) returns-2)

@@ -28,32 +28,17 @@ bit-most n false = omega arith
 loop-holds : tie.Need-loop-holds Inv-loop μ-loop
 loop-holds c = (bit-most (length (c .before .args .text .now)) (ltb 0 (length (c .before .args .text .now))), ap (gather 0 none) (left-all (c .before .args .text .now)))
 
-next-item-requires : tie.Need-next-item-requires Inv-loop μ-loop
-next-item-requires c κs = search needs
-
-add-item-requires : tie.Need-add-item-requires Inv-loop μ-loop
-add-item-requires c κs = search needs
-
-enum-known-reading : tie.Need-enum-known-reading Inv-loop μ-loop
-enum-known-reading c = search needs
-
 returns : tie.Need-returns Inv-loop μ-loop
 returns c =
     let l = c .before .before .before .before .before .before .loop in
     sym (gather-refused (l .rest .now) _ (c .before .before .before .before .next-item .ensures) (l .index) (l .found) _ (sym (c .before .before .before .add-item .ensures) ∙ c .before .reading .given .1))
     ∙ ap readingOf (ap (λ (m : Bool). gather (l .index) (l .found) (left m (l .rest .now))) (sym (c .before .before .before .before .before .loop-test .taken)) ∙ l .inv .1)
 
-enum-known-reading-2 : tie.Need-enum-known-reading-2 Inv-loop μ-loop
-enum-known-reading-2 c = search needs
-
 sub-rest : tie.Need-sub-rest Inv-loop μ-loop
 sub-rest c = c .before .before .before .before .next-item .ensures .inside
 
 part-rest-start : tie.Need-part-rest-start Inv-loop μ-loop
 part-rest-start c = c .before .before .before .before .next-item .ensures .inside
-
-part-rest-end : tie.Need-part-rest-end Inv-loop μ-loop
-part-rest-end c = search needs
 
 add-index : tie.Need-add-index Inv-loop μ-loop
 add-index c = let l = c .before .before .before .before .before .before .before .loop in omega (arith, l .inv .0, ap bit (c .before .before .before .before .before .before .loop-test .taken))
@@ -75,19 +60,5 @@ returns-2 c = let l = c .before .loop in ap readingOf (ap (λ (m : Bool). gather
 pub check-items-spec : {M : Type 1} → statement M
 check-items-spec =
     tie.close
-    (tie.spec
-    Inv-loop
-    μ-loop
-    loop-holds
-    next-item-requires
-    add-item-requires
-    enum-known-reading
-    returns
-    enum-known-reading-2
-    sub-rest
-    part-rest-start
-    part-rest-end
-    add-index
-    loop-less
-    loop-again
-    returns-2)
+    (tie.spec Inv-loop μ-loop loop-holds (λ c κs. search needs) (λ c κs. search needs) (λ c. search needs) returns (λ c. search needs) sub-rest
+    part-rest-start (λ c. search needs) add-index loop-less loop-again returns-2)

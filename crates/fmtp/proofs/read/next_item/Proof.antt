@@ -58,14 +58,8 @@ module _ (s : List ℕ) (n : ℕ) (x : Item) (same : n ≡ length (front s)) (it
               ∙ ap (λ (m : ℕ). skipSpaces (drop (m + 1) s)) same;
         }
 
-front-length-requires : tie.Need-front-length-requires
-front-length-requires c κs = search needs
-
 slice-aggregate-read-item : tie.Need-slice-aggregate-read-item
 slice-aggregate-read-item c = sym (length-take-le (c .before .front-length .result) (c .before .before .before .args .text .now) (let e = (c .before .front-length .ensures) in omega (arith, front-inside (c .before .before .before .args .text .now))))
-
-read-item-requires : tie.Need-read-item-requires
-read-item-requires c κs = search needs
 
 returns : tie.Need-returns
 returns c = last _ _ _ (c .before .before .before .front-length .ensures) (c .before .read-item .ensures) (c .if1 .taken)
@@ -79,12 +73,6 @@ sub-spaces c = below _ _ _ (c .before .before .before .front-length .ensures) (c
 part-spaces-start : tie.Need-part-spaces-start
 part-spaces-start c = below _ _ _ (c .before .before .before .front-length .ensures) (c .before .read-item .ensures) (c .if1 .left)
 
-part-spaces-end : tie.Need-part-spaces-end
-part-spaces-end c = search needs
-
-spaces-requires : tie.Need-spaces-requires
-spaces-requires c κs = search needs
-
 add-used : tie.Need-add-used
 add-used c = let b = below (c .before .before .before .before .before .before .before .args .text .now) _ _ (c .before .before .before .before .before .front-length .ensures) (c .before .before .before .read-item .ensures) (c .before .before .if1 .left) in omega (arith, part-length (c .before .before .before .before .before .before .before .args .text .now) _ _ (c .before .before .before .before .before .front-length .ensures) (c .before .before .before .read-item .ensures) (c .before .before .if1 .left), c .spaces .ensures .0)
 
@@ -94,15 +82,5 @@ returns-2 c = another _ _ _ (c .before .before .before .before .before .front-le
 pub next-item-spec : {M : Type 1} → statement M
 next-item-spec =
     tie.close
-    (tie.spec
-    front-length-requires
-    slice-aggregate-read-item
-    read-item-requires
-    returns
-    add-start
-    sub-spaces
-    part-spaces-start
-    part-spaces-end
-    spaces-requires
-    add-used
-    returns-2)
+    (tie.spec (λ c κs. search needs) slice-aggregate-read-item (λ c κs. search needs) returns add-start sub-spaces part-spaces-start
+    (λ c. search needs) (λ c κs. search needs) add-used returns-2)

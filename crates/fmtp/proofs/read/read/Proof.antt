@@ -62,20 +62,8 @@ module _ (s old : List ℕ) (short : length s ≤ maxText) where
     all : p .pairs ≤ length old / 2 → (new : List ℕ) → new ≡ overwrite (pairsOf (items s)) old → Answers (reading.Accepted p) s new old
     all h new e = let a = answers s old _ (content h) in (counted ∙ a .0, e ∙ a .1)
 
-refuse-requires : tie.Need-refuse-requires
-refuse-requires c κs = search needs
-
 returns : tie.Need-returns
 returns c = rw (c .refuse .ensures) (answers (c .before .before .before .before .args .text .now) (c .before .before .before .before .args .pairs .now) _ (too-long (c .before .before .before .before .args .text .now) (c .before .before .before .before .args .pairs .now) (c .before .if1 .taken)))
-
-check-items-requires : tie.Need-check-items-requires
-check-items-requires c κs = search needs
-
-enum-known-reading : tie.Need-enum-known-reading
-enum-known-reading c = search needs
-
-enum-told : tie.Need-enum-told
-enum-told c = search needs
 
 returns-2 : tie.Need-returns-2
 returns-2 c =
@@ -83,17 +71,11 @@ returns-2 c =
     let x = c .enum-told .given .1 in
     rw x (answers (c .before .before .before .before .before .before .args .text .now) (c .before .before .before .before .before .before .args .pairs .now) _ (offends (c .before .before .before .before .before .before .args .text .now) (c .before .before .before .before .before .before .args .pairs .now) (c .before .before .before .if1 .left) _ (sym e ∙ x)))
 
-refuse-requires-2 : tie.Need-refuse-requires-2
-refuse-requires-2 c κs = search needs
-
 returns-3 : tie.Need-returns-3
 returns-3 c = rw (c .refuse2 .ensures) (answers (c .before .before .before .before .before .before .before .before .before .before .args .text .now) (c .before .before .before .before .before .before .before .before .before .before .args .pairs .now) _ (no-room (c .before .before .before .before .before .before .before .before .before .before .args .text .now) (c .before .before .before .before .before .before .before .before .before .before .args .pairs .now) (c .before .before .before .before .before .before .before .if1 .left) _ (sym (c .before .before .before .before .before .before .check-items .ensures) ∙ c .before .before .before .before .reading .given .1) (c .before .if2 .taken)))
 
 store-pairs-requires : tie.Need-store-pairs-requires
 store-pairs-requires c κs = fits (c .before .before .before .before .before .before .before .before .before .before .args .text .now) (c .before .before .before .before .before .before .before .before .before .before .args .pairs .now) (c .before .before .before .before .before .before .before .if1 .left) _ (sym (c .before .before .before .before .before .before .check-items .ensures) ∙ c .before .before .before .before .reading .given .1) (c .before .if2 .left)
-
-same-length : tie.Need-same-length
-same-length c = search needs
 
 returns-4 : tie.Need-returns-4
 returns-4 c = all (c .before .before .before .before .before .before .before .before .before .before .before .before .before .args .text .now) (c .before .before .before .before .before .before .before .before .before .before .before .before .before .args .pairs .now) (c .before .before .before .before .before .before .before .before .before .before .if1 .left) _ (sym (c .before .before .before .before .before .before .before .before .before .check-items .ensures) ∙ c .before .before .before .before .before .before .before .reading .given .1) (c .before .before .before .before .if2 .left) _ (c .before .before .store-pairs .ensures)
@@ -101,15 +83,5 @@ returns-4 c = all (c .before .before .before .before .before .before .before .be
 pub read-spec : {M : Type 1} → statement M
 read-spec =
     tie.close
-    (tie.spec
-    refuse-requires
-    returns
-    check-items-requires
-    enum-known-reading
-    enum-told
-    returns-2
-    refuse-requires-2
-    returns-3
-    store-pairs-requires
-    same-length
-    returns-4)
+    (tie.spec (λ c κs. search needs) returns (λ c κs. search needs) (λ c. search needs) (λ c. search needs) returns-2 (λ c κs. search needs) returns-3
+    store-pairs-requires (λ c. search needs) returns-4)

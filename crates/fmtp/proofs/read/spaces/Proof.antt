@@ -15,20 +15,8 @@ Inv-loop text i₀ i = (i ≤ length text) × (skipSpaces (drop i text) ≡ skip
 abbrev μ-loop : tie.MeasureT-loop
 μ-loop text i₀ i = length text - i
 
-loop-holds : tie.Need-loop-holds Inv-loop μ-loop
-loop-holds c = search needs
-
-shared-slice-read-if1 : tie.Need-shared-slice-read-if1 Inv-loop μ-loop
-shared-slice-read-if1 c = search needs
-
 returns : tie.Need-returns Inv-loop μ-loop
 returns c = let l = c .before .before .before .loop in (search needs, sym (skip-stops _ (l .i) (c .before .before .loop-test .taken) (c .if1 .taken)) ∙ l .inv .1)
-
-add-i : tie.Need-add-i Inv-loop μ-loop
-add-i c = search needs
-
-loop-less : tie.Need-loop-less Inv-loop μ-loop
-loop-less c = search needs
 
 loop-again : tie.Need-loop-again Inv-loop μ-loop
 loop-again c = let l = c .before .before .before .loop in (search needs, sym (skip-goes _ (l .i) (c .before .before .loop-test .taken) (c .if1 .left)) ∙ l .inv .1)
@@ -39,13 +27,4 @@ returns-2 c = let l = c .before .loop in (search needs, sym (skip-ends _ (l .i) 
 pub spaces-spec : {M : Type 1} → statement M
 spaces-spec =
     tie.close
-    (tie.spec
-    Inv-loop
-    μ-loop
-    loop-holds
-    shared-slice-read-if1
-    returns
-    add-i
-    loop-less
-    loop-again
-    returns-2)
+    (tie.spec Inv-loop μ-loop (λ c. search needs) (λ c. search needs) returns (λ c. search needs) (λ c. search needs) loop-again returns-2)

@@ -28,32 +28,11 @@ pair : (x : Item) (did sdid to : ℕ) (l : List ℕ) → x ≡ DidSdid did sdid 
     → (to + 2 ≡ to + length (itemPairs x)) × (set (set l to did) (to + 1) sdid ≡ splice l to (itemPairs x))
 pair x did sdid to l e h = let k = room x (DidSdid did sdid) to (length l) e h in rw e (refl, set-two l to did sdid (omega arith))
 
-enum-known-item : tie.Need-enum-known-item
-enum-known-item c = search needs
-
 slice-write-pairs : tie.Need-slice-write-pairs
 slice-write-pairs c = let h = room _ _ _ _ (c .before .item .given .1) (c .before .before .before .pre) in omega (arith, h)
 
-add-pairs : tie.Need-add-pairs
-add-pairs c = search needs
-
 slice-write-pairs-2 : tie.Need-slice-write-pairs-2
 slice-write-pairs-2 c = let h = room _ _ _ _ (c .before .item .given .1) (c .before .before .before .pre) in simp length-set (omega (arith, h))
-
-add-result : tie.Need-add-result
-add-result c = search needs
-
-enum-told : tie.Need-enum-told
-enum-told c = search needs
-
-enum-told-2 : tie.Need-enum-told-2
-enum-told-2 c = search needs
-
-enum-told-3 : tie.Need-enum-told-3
-enum-told-3 c = search needs
-
-same-length : tie.Need-same-length
-same-length c = search needs
 
 returns : tie.Need-returns
 returns c = pair (c .before .before .before .args .item) _ _ _ _ (c .before .item .given .1) (c .before .before .before .pre)
@@ -70,17 +49,5 @@ returns-4 c = unchanged (c .before .before .args .item) _ _ (ap itemPairs (c .en
 pub store-item-spec : {M : Type 1} → statement M
 store-item-spec =
     tie.close
-    (tie.spec
-    enum-known-item
-    slice-write-pairs
-    add-pairs
-    slice-write-pairs-2
-    add-result
-    enum-told
-    enum-told-2
-    enum-told-3
-    same-length
-    returns
-    returns-2
-    returns-3
-    returns-4)
+    (tie.spec (λ c. search needs) slice-write-pairs (λ c. search needs) slice-write-pairs-2 (λ c. search needs) (λ c. search needs)
+    (λ c. search needs) (λ c. search needs) (λ c. search needs) returns returns-2 returns-3 returns-4)

@@ -26,9 +26,6 @@ loop-holds c =
     let a = c .before .before .args in
     left-as _ _ _ _ _ _ (ap pairsOf (sym (left-all (a .text .now)))) (left-starts _ (a .pairs .now) (c .before .before .pre))
 
-next-item-requires : tie.Need-next-item-requires Inv-loop μ-loop
-next-item-requires c κs = search needs
-
 store-item-requires : tie.Need-store-item-requires Inv-loop μ-loop
 store-item-requires c κs = let l = c .before .before .before .loop in item-fits _ _ _ _ _ _ (c .before .next-item .ensures) (left-as _ _ _ _ _ _ (ap (λ (m : Bool). pairsOf (left m (l .rest .now))) (c .before .before .loop-test .taken)) (l .inv))
 
@@ -37,9 +34,6 @@ sub-rest c = c .before .before .before .before .next-item .ensures .inside
 
 part-rest-start : tie.Need-part-rest-start Inv-loop μ-loop
 part-rest-start c = c .before .before .before .before .next-item .ensures .inside
-
-part-rest-end : tie.Need-part-rest-end Inv-loop μ-loop
-part-rest-end c = search needs
 
 loop-less : tie.Need-loop-less Inv-loop μ-loop
 loop-less c = let l = c .before .before .before .before .before .before .before .loop in left-less _ (length (l .rest .now)) (bit (l .more)) (behind-shorter (l .rest .now) _ (c .before .before .before .before .before .next-item .ensures)) (ap bit (c .before .before .before .before .before .before .loop-test .taken))
@@ -58,16 +52,5 @@ returns c = let l = c .before .loop in left-ends _ _ _ _ (left-as _ _ _ _ _ _ (a
 pub store-pairs-spec : {M : Type 1} → statement M
 store-pairs-spec =
     tie.close
-    (tie.spec
-    Inv-loop
-    μ-loop
-    loop-holds
-    next-item-requires
-    store-item-requires
-    sub-rest
-    part-rest-start
-    part-rest-end
-    loop-less
-    loop-again
-    same-length
-    returns)
+    (tie.spec Inv-loop μ-loop loop-holds (λ c κs. search needs) store-item-requires sub-rest part-rest-start (λ c. search needs) loop-less loop-again
+    same-length returns)

@@ -1,21 +1,21 @@
 -- `decimal_size` counts the digits of a number.
 -- By whether it is below ten, and below a hundred.
-use borrow.Author.Tests.{lt-ltb, le-ltb}
-use Rattle.sdp.specs.Writing.{decimalText}
+use mathlib.Core.Path.{ap, sym}
+use native.Mathlib.Omega.{arith}
+use lib.ListN.{length}
+use Rattle.sdp.proofs.WritingLaws.{decimal-one, decimal-two, decimal-three}
 use Rattle.fmtp.proofs.write.decimal_size.Statement.{statement}
 use Rattle.fmtp.proofs.write.decimal_size.Tie as tie
 
 returns : tie.Need-returns
-unfolding decimalText
-returns c = rw (lt-ltb (c .before .args .n) 10 (c .if1 .taken))
+returns c = sym (ap length (decimal-one _ (c .if1 .taken)))
 
 returns-2 : tie.Need-returns-2
-unfolding decimalText
-returns-2 c = rw (le-ltb (c .before .before .args .n) 10 (c .before .if1 .left), lt-ltb (c .before .before .args .n) 100 (c .if2 .taken))
+returns-2 c = sym (ap length (decimal-two _ (c .before .if1 .left) (c .if2 .taken)))
 
 returns-3 : tie.Need-returns-3
-unfolding decimalText
-returns-3 c = rw (le-ltb (c .before .before .args .n) 10 (c .before .if1 .left), le-ltb (c .before .before .args .n) 100 (c .if2 .left))
+returns-3 c = sym (ap length (decimal-three _ (c .if2 .left) (omega arith)))
 
 pub decimal-size-spec : {M : Type 1} → statement M
-decimal-size-spec = tie.close (tie.spec returns returns-2 returns-3)
+decimal-size-spec = tie.close
+    (tie.spec returns returns-2 returns-3)

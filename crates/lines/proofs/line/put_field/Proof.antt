@@ -1,11 +1,11 @@
 -- `put_field` puts the line of a whole field and the lines of its records.
 -- By whether its cells are a list of records.
 use borrow.Author.Needs.{needs}
-use mathlib.Core.Path.{_≡_, ap, sym, _∙_}
+use mathlib.Core.Path.{ap, sym, _∙_}
 use mathlib.Core.List.{List, _++_, append-nil}
 use Prim.Native.Nat.{ℕ}
 use native.Mathlib.Omega.{arith}
-use lib.ListN.{length, take}
+use lib.ListN.{take}
 use lib.Seq.{length-take-le}
 use Rattle.wire.specs.Cells.{readList}
 use Rattle.text.proofs.PutLaws.{both, same}
@@ -14,26 +14,8 @@ use Rattle.lines.proofs.LineLaws.{no-lines, lines-of, some-listed}
 use Rattle.lines.proofs.line.put_field.Statement.{statement}
 use Rattle.lines.proofs.line.put_field.Tie as tie
 
-put-whole-requires : tie.Need-put-whole-requires
-put-whole-requires c κs = search needs
-
-least-requires : tie.Need-least-requires
-least-requires c κs = search needs
-
 slice-aggregate-check-list : tie.Need-slice-aggregate-check-list
 slice-aggregate-check-list c = sym (length-take-le (c .before .least .result) (c .before .before .before .before .before .before .before .before .args .store .now) (omega (arith, c .before .least .ensures)))
-
-check-list-requires : tie.Need-check-list-requires
-check-list-requires c κs = search needs
-
-enum-told : tie.Need-enum-told
-enum-told c = search needs
-
-enum-told-2 : tie.Need-enum-told-2
-enum-told-2 c = search needs
-
-same-length : tie.Need-same-length
-same-length c = search needs
 
 returns : tie.Need-returns
 returns c =
@@ -50,9 +32,6 @@ put-records-requires c κs =
     let s = take (c .before .before .before .before .before .before .least .result) (c .before .before .before .before .before .before .before .before .before .before .before .before .before .args .store .now) in
     (some-listed (readList s) _ _ (sym (c .before .before .before .before .check-list .ensures) ∙ c .before .before .enum-told .given .1), omega (arith, c .before .before .before .before .before .before .before .before .before .before .before .before .before .pre, c .before .before .before .before .before .before .before .before .before .put-whole .ensures .1, c .before .before .before .before .before .before .least .ensures, length-take-le (c .before .before .before .before .before .before .least .result) (c .before .before .before .before .before .before .before .before .before .before .before .before .before .args .store .now) (omega (arith, c .before .before .before .before .before .before .least .ensures))))
 
-same-length-2 : tie.Need-same-length-2
-same-length-2 c = search needs
-
 returns-2 : tie.Need-returns-2
 returns-2 c =
     let a = c .before .before .before .before .before .before .before .before .before .before .before .before .before .before .before .before .args in
@@ -61,16 +40,5 @@ returns-2 c =
 pub put-field-spec : {M : Type 1} → statement M
 put-field-spec =
     tie.close
-    (tie.spec
-    put-whole-requires
-    least-requires
-    slice-aggregate-check-list
-    check-list-requires
-    enum-told
-    enum-told-2
-    same-length
-    returns
-    slice-aggregate-put-records
-    put-records-requires
-    same-length-2
-    returns-2)
+    (tie.spec (λ c κs. search needs) (λ c κs. search needs) slice-aggregate-check-list (λ c κs. search needs) (λ c. search needs) (λ c. search needs)
+    (λ c. search needs) returns slice-aggregate-put-records put-records-requires (λ c. search needs) returns-2)

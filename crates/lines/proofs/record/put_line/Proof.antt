@@ -8,29 +8,11 @@ use Rattle.lines.specs.Lines.{lineText}
 use Rattle.lines.proofs.record.put_line.Statement.{statement}
 use Rattle.lines.proofs.record.put_line.Tie as tie
 
-slice-aggregate-put-labelled : tie.Need-slice-aggregate-put-labelled
-slice-aggregate-put-labelled c = search needs
-
-put-labelled-requires : tie.Need-put-labelled-requires
-put-labelled-requires c κs = search needs
-
-same-length : tie.Need-same-length
-same-length c = search needs
-
 returns : tie.Need-returns
 unfolding lineText ascii
 returns c =
     let p = c .before .before .put-labelled .ensures in
     rw (eq-eqb (c .before .before .before .before .before .before .before .args .c) 1 (c .before .before .before .before .before .if1 .taken)) (p .0, omega (arith, p .1))
-
-slice-aggregate-put-labelled-2 : tie.Need-slice-aggregate-put-labelled-2
-slice-aggregate-put-labelled-2 c = search needs
-
-put-labelled-requires-2 : tie.Need-put-labelled-requires-2
-put-labelled-requires-2 c κs = search needs
-
-same-length-2 : tie.Need-same-length-2
-same-length-2 c = search needs
 
 returns-2 : tie.Need-returns-2
 unfolding lineText ascii
@@ -41,12 +23,5 @@ returns-2 c =
 pub put-line-spec : {M : Type 1} → statement M
 put-line-spec =
     tie.close
-    (tie.spec
-    slice-aggregate-put-labelled
-    put-labelled-requires
-    same-length
-    returns
-    slice-aggregate-put-labelled-2
-    put-labelled-requires-2
-    same-length-2
+    (tie.spec (λ c. search needs) (λ c κs. search needs) (λ c. search needs) returns (λ c. search needs) (λ c κs. search needs) (λ c. search needs)
     returns-2)

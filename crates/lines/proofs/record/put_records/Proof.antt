@@ -1,11 +1,11 @@
 -- `put_records` puts the lines of all records of a list.
 -- Invariant: the lines of the records that are left, behind those that are put, make the whole text.
 use borrow.Author.Needs.{needs}
-use mathlib.Core.Path.{_≡_, refl, sym, _∙_}
-use Prim.Native.Nat.{ℕ, _+_, _*_, _≤_}
+use mathlib.Core.Path.{_≡_, refl}
+use Prim.Native.Nat.{_+_, _*_, _≤_}
 use native.Mathlib.Omega.{arith}
 use lib.ListN.{length, length-drop}
-use Rattle.wire.specs.Cells.{cellCount, readList}
+use Rattle.wire.specs.Cells.{headCells, cellCount, readList}
 use Rattle.wire.proofs.ListLaws.{part-all}
 use Rattle.lines.specs.Lines.{listText}
 use Rattle.lines.specs.Room.{cellRoom}
@@ -50,13 +50,10 @@ sub-rest c = next-here (c .before .before .before .before .before) .inside
 part-rest-start : tie.Need-part-rest-start Inv-loop μ-loop
 part-rest-start c = next-here (c .before .before .before .before .before) .inside
 
-part-rest-end : tie.Need-part-rest-end Inv-loop μ-loop
-part-rest-end c = search needs
-
 loop-less : tie.Need-loop-less Inv-loop μ-loop
 loop-less c =
     let r = c .before .before .before .before .before .before .before .loop .rest .now in
-    rw (part-all (8 + cellCount r) r, length-drop (8 + cellCount r) r) (omega (arith, c .before .before .before .before .before .before .loop-test .taken))
+    rw (part-all (headCells + cellCount r) r, length-drop (headCells + cellCount r) r) (omega (arith, c .before .before .before .before .before .before .loop-test .taken))
 
 loop-again : tie.Need-loop-again Inv-loop μ-loop
 loop-again c =
@@ -64,7 +61,7 @@ loop-again c =
     let n = next-here (c .before .before .before .before .before .before) in
     let p = c .before .before .before .before .put-record .ensures in
     let e = rest-is r (cellCount r) refl in
-    (omega (arith, c .before .before .before .out .given, c .before .before .before .before .before .before .before .loop .inv .0), rw (e, length-drop (8 + cellCount r) r) (omega (arith, p .1, n .inside, c .before .before .before .before .before .before .before .loop .inv .1, c .before .before .before .out .given)), left-same _ _ _ _ _ _ _ e (n .then _ _ (p .0)))
+    (omega (arith, c .before .before .before .out .given, c .before .before .before .before .before .before .before .loop .inv .0), rw (e, length-drop (headCells + cellCount r) r) (omega (arith, p .1, n .inside, c .before .before .before .before .before .before .before .loop .inv .1, c .before .before .before .out .given)), left-same _ _ _ _ _ _ _ e (n .then _ _ (p .0)))
 
 same-length : tie.Need-same-length Inv-loop μ-loop
 same-length c = c .before .loop .inv .0
@@ -75,19 +72,5 @@ returns c = none-left _ _ _ (c .before .loop .out) (c .before .loop .rest .now) 
 pub put-records-spec : {M : Type 1} → statement M
 put-records-spec =
     tie.close
-    (tie.spec
-    Inv-loop
-    μ-loop
-    loop-holds
-    put-record-requires
-    shared-slice-read-step
-    cast-step
-    add-step
-    mul-rest
-    sub-rest
-    part-rest-start
-    part-rest-end
-    loop-less
-    loop-again
-    same-length
-    returns)
+    (tie.spec Inv-loop μ-loop loop-holds put-record-requires shared-slice-read-step cast-step add-step mul-rest sub-rest part-rest-start
+    (λ c. search needs) loop-less loop-again same-length returns)

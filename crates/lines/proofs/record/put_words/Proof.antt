@@ -1,15 +1,16 @@
 -- `put_words` puts the words.
 -- Invariant: the words before the place are put.
 use borrow.Author.Needs.{needs}
-use mathlib.Core.Path.{_≡_, refl, ap, sym, _∙_}
+use mathlib.Core.Path.{_≡_, refl, ap, _∙_}
 use Prim.Native.Nat.{ℕ, _+_, _*_, _-_, _≤_}
 use native.Mathlib.Omega.{arith}
-use lib.ListN.{length, take, getD}
+use lib.ListN.{length, take}
 use lib.Seq.{take-length}
+use Rattle.wire.proofs.BitLaws.{below-at}
 use Rattle.text.specs.Put.{Put}
 use Rattle.text.proofs.PutLaws.{both, nothing, same}
 use Rattle.lines.specs.Lines.{wordsText}
-use Rattle.lines.proofs.LineLaws.{words-next, below-at}
+use Rattle.lines.proofs.LineLaws.{words-next}
 use Rattle.lines.proofs.record.put_words.Statement.{statement}
 use Rattle.lines.proofs.record.put_words.Tie as tie
 
@@ -22,29 +23,14 @@ abbrev μ-loop : tie.MeasureT-loop
 loop-holds : tie.Need-loop-holds Inv-loop μ-loop
 loop-holds c = (omega arith, omega arith, refl, nothing (c .before .before .args .out .now) (c .before .before .args .at) (omega (arith, c .before .before .pre)))
 
-mul-put-word : tie.Need-mul-put-word Inv-loop μ-loop
-mul-put-word c = search needs
-
-shared-slice-read-put-word : tie.Need-shared-slice-read-put-word Inv-loop μ-loop
-shared-slice-read-put-word c = search needs
-
 put-word-requires : tie.Need-put-word-requires Inv-loop μ-loop
-put-word-requires c κs = (below-at 1024 (c .before .before .before .before .before .before .args .words .now) (c .before .before .before .loop .k) (c .before .before .loop-test .taken) (c .before .before .before .before .before .before .pre .0), omega (arith, c .before .before .before .before .before .before .pre .1, c .before .before .before .loop .inv .1, c .before .before .before .loop .inv .2, c .before .before .loop-test .taken))
-
-add-k : tie.Need-add-k Inv-loop μ-loop
-add-k c = search needs
-
-loop-less : tie.Need-loop-less Inv-loop μ-loop
-loop-less c = search needs
+put-word-requires c κs = (below-at 1024 (c .before .before .before .before .before .before .args .words .now) (c .before .before .before .loop .k) (c .before .before .before .before .before .before .pre .0) (c .before .before .loop-test .taken), omega (arith, c .before .before .before .before .before .before .pre .1, c .before .before .before .loop .inv .1, c .before .before .before .loop .inv .2, c .before .before .loop-test .taken))
 
 loop-again : tie.Need-loop-again Inv-loop μ-loop
 loop-again c =
     let w = c .before .before .put-word .ensures in
     let v = c .before .before .before .before .before .before .loop .inv in
     (omega (arith, c .before .before .before .before .before .loop-test .taken), omega (arith, w .1, v .1), omega (arith, c .before .out .given, v .2), same (words-next (c .before .before .before .before .before .before .loop .k) (c .before .before .before .before .before .before .before .before .before .args .words .now) (c .before .before .before .before .before .loop-test .taken)) (both (v .3) (w .0)))
-
-same-length : tie.Need-same-length Inv-loop μ-loop
-same-length c = search needs
 
 returns : tie.Need-returns Inv-loop μ-loop
 returns c =
@@ -56,15 +42,5 @@ returns c =
 pub put-words-spec : {M : Type 1} → statement M
 put-words-spec =
     tie.close
-    (tie.spec
-    Inv-loop
-    μ-loop
-    loop-holds
-    mul-put-word
-    shared-slice-read-put-word
-    put-word-requires
-    add-k
-    loop-less
-    loop-again
-    same-length
-    returns)
+    (tie.spec Inv-loop μ-loop loop-holds (λ c. search needs) (λ c. search needs) put-word-requires (λ c. search needs) (λ c. search needs) loop-again
+    (λ c. search needs) returns)

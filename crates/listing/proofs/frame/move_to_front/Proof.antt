@@ -1,7 +1,7 @@
 -- `move_to_front` moves what is left to the front.
 -- Invariant: the first octets are moved, and the others are as they were.
 use borrow.Author.Needs.{needs}
-use mathlib.Core.Path.{_≡_, refl, ap, sym, _∙_}
+use mathlib.Core.Path.{_≡_, refl, ap, _∙_}
 use mathlib.Core.List.{List}
 use Prim.Native.Nat.{ℕ, _+_, _-_, _<_, _≤_}
 use native.Mathlib.Omega.{arith}
@@ -24,20 +24,11 @@ sub-count c = c .pre
 loop-holds : tie.Need-loop-holds Inv-loop μ-loop
 loop-holds c = (omega arith, refl, refl)
 
-add-octets : tie.Need-add-octets Inv-loop μ-loop
-add-octets c = search needs
-
 slice-read-octets : tie.Need-slice-read-octets Inv-loop μ-loop
 slice-read-octets c = omega (arith, c .before .loop-test .taken, c .before .before .loop .inv .1)
 
 slice-write-octets : tie.Need-slice-write-octets Inv-loop μ-loop
 slice-write-octets c = omega (arith, c .before .loop-test .taken, c .before .before .loop .inv .1)
-
-add-k : tie.Need-add-k Inv-loop μ-loop
-add-k c = search needs
-
-loop-less : tie.Need-loop-less Inv-loop μ-loop
-loop-less c = search needs
 
 loop-again : tie.Need-loop-again Inv-loop μ-loop
 loop-again c =
@@ -61,16 +52,5 @@ returns c =
 pub move-to-front-spec : {M : Type 1} → statement M
 move-to-front-spec =
     tie.close
-    (tie.spec
-    Inv-loop
-    μ-loop
-    sub-count
-    loop-holds
-    add-octets
-    slice-read-octets
-    slice-write-octets
-    add-k
-    loop-less
-    loop-again
-    same-length
-    returns)
+    (tie.spec Inv-loop μ-loop sub-count loop-holds (λ c. search needs) slice-read-octets slice-write-octets (λ c. search needs) (λ c. search needs)
+    loop-again same-length returns)

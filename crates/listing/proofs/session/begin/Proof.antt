@@ -6,25 +6,18 @@ use native.Mathlib.Omega.{arith}
 use mathlib.Core.Path.{refl, ap}
 use lib.ListN.{length}
 use Rattle.text.specs.Text.{ascii}
+use Rattle.lines.specs.Room.{lineRoom}
 use Rattle.listing.specs.declared.session.Text.the-variants as text
 use Rattle.listing.proofs.session.begin.Statement.{statement}
 use Rattle.listing.proofs.session.begin.Tie as tie
 
 returns : tie.Need-returns
-returns c = rw (lt-leb 160 (length (c .before .before .args .out .now)) (c .if1 .taken)) (refl, (refl, tt))
-
-slice-aggregate-put : tie.Need-slice-aggregate-put
-slice-aggregate-put c = search needs
-
-put-requires : tie.Need-put-requires
-put-requires c κs = search needs
-
-same-length : tie.Need-same-length
-same-length c = search needs
+returns c = rw (lt-leb lineRoom (length (c .before .before .args .out .now)) (c .if1 .taken)) (refl, (refl, tt))
 
 returns-2 : tie.Need-returns-2
 unfolding ascii
-returns-2 c = rw (le-leb 160 (length (c .before .before .before .before .before .before .before .args .out .now)) (c .before .before .before .before .before .if1 .left)) (ap text.Octets (c .before .before .put .ensures .1), (c .before .before .put .ensures .0 .octets, omega (arith, c .before .before .put .ensures .1)))
+returns-2 c = rw (le-leb lineRoom (length (c .before .before .before .before .before .before .before .args .out .now)) (c .before .before .before .before .before .if1 .left)) (ap text.Octets (c .before .before .put .ensures .1), (c .before .before .put .ensures .0 .octets, omega (arith, c .before .before .put .ensures .1)))
 
 pub begin-spec : {M : Type 1} → statement M
-begin-spec = tie.close (tie.spec returns slice-aggregate-put put-requires same-length returns-2)
+begin-spec = tie.close
+    (tie.spec returns (λ c. search needs) (λ c κs. search needs) (λ c. search needs) returns-2)

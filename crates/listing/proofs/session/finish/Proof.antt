@@ -2,7 +2,7 @@
 -- By the test; `cut` and the counts are pieces one behind the other.
 use borrow.Author.Needs.{needs}
 use borrow.Author.Tests.{lt-leb, le-leb}
-use mathlib.Core.Path.{refl, ap, sym, _∙_}
+use mathlib.Core.Path.{refl, ap, _∙_}
 use native.Mathlib.Nat.{zero-add}
 use native.Mathlib.Omega.{arith}
 use lib.ListN.{length}
@@ -10,6 +10,7 @@ use Rattle.text.proofs.PutLaws.{both, same}
 use Rattle.listing.specs.Frames.{front}
 use Rattle.listing.specs.Session.{cutText}
 use Rattle.listing.specs.Answers.{isCut}
+use Rattle.lines.specs.Room.{lineRoom}
 use Rattle.listing.specs.declared.session.Text.the-variants as text
 use Rattle.listing.specs.declared.frame.Front.{Front as FrontFound}
 use Rattle.listing.proofs.TurnLaws.{cut-is}
@@ -17,33 +18,15 @@ use Rattle.listing.proofs.session.finish.Statement.{statement}
 use Rattle.listing.proofs.session.finish.Tie as tie
 
 returns : tie.Need-returns
-returns c = rw (lt-leb 160 (length (c .before .before .before .args .out .now)) (c .if1 .taken)) (refl, (refl, tt))
-
-frame-at-requires : tie.Need-frame-at-requires
-frame-at-requires c κs = search needs
-
-put-cut-requires : tie.Need-put-cut-requires
-put-cut-requires c κs = search needs
-
-put-counts-of-requires : tie.Need-put-counts-of-requires
-put-counts-of-requires c κs = search needs
-
-same-length : tie.Need-same-length
-same-length c = search needs
+returns c = rw (lt-leb lineRoom (length (c .before .before .before .args .out .now)) (c .if1 .taken)) (refl, (refl, tt))
 
 returns-2 : tie.Need-returns-2
 returns-2 c =
     let e = ap (λ (f : FrontFound). cutText (isCut f)) (c .before .before .before .before .before .before .before .frame-at .ensures) ∙ ap cutText (cut-is (front (c .before .before .before .before .before .before .before .before .before .before .before .before .args .rest .now))) in
     let p = both (same e (c .before .before .before .before .before .before .put-cut .ensures .0)) (c .before .before .put-counts-of .ensures) in
-    rw (le-leb 160 (length (c .before .before .before .before .before .before .before .before .before .before .before .before .args .out .now)) (c .before .before .before .before .before .before .before .before .before .if1 .left)) (ap text.Octets (p .behind ∙ zero-add _), (p .octets, omega (arith, p .room, p .behind)))
+    rw (le-leb lineRoom (length (c .before .before .before .before .before .before .before .before .before .before .before .before .args .out .now)) (c .before .before .before .before .before .before .before .before .before .if1 .left)) (ap text.Octets (p .behind ∙ zero-add _), (p .octets, omega (arith, p .room, p .behind)))
 
 pub finish-spec : {M : Type 1} → statement M
 finish-spec =
     tie.close
-    (tie.spec
-    returns
-    frame-at-requires
-    put-cut-requires
-    put-counts-of-requires
-    same-length
-    returns-2)
+    (tie.spec returns (λ c κs. search needs) (λ c κs. search needs) (λ c κs. search needs) (λ c. search needs) returns-2)

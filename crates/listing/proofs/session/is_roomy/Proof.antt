@@ -1,7 +1,6 @@
 -- `is_roomy` tells whether there is room.
 -- The division is the product's.
 use borrow.Author.Tests.{lt-leb}
-use mathlib.Core.Path.{sym}
 use Prim.Native.Nat.{_+_, _*_}
 use native.Mathlib.Omega.{arith}
 use Rattle.lines.specs.Room.{lineRoom, cellRoom}
@@ -16,4 +15,5 @@ returns-2 : tie.Need-returns-2
 returns-2 c = divided (c .before .args .cells) (c .before .args .octets) (c .if1 .left)
 
 pub is-roomy-spec : {M : Type 1} → statement M
-is-roomy-spec = tie.close (tie.spec returns returns-2)
+is-roomy-spec = tie.close
+    (tie.spec returns returns-2)

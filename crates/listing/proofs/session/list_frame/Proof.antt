@@ -11,8 +11,8 @@ use lib.ListN.{length, take, drop, length-drop}
 use lib.Seq.{length-take-le}
 use Rattle.text.proofs.PutLaws.{same}
 use Rattle.listing.specs.Frames.{front}
-use Rattle.lines.specs.Room.{lineRoom, cellRoom, roomy}
-use Rattle.listing.specs.Session.{Turn, turn}
+use Rattle.lines.specs.Room.{lineRoom, cellRoom}
+use Rattle.listing.specs.Session.{turn}
 use Rattle.listing.specs.declared.session.Listed.the-variants as listed
 use Rattle.listing.proofs.FrameLaws.{FrameAt, frame-found, end-found, cut-found}
 use Rattle.listing.proofs.session.list_frame.Statement.{statement}
@@ -22,34 +22,13 @@ use Rattle.listing.proofs.session.list_frame.Tie as tie
 found-at : (c : tie.After-known-told) → FrameAt (c .before .before .before .before .before .before .before .before .before .args .octets .now) (c .before .front .given .0 .0)
 found-at c = frame-found (c .before .before .before .before .before .before .before .before .before .args .octets .now) (c .before .front .given .0 .0) (sym (c .before .before .before .frame-at .ensures) ∙ c .before .front .given .1)
 
-is-roomy-requires : tie.Need-is-roomy-requires
-is-roomy-requires c κs = search needs
-
 returns : tie.Need-returns
 returns c =
     let e = sym (c .before .is-roomy .ensures) ∙ not-true (c .before .is-roomy .result) (c .if1 .taken) in
     rw e (refl, (refl, (refl, tt)))
 
-frame-at-requires : tie.Need-frame-at-requires
-frame-at-requires c κs = search needs
-
-enum-told : tie.Need-enum-told
-enum-told c = search needs
-
-enum-told-2 : tie.Need-enum-told-2
-enum-told-2 c = search needs
-
-enum-known-front : tie.Need-enum-known-front
-enum-known-front c = search needs
-
 add-end : tie.Need-add-end
 add-end c = omega (arith, found-at c .inside)
-
-sub-list-packet : tie.Need-sub-list-packet
-sub-list-packet c = search needs
-
-part-list-packet-start : tie.Need-part-list-packet-start
-part-list-packet-start c = search needs
 
 part-list-packet-end : tie.Need-part-list-packet-end
 part-list-packet-end c = found-at c .inside
@@ -62,12 +41,6 @@ returns-2 c = rw (sym (c .before .before .before .before .is-roomy .ensures) ∙
 
 returns-3 : tie.Need-returns-3
 returns-3 c = rw (sym (c .before .before .before .before .is-roomy .ensures) ∙ not-false (c .before .before .before .before .is-roomy .result) (c .before .before .before .if1 .left), cut-found (front (c .before .before .before .before .before .before .before .before .args .octets .now)) (sym (c .before .before .frame-at .ensures) ∙ c .enum-told2 .given .1)) (refl, (refl, (refl, tt)))
-
-same-length : tie.Need-same-length
-same-length c = search needs
-
-same-length-2 : tie.Need-same-length-2
-same-length-2 c = search needs
 
 returns-4 : tie.Need-returns-4
 returns-4 c =
@@ -89,20 +62,6 @@ returns-4 c =
 pub list-frame-spec : {M : Type 1} → statement M
 list-frame-spec =
     tie.close
-    (tie.spec
-    is-roomy-requires
-    returns
-    frame-at-requires
-    enum-told
-    enum-told-2
-    enum-known-front
-    add-end
-    sub-list-packet
-    part-list-packet-start
-    part-list-packet-end
-    list-packet-requires
-    returns-2
-    returns-3
-    same-length
-    same-length-2
+    (tie.spec (λ c κs. search needs) returns (λ c κs. search needs) (λ c. search needs) (λ c. search needs) (λ c. search needs) add-end
+    (λ c. search needs) (λ c. search needs) part-list-packet-end list-packet-requires returns-2 returns-3 (λ c. search needs) (λ c. search needs)
     returns-4)

@@ -1,46 +1,18 @@
 -- `list_packet` gives what one packet does: the session, the store and the text.
 -- By whether a depacketizer is open, or opened by the packet.
 use borrow.Author.Needs.{needs}
-use mathlib.Core.Path.{_≡_, ap, sym, _∙_}
-use Prim.Native.Nat.{ℕ}
-use mathlib.Core.List.{List}
+use mathlib.Core.Path.{ap, sym, _∙_}
 use Rattle.wire.specs.Layout.{rfc8331}
 use Rattle.wire.specs.Packet.{readContent}
-use Rattle.wire.specs.declared.refusal.Refusal.{Refusal}
-use Rattle.rtp.specs.declared.packet.Checked.{Checked}
 use Rattle.depacketizer.specs.declared.state.Arrival.{Arrival}
 use Rattle.text.proofs.PutLaws.{same}
 use Rattle.listing.specs.declared.session.Session.the-variants as session
 use Rattle.lines.specs.Lines.{answerText, refusedText}
-use Rattle.listing.specs.Session.{Turn, turn}
+use Rattle.listing.specs.Session.{Turn}
 use Rattle.listing.specs.Answers.{checkedNumber, enteredBy, openedRefusal}
 use Rattle.listing.proofs.TurnLaws.{number-is, turn-refused, turn-arrived}
 use Rattle.listing.proofs.session.list_packet.Statement.{statement}
 use Rattle.listing.proofs.session.list_packet.Tie as tie
-
-check-requires : tie.Need-check-requires
-check-requires c κs = search needs
-
-number-of-requires : tie.Need-number-of-requires
-number-of-requires c κs = search needs
-
-enter-requires : tie.Need-enter-requires
-enter-requires c κs = search needs
-
-enum-known-opened : tie.Need-enum-known-opened
-enum-known-opened c = search needs
-
-enum-told : tie.Need-enum-told
-enum-told c = search needs
-
-refusal-of-requires : tie.Need-refusal-of-requires
-refusal-of-requires c κs = search needs
-
-put-refused-requires : tie.Need-put-refused-requires
-put-refused-requires c κs = search needs
-
-same-length : tie.Need-same-length
-same-length c = search needs
 
 returns : tie.Need-returns
 returns c =
@@ -50,18 +22,6 @@ returns c =
       sym (ap (λ (x : Turn). x .session) t),
       (sym (ap (λ (x : Turn). x .store) t), same (ap refusedText (c .before .before .before .refusal-of .ensures ∙ ap openedRefusal o) ∙ sym (ap (λ (x : Turn). x .text) t)) (c .before .before .put-refused .ensures)),
     )
-
-arrive-requires : tie.Need-arrive-requires
-arrive-requires c κs = search needs
-
-put-answer-requires : tie.Need-put-answer-requires
-put-answer-requires c κs = search needs
-
-same-length-2 : tie.Need-same-length-2
-same-length-2 c = search needs
-
-same-length-3 : tie.Need-same-length-3
-same-length-3 c = search needs
 
 returns-2 : tie.Need-returns-2
 returns-2 c =
@@ -76,18 +36,5 @@ returns-2 c =
 pub list-packet-spec : {M : Type 1} → statement M
 list-packet-spec =
     tie.close
-    (tie.spec
-    check-requires
-    number-of-requires
-    enter-requires
-    enum-known-opened
-    enum-told
-    refusal-of-requires
-    put-refused-requires
-    same-length
-    returns
-    arrive-requires
-    put-answer-requires
-    same-length-2
-    same-length-3
-    returns-2)
+    (tie.spec (λ c κs. search needs) (λ c κs. search needs) (λ c κs. search needs) (λ c. search needs) (λ c. search needs) (λ c κs. search needs)
+    (λ c κs. search needs) (λ c. search needs) returns (λ c κs. search needs) (λ c κs. search needs) (λ c. search needs) (λ c. search needs) returns-2)

@@ -7,26 +7,8 @@ use Rattle.listing.specs.Session.{countsOf}
 use Rattle.listing.proofs.session.put_counts_of.Statement.{statement}
 use Rattle.listing.proofs.session.put_counts_of.Tie as tie
 
-enum-told : tie.Need-enum-told
-enum-told c = search needs
-
-put-counts-requires : tie.Need-put-counts-requires
-put-counts-requires c κs = search needs
-
-enum-known-session : tie.Need-enum-known-session
-enum-known-session c = search needs
-
-put-counts-requires-2 : tie.Need-put-counts-requires-2
-put-counts-requires-2 c κs = search needs
-
-same-length : tie.Need-same-length
-same-length c = search needs
-
 returns : tie.Need-returns
 returns c = same (sym (ap countsOf (c .before .before .before .before .enum-told .given .1))) (c .before .before .put-counts .ensures)
-
-same-length-2 : tie.Need-same-length-2
-same-length-2 c = search needs
 
 returns-2 : tie.Need-returns-2
 returns-2 c = same (sym (ap countsOf (c .before .before .before .before .before .session .given .1))) (c .before .before .put-counts2 .ensures)
@@ -34,12 +16,5 @@ returns-2 c = same (sym (ap countsOf (c .before .before .before .before .before 
 pub put-counts-of-spec : {M : Type 1} → statement M
 put-counts-of-spec =
     tie.close
-    (tie.spec
-    enum-told
-    put-counts-requires
-    enum-known-session
-    put-counts-requires-2
-    same-length
-    returns
-    same-length-2
+    (tie.spec (λ c. search needs) (λ c κs. search needs) (λ c. search needs) (λ c κs. search needs) (λ c. search needs) returns (λ c. search needs)
     returns-2)

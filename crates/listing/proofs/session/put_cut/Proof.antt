@@ -8,24 +8,6 @@ use Rattle.listing.specs.Session.{cutText}
 use Rattle.listing.proofs.session.put_cut.Statement.{statement}
 use Rattle.listing.proofs.session.put_cut.Tie as tie
 
-enum-told : tie.Need-enum-told
-enum-told c = search needs
-
-slice-aggregate-put : tie.Need-slice-aggregate-put
-slice-aggregate-put c = search needs
-
-put-requires : tie.Need-put-requires
-put-requires c κs = search needs
-
-enum-told-2 : tie.Need-enum-told-2
-enum-told-2 c = search needs
-
-enum-told-3 : tie.Need-enum-told-3
-enum-told-3 c = search needs
-
-same-length : tie.Need-same-length
-same-length c = search needs
-
 returns : tie.Need-returns
 unfolding cutText ascii
 returns c = rw (c .before .before .before .before .before .enum-told .given .1) (c .before .before .put .ensures .0, omega (arith, c .before .before .put .ensures .1))
@@ -41,13 +23,5 @@ returns-3 c = rw (c .enum-told3 .given .1) (nothing (c .before .before .before .
 pub put-cut-spec : {M : Type 1} → statement M
 put-cut-spec =
     tie.close
-    (tie.spec
-    enum-told
-    slice-aggregate-put
-    put-requires
-    enum-told-2
-    enum-told-3
-    same-length
-    returns
-    returns-2
-    returns-3)
+    (tie.spec (λ c. search needs) (λ c. search needs) (λ c κs. search needs) (λ c. search needs) (λ c. search needs) (λ c. search needs) returns
+    returns-2 returns-3)

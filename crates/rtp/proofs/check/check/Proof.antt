@@ -11,12 +11,12 @@ use Rattle.wire.specs.Anc.{readRun}
 use Rattle.wire.specs.Packet.{headerSize, payloadSize, lengthField, ancCount, runAt, headerChecks, paddingChecks, payloadChecks}
 use Rattle.wire.proofs.ResultLaws.{Passed}
 use Rattle.wire.proofs.Window.{below-all}
-use Rattle.wire.proofs.PacketLaws.{header-sizes, padding-sizes, sizes, Sizes}
+use Rattle.wire.proofs.PacketLaws.{header-sizes, padding-sizes, sizes}
 use Rattle.anc.specs.Answers.{runOf, runRefusal}
-use Rattle.rtp.specs.Answers.{stageRefusal, checkedOf, headAt}
+use Rattle.rtp.specs.Answers.{stageRefusal, checkedOf}
 use Rattle.rtp.specs.declared.packet.Checked.the-variants as checked
 use Rattle.rtp.proofs.HeaderFields.{count-at}
-use Rattle.rtp.proofs.StageLaws.{stage-passed, refused-header, refused-padding, refused-payload, region, refused-run, refused-left, accepted-run}
+use Rattle.rtp.proofs.StageLaws.{stage-passed, refused-header, refused-padding, refused-payload, refused-run, refused-left, accepted-run}
 use Rattle.rtp.proofs.check.check.Statement.{statement}
 use Rattle.rtp.proofs.check.check.Tie as tie
 
@@ -31,7 +31,7 @@ payload-passed : (c : tie.After-known-told3) → Passed (payloadChecks rfc8331 (
 payload-passed c = stage-passed (payloadChecks rfc8331 (c .before .before .before .before .before .before .before .before .before .before .before .before .before .args .octets .now)) (lengthField (c .before .before .before .before .before .before .before .before .before .before .before .before .before .args .octets .now)) _ (sym (c .before .before .before .check-payload .ensures) ∙ c .before .stage3 .given .1)
 
 -- the octets are all accounted for
-whole : (c : tie.After-known-told3) → c .before .before .before .before .before .before .before .before .before .stage .given .0 .0 + 8 + c .before .stage3 .given .0 .0 ≤ length (c .before .before .before .before .before .before .before .before .before .before .before .before .before .args .octets .now)
+whole : (c : tie.After-known-told3) → c .before .before .before .before .before .before .before .before .before .stage .given .0 .0 + payloadHeaderSize rfc8331 + c .before .stage3 .given .0 .0 ≤ length (c .before .before .before .before .before .before .before .before .before .before .before .before .before .args .octets .now)
 whole c =
     let z = sizes rfc8331 (c .before .before .before .before .before .before .before .before .before .before .before .before .before .args .octets .now) (header-passed (c .before .before .before .before .before .before .before .before) .0) (padding-passed (c .before .before .before .before) .0) (payload-passed c .0) in
     let h = header-passed (c .before .before .before .before .before .before .before .before) .1 in
@@ -51,22 +51,10 @@ ran c =
     let l : lengthField s ≡ m = payload-passed (c .before .before .before) .1 in
     let w = whole (c .before .before .before) in
     let k : ancCount s ≡ getD s (n + 4) 0 = count-at s o n (sym h) (omega arith) in
-    let e1 : lengthField s ≡ n + 8 + m - (n + 8) = omega arith in
-    let e2 : runAt rfc8331 s ≡ n + 8 = omega arith in
+    let e1 : lengthField s ≡ n + payloadHeaderSize rfc8331 + m - (n + payloadHeaderSize rfc8331) = omega arith in
+    let e2 : runAt rfc8331 s ≡ n + payloadHeaderSize rfc8331 = omega arith in
     ap₂ (λ (x : ℕ) (y : List ℕ). runOf (readRun rfc8331 0 x y)) k (ap₂ (λ (x y : ℕ). take x (drop y s)) e1 e2)
     ∙ sym (c .check-run .ensures)
-
-check-header-requires : tie.Need-check-header-requires
-check-header-requires c κs = search needs
-
-enum-known-stage : tie.Need-enum-known-stage
-enum-known-stage c = search needs
-
-enum-told : tie.Need-enum-told
-enum-told c = search needs
-
-refusal-requires : tie.Need-refusal-requires
-refusal-requires c κs = search needs
 
 returns : tie.Need-returns
 returns c =
@@ -81,15 +69,6 @@ check-padding-requires c κs =
     let z = header-sizes s (p .0) in
     (sym (p .1), subst (λ (x : ℕ). x ≤ length s) (p .1) (z .header), z .least)
 
-enum-known-stage-2 : tie.Need-enum-known-stage-2
-enum-known-stage-2 c = search needs
-
-enum-told-2 : tie.Need-enum-told-2
-enum-told-2 c = search needs
-
-refusal-requires-2 : tie.Need-refusal-requires-2
-refusal-requires-2 c κs = search needs
-
 returns-2 : tie.Need-returns-2
 returns-2 c =
     let s = c .before .before .before .before .before .before .before .before .before .args .octets .now in
@@ -103,15 +82,6 @@ check-payload-requires c κs =
     let q = padding-passed c in
     let z = padding-sizes rfc8331 s (p .0) (q .0) in
     ((sym (p .1), sym (q .1)), (omega (arith, p .1, q .1, z .payload), omega (arith, p .1, q .1, z .payload)))
-
-enum-known-stage-3 : tie.Need-enum-known-stage-3
-enum-known-stage-3 c = search needs
-
-enum-told-3 : tie.Need-enum-told-3
-enum-told-3 c = search needs
-
-refusal-requires-3 : tie.Need-refusal-requires-3
-refusal-requires-3 c κs = search needs
 
 returns-3 : tie.Need-returns-3
 returns-3 c =
@@ -131,26 +101,8 @@ add-count c = omega (arith, whole c)
 shared-slice-read-count : tie.Need-shared-slice-read-count
 shared-slice-read-count c = omega (arith, whole (c .before))
 
-sub-check-run : tie.Need-sub-check-run
-sub-check-run c = search needs
-
-part-check-run-start : tie.Need-part-check-run-start
-part-check-run-start c = search needs
-
 part-check-run-end : tie.Need-part-check-run-end
 part-check-run-end c = omega (arith, whole (c .before))
-
-check-run-requires : tie.Need-check-run-requires
-check-run-requires c κs = search needs
-
-enum-known-run : tie.Need-enum-known-run
-enum-known-run c = search needs
-
-enum-told-4 : tie.Need-enum-told-4
-enum-told-4 c = search needs
-
-refusal-requires-4 : tie.Need-refusal-requires-4
-refusal-requires-4 c κs = search needs
 
 returns-4 : tie.Need-returns-4
 returns-4 c =
@@ -182,7 +134,7 @@ returns-6 c =
     let l : lengthField s ≡ c .before .before .before .before .before .before .before .before .before .before .stage3 .given .0 .0 = payload-passed (c .before .before .before .before .before .before .before .before .before) .1 in
     let w = whole (c .before .before .before .before .before .before .before .before .before) in
     let k : ancCount s ≡ getD s (n + 4) 0 = count-at s o n (sym h) (omega arith) in
-    let e : runAt rfc8331 s ≡ n + 8 = omega arith in
+    let e : runAt rfc8331 s ≡ n + payloadHeaderSize rfc8331 = omega arith in
     sym
     (accepted-run s (header-passed (c .before .before .before .before .before .before .before .before .before .before .before .before .before .before .before .before .before) .0) (padding-passed (c .before .before .before .before .before .before .before .before .before .before .before .before .before) .0) (payload-passed (c .before .before .before .before .before .before .before .before .before) .0) (below-all s o) _ _ (ran (c .before .before .before .before .before .before) ∙ c .before .before .before .before .run .given .1) (omega (arith, c .before .if1 .left))
     ∙ λ i. checked.Packet (record { summary = record { head = sym (c .head-at .ensures) i; records = k i; cells = c .before .before .before .before .run .given .0 .1 .0 }; at = e i; length = l i }))
@@ -190,34 +142,7 @@ returns-6 c =
 pub check-spec : {M : Type 1} → statement M
 check-spec =
     tie.close
-    (tie.spec
-    check-header-requires
-    enum-known-stage
-    enum-told
-    refusal-requires
-    returns
-    check-padding-requires
-    enum-known-stage-2
-    enum-told-2
-    refusal-requires-2
-    returns-2
-    check-payload-requires
-    enum-known-stage-3
-    enum-told-3
-    refusal-requires-3
-    returns-3
-    add-at
-    add-end
-    add-count
-    shared-slice-read-count
-    sub-check-run
-    part-check-run-start
-    part-check-run-end
-    check-run-requires
-    enum-known-run
-    enum-told-4
-    refusal-requires-4
-    returns-4
-    returns-5
-    head-at-requires
-    returns-6)
+    (tie.spec (λ c κs. search needs) (λ c. search needs) (λ c. search needs) (λ c κs. search needs) returns check-padding-requires (λ c. search needs)
+    (λ c. search needs) (λ c κs. search needs) returns-2 check-payload-requires (λ c. search needs) (λ c. search needs) (λ c κs. search needs)
+    returns-3 add-at add-end add-count shared-slice-read-count (λ c. search needs) (λ c. search needs) part-check-run-end (λ c κs. search needs)
+    (λ c. search needs) (λ c. search needs) (λ c κs. search needs) returns-4 returns-5 head-at-requires returns-6)

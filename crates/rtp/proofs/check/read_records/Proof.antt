@@ -1,7 +1,7 @@
 -- `read_records` writes the cells of a packet's records to the first cells, and no other cell.
 -- By what the check found of its run.
 use borrow.Author.Needs.{needs}
-use mathlib.Core.Path.{_≡_, _∙_}
+use mathlib.Core.Path.{_∙_}
 use native.Mathlib.Omega.{arith}
 use Rattle.wire.proofs.Window.{below-all}
 use Rattle.rtp.proofs.ReadLaws.{Outlined, outlined}
@@ -14,20 +14,11 @@ found c = outlined _ _ _ (below-all (c .before .before .before .before .args .oc
 add-end : tie.Need-add-end
 add-end c = omega (arith, found c .whole)
 
-sub-read-run : tie.Need-sub-read-run
-sub-read-run c = search needs
-
-part-read-run-start : tie.Need-part-read-run-start
-part-read-run-start c = search needs
-
 part-read-run-end : tie.Need-part-read-run-end
 part-read-run-end c = omega (arith, found c .whole)
 
 read-run-requires : tie.Need-read-run-requires
 read-run-requires c κs = (found (c .before .before) .accepts, omega (arith, found (c .before .before) .size))
-
-same-length : tie.Need-same-length
-same-length c = search needs
 
 returns : tie.Need-returns
 returns c = c .before .before .read-run .ensures ∙ found (c .before .before .before .before .before) .after _
@@ -35,11 +26,4 @@ returns c = c .before .before .read-run .ensures ∙ found (c .before .before .b
 pub read-records-spec : {M : Type 1} → statement M
 read-records-spec =
     tie.close
-    (tie.spec
-    add-end
-    sub-read-run
-    part-read-run-start
-    part-read-run-end
-    read-run-requires
-    same-length
-    returns)
+    (tie.spec add-end (λ c. search needs) (λ c. search needs) part-read-run-end read-run-requires (λ c. search needs) returns)

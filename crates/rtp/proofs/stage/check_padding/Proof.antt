@@ -8,26 +8,12 @@ use borrow.Author.Tests.{le-leb, lt-leb}
 use lib.Dec.{leb}
 use lib.ListN.{length}
 use Rattle.wire.specs.Bits.{bitsAt}
+use Rattle.wire.specs.Layout.{rfc8331, payloadHeaderSize}
 use Rattle.wire.specs.Packet.{headerSize, paddingCount, payloadSize, paddingChecks}
 use Rattle.rtp.specs.declared.stage.Stage.the-variants as stage
 use Rattle.rtp.proofs.HeaderFields.{padding-at}
 use Rattle.rtp.proofs.stage.check_padding.Statement.{statement}
 use Rattle.rtp.proofs.stage.check_padding.Tie as tie
-
-padding-count-requires : tie.Need-padding-count-requires
-padding-count-requires c κs = search needs
-
-sub-after : tie.Need-sub-after
-sub-after c = search needs
-
-shared-slice-read-wide : tie.Need-shared-slice-read-wide
-shared-slice-read-wide c = search needs
-
-wide-requires : tie.Need-wide-requires
-wide-requires c κs = search needs
-
-refuse-requires : tie.Need-refuse-requires
-refuse-requires c κs = search needs
 
 returns : tie.Need-returns
 unfolding paddingChecks
@@ -39,9 +25,6 @@ returns c =
     let flag : c .before .before .wide .result / 32 % 2 ≡ bitsAt s 2 1 = ap (λ (x : ℕ). x / 32 % 2) (c .before .before .wide .ensures) ∙ sym (padding-at s (λ j. c .before .before .before .before .before .shared-slice-known .given j .fits) (p .2)) in
     let h1 : leb (bitsAt s 2 1) (paddingCount s) ≡ false = lt-leb _ _ (subst₂ _<_ n flag (c .before .if1 .taken)) in
     rw (c .refuse .ensures, h1)
-
-refuse-requires-2 : tie.Need-refuse-requires-2
-refuse-requires-2 c κs = search needs
 
 returns-2 : tie.Need-returns-2
 unfolding paddingChecks
@@ -55,9 +38,6 @@ returns-2 c =
     let h2 : leb (paddingCount s) (length s - headerSize s) ≡ false = lt-leb _ _ (subst₂ (λ (x y : ℕ). length s - x < y) (p .0) n (c .before .if2 .taken)) in
     rw (c .refuse2 .ensures, h1, h2)
 
-refuse-requires-3 : tie.Need-refuse-requires-3
-refuse-requires-3 c κs = search needs
-
 returns-3 : tie.Need-returns-3
 unfolding paddingChecks
 returns-3 c =
@@ -68,7 +48,7 @@ returns-3 c =
     let flag : c .before .before .before .before .wide .result / 32 % 2 ≡ bitsAt s 2 1 = ap (λ (x : ℕ). x / 32 % 2) (c .before .before .before .before .wide .ensures) ∙ sym (padding-at s (λ j. c .before .before .before .before .before .before .before .shared-slice-known .given j .fits) (p .2)) in
     let h1 : leb (bitsAt s 2 1) (paddingCount s) ≡ true = le-leb _ _ (subst₂ _≤_ flag n (c .before .before .before .if1 .left)) in
     let h2 : leb (paddingCount s) (length s - headerSize s) ≡ true = le-leb _ _ (subst₂ (λ (x y : ℕ). y ≤ length s - x) (p .0) n (c .before .before .if2 .left)) in
-    let h3 : leb 8 (payloadSize s) ≡ false = lt-leb _ _ (subst₂ (λ (x y : ℕ). length s - x - y < 8) (p .0) n (c .before .if3 .taken)) in
+    let h3 : leb (payloadHeaderSize rfc8331) (payloadSize s) ≡ false = lt-leb _ _ (subst₂ (λ (x y : ℕ). length s - x - y < payloadHeaderSize rfc8331) (p .0) n (c .before .if3 .taken)) in
     rw (c .refuse3 .ensures, h1, h2, h3)
 
 returns-4 : tie.Need-returns-4
@@ -81,21 +61,11 @@ returns-4 c =
     let flag : c .before .before .before .wide .result / 32 % 2 ≡ bitsAt s 2 1 = ap (λ (x : ℕ). x / 32 % 2) (c .before .before .before .wide .ensures) ∙ sym (padding-at s (λ j. c .before .before .before .before .before .before .shared-slice-known .given j .fits) (p .2)) in
     let h1 : leb (bitsAt s 2 1) (paddingCount s) ≡ true = le-leb _ _ (subst₂ _≤_ flag n (c .before .before .if1 .left)) in
     let h2 : leb (paddingCount s) (length s - headerSize s) ≡ true = le-leb _ _ (subst₂ (λ (x y : ℕ). y ≤ length s - x) (p .0) n (c .before .if2 .left)) in
-    let h3 : leb 8 (payloadSize s) ≡ true = le-leb _ _ (subst₂ (λ (x y : ℕ). 8 ≤ length s - x - y) (p .0) n (c .if3 .left)) in
+    let h3 : leb (payloadHeaderSize rfc8331) (payloadSize s) ≡ true = le-leb _ _ (subst₂ (λ (x y : ℕ). payloadHeaderSize rfc8331 ≤ length s - x - y) (p .0) n (c .if3 .left)) in
     rw (h1, h2, h3) (ap₂ (λ (x y : ℕ). stage.Passed (length s - x - y)) (p .0) n)
 
 pub check-padding-spec : {M : Type 1} → statement M
 check-padding-spec =
     tie.close
-    (tie.spec
-    padding-count-requires
-    sub-after
-    shared-slice-read-wide
-    wide-requires
-    refuse-requires
-    returns
-    refuse-requires-2
-    returns-2
-    refuse-requires-3
-    returns-3
-    returns-4)
+    (tie.spec (λ c κs. search needs) (λ c. search needs) (λ c. search needs) (λ c κs. search needs) (λ c κs. search needs) returns
+    (λ c κs. search needs) returns-2 (λ c κs. search needs) returns-3 returns-4)

@@ -8,30 +8,12 @@ use native.Mathlib.Omega.{arith}
 use borrow.Author.Tests.{eq-eqb, ne-eqb}
 use lib.Dec.{eqb}
 use lib.ListN.{length, getD}
-use Rattle.wire.specs.Layout.{rfc8331}
+use Rattle.wire.specs.Layout.{rfc8331, payloadHeaderSize}
 use Rattle.wire.specs.Packet.{payloadSize, lengthField, ancCount, fField, payloadChecks}
 use Rattle.rtp.specs.declared.stage.Stage.the-variants as stage
 use Rattle.rtp.proofs.HeaderFields.{length-at, count-at, f-at}
 use Rattle.rtp.proofs.stage.check_payload.Statement.{statement}
 use Rattle.rtp.proofs.stage.check_payload.Tie as tie
-
-add-pair-at : tie.Need-add-pair-at
-add-pair-at c = search needs
-
-pair-at-requires : tie.Need-pair-at-requires
-pair-at-requires c κs = search needs
-
-add-wide : tie.Need-add-wide
-add-wide c = search needs
-
-shared-slice-read-wide : tie.Need-shared-slice-read-wide
-shared-slice-read-wide c = search needs
-
-wide-requires : tie.Need-wide-requires
-wide-requires c κs = search needs
-
-refuse-requires : tie.Need-refuse-requires
-refuse-requires c κs = search needs
 
 returns : tie.Need-returns
 unfolding payloadChecks
@@ -40,17 +22,11 @@ returns c =
     let s = a .octets .now in
     let p = c .before .before .before .before .before .before .pre in
     let o : (j : ℕ) → getD s j 0 < 256 = λ j. c .before .before .before .before .before .shared-slice-known .given j .fits in
-    let l : a .header + 8 ≤ length s = omega arith in
+    let l : a .header + payloadHeaderSize rfc8331 ≤ length s = omega arith in
     let n : c .before .before .before .before .pair-at .result ≡ lengthField s = c .before .before .before .before .pair-at .ensures ∙ length-at s o (a .header) (p .0 .0) l in
     let f : fField rfc8331 s ≡ c .before .before .wide .result / 64 = f-at s o (a .header) (p .0 .0) l ∙ ap (λ (x : ℕ). x / 64) (sym (c .before .before .wide .ensures)) in
     let h1 : eqb (fField rfc8331 s) 1 ≡ true = ap (λ (x : ℕ). eqb x 1) f ∙ eq-eqb _ 1 (c .before .if1 .taken) in
     rw (c .refuse .ensures, h1)
-
-sub-if2 : tie.Need-sub-if2
-sub-if2 c = search needs
-
-refuse-requires-2 : tie.Need-refuse-requires-2
-refuse-requires-2 c κs = search needs
 
 returns-2 : tie.Need-returns-2
 unfolding payloadChecks
@@ -59,21 +35,12 @@ returns-2 c =
     let s = a .octets .now in
     let p = c .before .before .before .before .before .before .before .pre in
     let o : (j : ℕ) → getD s j 0 < 256 = λ j. c .before .before .before .before .before .before .shared-slice-known .given j .fits in
-    let l : a .header + 8 ≤ length s = omega arith in
+    let l : a .header + payloadHeaderSize rfc8331 ≤ length s = omega arith in
     let n : c .before .before .before .before .before .pair-at .result ≡ lengthField s = c .before .before .before .before .before .pair-at .ensures ∙ length-at s o (a .header) (p .0 .0) l in
     let f : fField rfc8331 s ≡ c .before .before .before .wide .result / 64 = f-at s o (a .header) (p .0 .0) l ∙ ap (λ (x : ℕ). x / 64) (sym (c .before .before .before .wide .ensures)) in
     let h1 : eqb (fField rfc8331 s) 1 ≡ false = ap (λ (x : ℕ). eqb x 1) f ∙ ne-eqb _ 1 (c .before .before .if1 .left) in
-    let h2 : eqb (lengthField s) (payloadSize s - 8) ≡ false = ap₂ (λ (x y : ℕ). eqb x (y - 8)) (sym n) (sym (p .0 .1)) ∙ ne-eqb _ _ (c .before .if2 .taken) in
+    let h2 : eqb (lengthField s) (payloadSize s - payloadHeaderSize rfc8331) ≡ false = ap₂ (λ (x y : ℕ). eqb x (y - payloadHeaderSize rfc8331)) (sym n) (sym (p .0 .1)) ∙ ne-eqb _ _ (c .before .if2 .taken) in
     rw (c .refuse2 .ensures, h1, h2)
-
-add-if3 : tie.Need-add-if3
-add-if3 c = search needs
-
-shared-slice-read-if3 : tie.Need-shared-slice-read-if3
-shared-slice-read-if3 c = search needs
-
-refuse-requires-3 : tie.Need-refuse-requires-3
-refuse-requires-3 c κs = search needs
 
 returns-3 : tie.Need-returns-3
 unfolding payloadChecks
@@ -82,11 +49,11 @@ returns-3 c =
     let s = a .octets .now in
     let p = c .before .before .before .before .before .before .before .before .before .before .pre in
     let o : (j : ℕ) → getD s j 0 < 256 = λ j. c .before .before .before .before .before .before .before .before .before .shared-slice-known .given j .fits in
-    let l : a .header + 8 ≤ length s = omega arith in
+    let l : a .header + payloadHeaderSize rfc8331 ≤ length s = omega arith in
     let n : c .before .before .before .before .before .before .before .before .pair-at .result ≡ lengthField s = c .before .before .before .before .before .before .before .before .pair-at .ensures ∙ length-at s o (a .header) (p .0 .0) l in
     let f : fField rfc8331 s ≡ c .before .before .before .before .before .before .wide .result / 64 = f-at s o (a .header) (p .0 .0) l ∙ ap (λ (x : ℕ). x / 64) (sym (c .before .before .before .before .before .before .wide .ensures)) in
     let h1 : eqb (fField rfc8331 s) 1 ≡ false = ap (λ (x : ℕ). eqb x 1) f ∙ ne-eqb _ 1 (c .before .before .before .before .before .if1 .left) in
-    let h2 : eqb (lengthField s) (payloadSize s - 8) ≡ true = ap₂ (λ (x y : ℕ). eqb x (y - 8)) (sym n) (sym (p .0 .1)) ∙ eq-eqb _ _ (c .before .before .before .before .if2 .left) in
+    let h2 : eqb (lengthField s) (payloadSize s - payloadHeaderSize rfc8331) ≡ true = ap₂ (λ (x y : ℕ). eqb x (y - payloadHeaderSize rfc8331)) (sym n) (sym (p .0 .1)) ∙ eq-eqb _ _ (c .before .before .before .before .if2 .left) in
     let h3 : eqb (ancCount s) 0 ≡ true = ap (λ (x : ℕ). eqb x 0) (count-at s o (a .header) (p .0 .0) l) ∙ eq-eqb _ 0 (c .before .before .if3 .taken) in
     let h4 : eqb (lengthField s) 0 ≡ false = ap (λ (x : ℕ). eqb x 0) (sym n) ∙ ne-eqb _ 0 (c .before .if4 .taken) in
     rw (c .refuse3 .ensures, h1, h2, h3, h4)
@@ -98,11 +65,11 @@ returns-4 c =
     let s = a .octets .now in
     let p = c .before .before .before .before .before .before .before .before .before .pre in
     let o : (j : ℕ) → getD s j 0 < 256 = λ j. c .before .before .before .before .before .before .before .before .shared-slice-known .given j .fits in
-    let l : a .header + 8 ≤ length s = omega arith in
+    let l : a .header + payloadHeaderSize rfc8331 ≤ length s = omega arith in
     let n : c .before .before .before .before .before .before .before .pair-at .result ≡ lengthField s = c .before .before .before .before .before .before .before .pair-at .ensures ∙ length-at s o (a .header) (p .0 .0) l in
     let f : fField rfc8331 s ≡ c .before .before .before .before .before .wide .result / 64 = f-at s o (a .header) (p .0 .0) l ∙ ap (λ (x : ℕ). x / 64) (sym (c .before .before .before .before .before .wide .ensures)) in
     let h1 : eqb (fField rfc8331 s) 1 ≡ false = ap (λ (x : ℕ). eqb x 1) f ∙ ne-eqb _ 1 (c .before .before .before .before .if1 .left) in
-    let h2 : eqb (lengthField s) (payloadSize s - 8) ≡ true = ap₂ (λ (x y : ℕ). eqb x (y - 8)) (sym n) (sym (p .0 .1)) ∙ eq-eqb _ _ (c .before .before .before .if2 .left) in
+    let h2 : eqb (lengthField s) (payloadSize s - payloadHeaderSize rfc8331) ≡ true = ap₂ (λ (x y : ℕ). eqb x (y - payloadHeaderSize rfc8331)) (sym n) (sym (p .0 .1)) ∙ eq-eqb _ _ (c .before .before .before .if2 .left) in
     let h3 : eqb (ancCount s) 0 ≡ true = ap (λ (x : ℕ). eqb x 0) (count-at s o (a .header) (p .0 .0) l) ∙ eq-eqb _ 0 (c .before .if3 .taken) in
     let h4 : eqb (lengthField s) 0 ≡ true = ap (λ (x : ℕ). eqb x 0) (sym n) ∙ eq-eqb _ 0 (c .if4 .left) in
     rw (h1, h2, h3, h4) (ap stage.Passed n)
@@ -114,31 +81,16 @@ returns-5 c =
     let s = a .octets .now in
     let p = c .before .before .before .before .before .before .before .before .pre in
     let o : (j : ℕ) → getD s j 0 < 256 = λ j. c .before .before .before .before .before .before .before .shared-slice-known .given j .fits in
-    let l : a .header + 8 ≤ length s = omega arith in
+    let l : a .header + payloadHeaderSize rfc8331 ≤ length s = omega arith in
     let n : c .before .before .before .before .before .before .pair-at .result ≡ lengthField s = c .before .before .before .before .before .before .pair-at .ensures ∙ length-at s o (a .header) (p .0 .0) l in
     let f : fField rfc8331 s ≡ c .before .before .before .before .wide .result / 64 = f-at s o (a .header) (p .0 .0) l ∙ ap (λ (x : ℕ). x / 64) (sym (c .before .before .before .before .wide .ensures)) in
     let h1 : eqb (fField rfc8331 s) 1 ≡ false = ap (λ (x : ℕ). eqb x 1) f ∙ ne-eqb _ 1 (c .before .before .before .if1 .left) in
-    let h2 : eqb (lengthField s) (payloadSize s - 8) ≡ true = ap₂ (λ (x y : ℕ). eqb x (y - 8)) (sym n) (sym (p .0 .1)) ∙ eq-eqb _ _ (c .before .before .if2 .left) in
+    let h2 : eqb (lengthField s) (payloadSize s - payloadHeaderSize rfc8331) ≡ true = ap₂ (λ (x y : ℕ). eqb x (y - payloadHeaderSize rfc8331)) (sym n) (sym (p .0 .1)) ∙ eq-eqb _ _ (c .before .before .if2 .left) in
     let h3 : eqb (ancCount s) 0 ≡ false = ap (λ (x : ℕ). eqb x 0) (count-at s o (a .header) (p .0 .0) l) ∙ ne-eqb _ 0 (c .if3 .left) in
     rw (h1, h2, h3) (ap stage.Passed n)
 
 pub check-payload-spec : {M : Type 1} → statement M
 check-payload-spec =
     tie.close
-    (tie.spec
-    add-pair-at
-    pair-at-requires
-    add-wide
-    shared-slice-read-wide
-    wide-requires
-    refuse-requires
-    returns
-    sub-if2
-    refuse-requires-2
-    returns-2
-    add-if3
-    shared-slice-read-if3
-    refuse-requires-3
-    returns-3
-    returns-4
-    returns-5)
+    (tie.spec (λ c. search needs) (λ c κs. search needs) (λ c. search needs) (λ c. search needs) (λ c κs. search needs) (λ c κs. search needs) returns
+    (λ c. search needs) (λ c κs. search needs) returns-2 (λ c. search needs) (λ c. search needs) (λ c κs. search needs) returns-3 returns-4 returns-5)

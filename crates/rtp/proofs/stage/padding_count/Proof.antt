@@ -8,21 +8,6 @@ use Rattle.rtp.proofs.HeaderFields.{padding-at, flag-times}
 use Rattle.rtp.proofs.stage.padding_count.Statement.{statement}
 use Rattle.rtp.proofs.stage.padding_count.Tie as tie
 
-sub-last : tie.Need-sub-last
-sub-last c = search needs
-
-shared-slice-read-wide : tie.Need-shared-slice-read-wide
-shared-slice-read-wide c = search needs
-
-wide-requires : tie.Need-wide-requires
-wide-requires c κs = search needs
-
-shared-slice-read-wide-2 : tie.Need-shared-slice-read-wide-2
-shared-slice-read-wide-2 c = search needs
-
-wide-requires-2 : tie.Need-wide-requires-2
-wide-requires-2 c κs = search needs
-
 mul-result : tie.Need-mul-result
 mul-result c =
     let s = c .before .before .before .before .before .args .octets .now in
@@ -36,11 +21,4 @@ returns c =
 pub padding-count-spec : {M : Type 1} → statement M
 padding-count-spec =
     tie.close
-    (tie.spec
-    sub-last
-    shared-slice-read-wide
-    wide-requires
-    shared-slice-read-wide-2
-    wide-requires-2
-    mul-result
-    returns)
+    (tie.spec (λ c. search needs) (λ c. search needs) (λ c κs. search needs) (λ c. search needs) (λ c κs. search needs) mul-result returns)

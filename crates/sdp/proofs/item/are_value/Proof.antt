@@ -16,23 +16,8 @@ Inv-loop text i₀ i = (i ≤ length text) × (areValue (drop i text) ≡ areVal
 abbrev μ-loop : tie.MeasureT-loop
 μ-loop text i₀ i = length text - i
 
-loop-holds : tie.Need-loop-holds Inv-loop μ-loop
-loop-holds c = search needs
-
-shared-slice-read-is-value : tie.Need-shared-slice-read-is-value Inv-loop μ-loop
-shared-slice-read-is-value c = search needs
-
-is-value-requires : tie.Need-is-value-requires Inv-loop μ-loop
-is-value-requires c κs = search needs
-
 returns : tie.Need-returns Inv-loop μ-loop
 returns c = let l = c .before .before .before .before .loop in sym (value-fails _ (l .i) (c .before .before .before .loop-test .taken) (sym (c .before .is-value .ensures) ∙ not-true _ (c .if1 .taken))) ∙ l .inv .1
-
-add-i : tie.Need-add-i Inv-loop μ-loop
-add-i c = search needs
-
-loop-less : tie.Need-loop-less Inv-loop μ-loop
-loop-less c = search needs
 
 loop-again : tie.Need-loop-again Inv-loop μ-loop
 loop-again c = let l = c .before .before .before .before .loop in (search needs, value-holds _ (l .i) (c .before .before .before .loop-test .taken) (sym (c .before .is-value .ensures) ∙ not-false _ (c .if1 .left)) ∙ l .inv .1)
@@ -43,14 +28,5 @@ returns-2 c = sym (value-ends _ _ (c .loop-test .left)) ∙ c .before .loop .inv
 pub are-value-spec : {M : Type 1} → statement M
 are-value-spec =
     tie.close
-    (tie.spec
-    Inv-loop
-    μ-loop
-    loop-holds
-    shared-slice-read-is-value
-    is-value-requires
-    returns
-    add-i
-    loop-less
-    loop-again
-    returns-2)
+    (tie.spec Inv-loop μ-loop (λ c. search needs) (λ c. search needs) (λ c κs. search needs) returns (λ c. search needs) (λ c. search needs)
+    loop-again returns-2)

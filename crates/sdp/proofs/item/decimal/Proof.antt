@@ -35,51 +35,15 @@ one : (s : List ℕ) (a b : ℕ) → a ≡ digitValue (getD s 0 0) → b ≡ dig
 unfolding number
 one s a b first second h l = sym (ap (digitsOf decimalBase) (digits-one decimalBase 2 s (omega arith) (omega arith) (omega arith)) ∙ (let e : digitValue (getD s 0 0) * 1 + 0 ≡ a = omega arith in ap (λ (n : ℕ). record { value = n; count = 1 }) e))
 
-octet-at-requires : tie.Need-octet-at-requires
-octet-at-requires c κs = search needs
-
-digit-value-requires : tie.Need-digit-value-requires
-digit-value-requires c κs = search needs
-
 returns : tie.Need-returns
 unfolding number
 returns c = let e = (c .before .digit-value .ensures ∙ ap digitValue (c .before .before .octet-at .ensures)) in sym (ap (digitsOf decimalBase) (digits-none decimalBase decimalMost (c .before .before .before .before .args .text .now) (omega arith)))
 
-octet-at-requires-2 : tie.Need-octet-at-requires-2
-octet-at-requires-2 c κs = search needs
-
-digit-value-requires-2 : tie.Need-digit-value-requires-2
-digit-value-requires-2 c κs = search needs
-
 returns-2 : tie.Need-returns-2
 returns-2 c = one _ _ _ (c .before .before .before .before .digit-value .ensures ∙ ap digitValue (c .before .before .before .before .before .octet-at .ensures)) (c .before .digit-value2 .ensures ∙ ap digitValue (c .before .before .octet-at2 .ensures)) (c .before .before .before .if1 .left) (c .if2 .taken)
 
-octet-at-requires-3 : tie.Need-octet-at-requires-3
-octet-at-requires-3 c κs = search needs
-
-digit-value-requires-3 : tie.Need-digit-value-requires-3
-digit-value-requires-3 c κs = search needs
-
-mul-t7 : tie.Need-mul-t7
-mul-t7 c = search needs
-
-add-t8 : tie.Need-add-t8
-add-t8 c = search needs
-
 returns-3 : tie.Need-returns-3
 returns-3 c = two _ _ _ _ (c .before .before .before .before .before .before .before .digit-value .ensures ∙ ap digitValue (c .before .before .before .before .before .before .before .before .octet-at .ensures)) (c .before .before .before .before .digit-value2 .ensures ∙ ap digitValue (c .before .before .before .before .before .octet-at2 .ensures)) (c .before .digit-value3 .ensures ∙ ap digitValue (c .before .before .octet-at3 .ensures)) (c .before .before .before .before .before .before .if1 .left) (c .before .before .before .if2 .left) (c .if3 .taken)
-
-mul-t9 : tie.Need-mul-t9
-mul-t9 c = search needs
-
-mul-t10 : tie.Need-mul-t10
-mul-t10 c = search needs
-
-add-t11 : tie.Need-add-t11
-add-t11 c = search needs
-
-add-t12 : tie.Need-add-t12
-add-t12 c = search needs
 
 returns-4 : tie.Need-returns-4
 returns-4 c = three _ _ _ _ (c .before .before .before .before .before .before .before .digit-value .ensures ∙ ap digitValue (c .before .before .before .before .before .before .before .before .octet-at .ensures)) (c .before .before .before .before .digit-value2 .ensures ∙ ap digitValue (c .before .before .before .before .before .octet-at2 .ensures)) (c .before .digit-value3 .ensures ∙ ap digitValue (c .before .before .octet-at3 .ensures)) (c .before .before .before .before .before .before .if1 .left) (c .before .before .before .if2 .left) (c .if3 .left)
@@ -87,20 +51,6 @@ returns-4 c = three _ _ _ _ (c .before .before .before .before .before .before .
 pub decimal-spec : {M : Type 1} → statement M
 decimal-spec =
     tie.close
-    (tie.spec
-    octet-at-requires
-    digit-value-requires
-    returns
-    octet-at-requires-2
-    digit-value-requires-2
-    returns-2
-    octet-at-requires-3
-    digit-value-requires-3
-    mul-t7
-    add-t8
-    returns-3
-    mul-t9
-    mul-t10
-    add-t11
-    add-t12
-    returns-4)
+    (tie.spec (λ c κs. search needs) (λ c κs. search needs) returns (λ c κs. search needs) (λ c κs. search needs) returns-2 (λ c κs. search needs)
+    (λ c κs. search needs) (λ c. search needs) (λ c. search needs) returns-3 (λ c. search needs) (λ c. search needs) (λ c. search needs)
+    (λ c. search needs) returns-4)

@@ -82,12 +82,6 @@ module _ (s : List ℕ) (d e : Digits) (same : d ≡ digitsOf hexBase (hexBehind
     last-is : take (length Part - (3 + e .count)) (drop (3 + e .count) Part) ≡ Last s
     last-is = part commaWord Part e same′ ∙ ap (behind commaWord) (part openWord s d same)
 
-slice-aggregate-hex-behind : tie.Need-slice-aggregate-hex-behind
-slice-aggregate-hex-behind c = search needs
-
-hex-behind-requires : tie.Need-hex-behind-requires
-hex-behind-requires c κs = search needs
-
 returns : tie.Need-returns
 returns c = no-did _ (sym (count openWord _ _ (c .before .before .hex-behind .ensures)) ∙ c .if1 .taken)
 
@@ -99,15 +93,6 @@ sub-rest c = inside openWord _ _ (c .before .before .before .hex-behind .ensures
 
 part-rest-start : tie.Need-part-rest-start
 part-rest-start c = inside openWord _ _ (c .before .before .before .hex-behind .ensures) (c .before .if1 .left)
-
-part-rest-end : tie.Need-part-rest-end
-part-rest-end c = search needs
-
-slice-aggregate-hex-behind-2 : tie.Need-slice-aggregate-hex-behind-2
-slice-aggregate-hex-behind-2 c = search needs
-
-hex-behind-requires-2 : tie.Need-hex-behind-requires-2
-hex-behind-requires-2 c κs = search needs
 
 returns-2 : tie.Need-returns-2
 returns-2 c = no-sdid _ (some openWord _ _ (c .before .before .before .before .before .before .before .before .hex-behind .ensures) (c .before .before .before .before .before .before .if1 .left)) (sym (count commaWord _ _ (sdid-is _ _ _ (c .before .before .before .before .before .before .before .before .hex-behind .ensures) (c .before .before .hex-behind2 .ensures))) ∙ c .if2 .taken)
@@ -122,15 +107,6 @@ sub-last c = inside commaWord _ _ (c .before .before .before .hex-behind2 .ensur
 
 part-last-start : tie.Need-part-last-start
 part-last-start c = inside commaWord _ _ (c .before .before .before .hex-behind2 .ensures) (c .before .if2 .left)
-
-part-last-end : tie.Need-part-last-end
-part-last-end c = search needs
-
-slice-aggregate-starts-with : tie.Need-slice-aggregate-starts-with
-slice-aggregate-starts-with c = search needs
-
-starts-with-requires : tie.Need-starts-with-requires
-starts-with-requires c κs = search needs
 
 returns-3 : tie.Need-returns-3
 returns-3 c = not-closed _ (some openWord _ _ (c .before .before .before .before .before .before .before .before .before .before .before .before .before .hex-behind .ensures) (c .before .before .before .before .before .before .before .before .before .before .before .if1 .left)) (some commaWord _ _ (sdid-is _ _ _ (c .before .before .before .before .before .before .before .before .before .before .before .before .before .hex-behind .ensures) (c .before .before .before .before .before .before .before .hex-behind2 .ensures)) (c .before .before .before .before .before .if2 .left)) (ap (startsWith closeWord) (sym (last-is _ _ _ (c .before .before .before .before .before .before .before .before .before .before .before .before .before .hex-behind .ensures) (c .before .before .before .before .before .before .before .hex-behind2 .ensures))) ∙ sym (c .before .starts-with .ensures) ∙ not-true _ (c .if3 .taken))
@@ -152,25 +128,6 @@ returns-5 c =
 pub did-sdid-spec : {M : Type 1} → statement M
 did-sdid-spec =
     tie.close
-    (tie.spec
-    slice-aggregate-hex-behind
-    hex-behind-requires
-    returns
-    add-behind-did
-    sub-rest
-    part-rest-start
-    part-rest-end
-    slice-aggregate-hex-behind-2
-    hex-behind-requires-2
-    returns-2
-    add-behind-sdid
-    sub-last
-    part-last-start
-    part-last-end
-    slice-aggregate-starts-with
-    starts-with-requires
-    returns-3
-    returns-4
-    cast-t24
-    cast-t25
-    returns-5)
+    (tie.spec (λ c. search needs) (λ c κs. search needs) returns add-behind-did sub-rest part-rest-start (λ c. search needs) (λ c. search needs)
+    (λ c κs. search needs) returns-2 add-behind-sdid sub-last part-last-start (λ c. search needs) (λ c. search needs) (λ c κs. search needs) returns-3
+    returns-4 cast-t24 cast-t25 returns-5)

@@ -9,27 +9,15 @@ use Rattle.sdp.proofs.ItemLaws.{within-true}
 use Rattle.sdp.proofs.item.digit_value.Statement.{statement}
 use Rattle.sdp.proofs.item.digit_value.Tie as tie
 
-in-range-requires : tie.Need-in-range-requires
-in-range-requires c κs = search needs
-
 sub-result : tie.Need-sub-result
 sub-result c = within-true 48 57 _ (sym (c .before .in-range .ensures) ∙ c .if1 .taken) .0
-
-cast-result : tie.Need-cast-result
-cast-result c = search needs
 
 returns : tie.Need-returns
 unfolding digitValue
 returns c = let h = sym (c .before .in-range .ensures) ∙ c .if1 .taken in rw h
 
-in-range-requires-2 : tie.Need-in-range-requires-2
-in-range-requires-2 c κs = search needs
-
 sub-result-2 : tie.Need-sub-result-2
 sub-result-2 c = let h : (65 ≤ c .before .before .before .before .args .octet) × (c .before .before .before .before .args .octet ≤ 70) = within-true 65 70 _ (sym (c .before .in-range2 .ensures) ∙ c .if2 .taken) in omega arith
-
-cast-result-2 : tie.Need-cast-result-2
-cast-result-2 c = search needs
 
 returns-2 : tie.Need-returns-2
 unfolding digitValue
@@ -37,14 +25,8 @@ returns-2 c =
     let h1 = sym (c .before .before .before .in-range .ensures) ∙ c .before .before .if1 .left in
     let h2 = sym (c .before .in-range2 .ensures) ∙ c .if2 .taken in rw (h1, h2)
 
-in-range-requires-3 : tie.Need-in-range-requires-3
-in-range-requires-3 c κs = search needs
-
 sub-result-3 : tie.Need-sub-result-3
 sub-result-3 c = let h : (97 ≤ c .before .before .before .before .before .before .args .octet) × (c .before .before .before .before .before .before .args .octet ≤ 102) = within-true 97 102 _ (sym (c .before .in-range3 .ensures) ∙ c .if3 .taken) in omega arith
-
-cast-result-3 : tie.Need-cast-result-3
-cast-result-3 c = search needs
 
 returns-3 : tie.Need-returns-3
 unfolding digitValue
@@ -63,17 +45,5 @@ returns-4 c =
 pub digit-value-spec : {M : Type 1} → statement M
 digit-value-spec =
     tie.close
-    (tie.spec
-    in-range-requires
-    sub-result
-    cast-result
-    returns
-    in-range-requires-2
-    sub-result-2
-    cast-result-2
-    returns-2
-    in-range-requires-3
-    sub-result-3
-    cast-result-3
-    returns-3
-    returns-4)
+    (tie.spec (λ c κs. search needs) sub-result (λ c. search needs) returns (λ c κs. search needs) sub-result-2 (λ c. search needs) returns-2
+    (λ c κs. search needs) sub-result-3 (λ c. search needs) returns-3 returns-4)

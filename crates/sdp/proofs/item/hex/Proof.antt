@@ -22,30 +22,12 @@ module _ (s : List ℕ) (a b : ℕ) (first : a ≡ digitValue (getD s 0 0)) (sec
   unfolding number digits
   two h l = sym (ap (digitsOf hexBase) (digits-two hexBase 0 s (omega arith) (omega arith) (omega arith)) ∙ (let e : digitValue (getD s 0 0) * 16 + (digitValue (getD s 1 0) * 1 + 0) ≡ a * 16 + b = omega arith in ap (λ (n : ℕ). record { value = n; count = 2 }) e))
 
-octet-at-requires : tie.Need-octet-at-requires
-octet-at-requires c κs = search needs
-
-digit-value-requires : tie.Need-digit-value-requires
-digit-value-requires c κs = search needs
-
 returns : tie.Need-returns
 unfolding number
 returns c = let e = (c .before .digit-value .ensures ∙ ap digitValue (c .before .before .octet-at .ensures)) in sym (ap (digitsOf hexBase) (digits-none hexBase hexMost (c .before .before .before .before .args .text .now) (omega arith)))
 
-octet-at-requires-2 : tie.Need-octet-at-requires-2
-octet-at-requires-2 c κs = search needs
-
-digit-value-requires-2 : tie.Need-digit-value-requires-2
-digit-value-requires-2 c κs = search needs
-
 returns-2 : tie.Need-returns-2
 returns-2 c = one _ _ _ (c .before .before .before .before .digit-value .ensures ∙ ap digitValue (c .before .before .before .before .before .octet-at .ensures)) (c .before .digit-value2 .ensures ∙ ap digitValue (c .before .before .octet-at2 .ensures)) (c .before .before .before .if1 .left) (c .if2 .taken)
-
-mul-t6 : tie.Need-mul-t6
-mul-t6 c = search needs
-
-add-t7 : tie.Need-add-t7
-add-t7 c = search needs
 
 returns-3 : tie.Need-returns-3
 returns-3 c = two _ _ _ (c .before .before .before .before .digit-value .ensures ∙ ap digitValue (c .before .before .before .before .before .octet-at .ensures)) (c .before .digit-value2 .ensures ∙ ap digitValue (c .before .before .octet-at2 .ensures)) (c .before .before .before .if1 .left) (c .if2 .left)
@@ -53,13 +35,5 @@ returns-3 c = two _ _ _ (c .before .before .before .before .digit-value .ensures
 pub hex-spec : {M : Type 1} → statement M
 hex-spec =
     tie.close
-    (tie.spec
-    octet-at-requires
-    digit-value-requires
-    returns
-    octet-at-requires-2
-    digit-value-requires-2
-    returns-2
-    mul-t6
-    add-t7
-    returns-3)
+    (tie.spec (λ c κs. search needs) (λ c κs. search needs) returns (λ c κs. search needs) (λ c κs. search needs) returns-2 (λ c. search needs)
+    (λ c. search needs) returns-3)

@@ -14,9 +14,6 @@ use Rattle.sdp.proofs.ItemLaws.{starts-length}
 use Rattle.sdp.proofs.item.hex_behind.Statement.{statement}
 use Rattle.sdp.proofs.item.hex_behind.Tie as tie
 
-starts-with-requires : tie.Need-starts-with-requires
-starts-with-requires c κs = search needs
-
 returns : tie.Need-returns
 unfolding hexBehind number
 returns c = let h = sym (c .before .starts-with .ensures) ∙ not-true _ (c .if1 .taken) in rw h
@@ -27,12 +24,6 @@ sub-hex c = starts-length _ _ (sym (c .before .starts-with .ensures) ∙ not-fal
 part-hex-start : tie.Need-part-hex-start
 part-hex-start c = starts-length _ _ (sym (c .before .starts-with .ensures) ∙ not-false _ (c .if1 .left))
 
-part-hex-end : tie.Need-part-hex-end
-part-hex-end c = search needs
-
-hex-requires : tie.Need-hex-requires
-hex-requires c κs = search needs
-
 returns-2 : tie.Need-returns-2
 unfolding hexBehind
 returns-2 c =
@@ -42,11 +33,4 @@ returns-2 c =
 pub hex-behind-spec : {M : Type 1} → statement M
 hex-behind-spec =
     tie.close
-    (tie.spec
-    starts-with-requires
-    returns
-    sub-hex
-    part-hex-start
-    part-hex-end
-    hex-requires
-    returns-2)
+    (tie.spec (λ c κs. search needs) returns sub-hex part-hex-start (λ c. search needs) (λ c κs. search needs) returns-2)

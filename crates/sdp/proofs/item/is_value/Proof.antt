@@ -10,4 +10,5 @@ unfolding isValue
 returns c = refl
 
 pub is-value-spec : {M : Type 1} → statement M
-is-value-spec = tie.close (tie.spec returns)
+is-value-spec = tie.close
+    (tie.spec returns)

@@ -43,14 +43,8 @@ module _ (s : List ℕ) (n : ℕ) (same : n ≡ nameLength s) where
       valued t h e = rw (name, sign, lt-ltb (nameLength s + 1) (length s) (omega (arith, same)))
           (ap (λ (b : Bool). cond b Other Malformed) (e ∙ ap areValue (part-all (n + 1) s) ∙ ap (λ (i : ℕ). areValue (drop (i + 1) s)) same))
 
-name-length-requires : tie.Need-name-length-requires
-name-length-requires c κs = search needs
-
 returns : tie.Need-returns
 returns c = no-name _ _ (c .before .name-length .ensures) (c .if1 .taken)
-
-octet-at-requires : tie.Need-octet-at-requires
-octet-at-requires c κs = search needs
 
 returns-2 : tie.Need-returns-2
 returns-2 c = no-equals _ _ (c .before .before .before .name-length .ensures) (c .before .before .if1 .left) (λ e. c .if2 .taken (c .before .octet-at .ensures ∙ e))
@@ -61,18 +55,6 @@ add-start c = omega (arith, c .before .before .before .name-length .ensures, nam
 returns-3 : tie.Need-returns-3
 returns-3 c = no-value _ _ (c .before .before .before .before .name-length .ensures) (c .before .before .before .if1 .left) (sym (c .before .before .octet-at .ensures) ∙ c .before .if2 .left) (c .if3 .taken)
 
-sub-are-value : tie.Need-sub-are-value
-sub-are-value c = search needs
-
-part-are-value-start : tie.Need-part-are-value-start
-part-are-value-start c = search needs
-
-part-are-value-end : tie.Need-part-are-value-end
-part-are-value-end c = search needs
-
-are-value-requires : tie.Need-are-value-requires
-are-value-requires c κs = search needs
-
 returns-4 : tie.Need-returns-4
 returns-4 c = ap (λ (b : Bool). cond b Other Malformed) (sym (not-true (c .before .are-value .result) (c .if4 .taken))) ∙ valued _ _ (c .before .before .before .before .before .before .before .name-length .ensures) (c .before .before .before .before .before .before .if1 .left) (sym (c .before .before .before .before .before .octet-at .ensures) ∙ c .before .before .before .before .if2 .left) _ (c .before .before .before .if3 .left) (c .before .are-value .ensures)
 
@@ -82,16 +64,5 @@ returns-5 c = ap (λ (b : Bool). cond b Other Malformed) (sym (not-false (c .bef
 pub other-spec : {M : Type 1} → statement M
 other-spec =
     tie.close
-    (tie.spec
-    name-length-requires
-    returns
-    octet-at-requires
-    returns-2
-    add-start
-    returns-3
-    sub-are-value
-    part-are-value-start
-    part-are-value-end
-    are-value-requires
-    returns-4
-    returns-5)
+    (tie.spec (λ c κs. search needs) returns (λ c κs. search needs) returns-2 add-start returns-3 (λ c. search needs) (λ c. search needs)
+    (λ c. search needs) (λ c κs. search needs) returns-4 returns-5)

@@ -10,23 +10,11 @@ use Rattle.sdp.proofs.ItemLaws.{starts-length}
 use Rattle.sdp.proofs.item.read_item.Statement.{statement}
 use Rattle.sdp.proofs.item.read_item.Tie as tie
 
-slice-aggregate-starts-with : tie.Need-slice-aggregate-starts-with
-slice-aggregate-starts-with c = search needs
-
-starts-with-requires : tie.Need-starts-with-requires
-starts-with-requires c κs = search needs
-
 sub-did-sdid : tie.Need-sub-did-sdid
 sub-did-sdid c = starts-length didSdidWord _ (sym (c .before .starts-with .ensures) ∙ c .if1 .taken)
 
 part-did-sdid-start : tie.Need-part-did-sdid-start
 part-did-sdid-start c = starts-length didSdidWord _ (sym (c .before .starts-with .ensures) ∙ c .if1 .taken)
-
-part-did-sdid-end : tie.Need-part-did-sdid-end
-part-did-sdid-end c = search needs
-
-did-sdid-requires : tie.Need-did-sdid-requires
-did-sdid-requires c κs = search needs
 
 returns : tie.Need-returns
 unfolding itemOf
@@ -34,23 +22,11 @@ returns c =
     let h : startsWith didSdidWord (c .before .before .before .before .before .before .args .text .now) ≡ true = sym (c .before .before .before .starts-with .ensures) ∙ c .before .before .if1 .taken in
     rw h (c .did-sdid .ensures ∙ ap didSdidOf (part-all 9 (c .before .before .before .before .before .before .args .text .now)))
 
-slice-aggregate-starts-with-2 : tie.Need-slice-aggregate-starts-with-2
-slice-aggregate-starts-with-2 c = search needs
-
-starts-with-requires-2 : tie.Need-starts-with-requires-2
-starts-with-requires-2 c κs = search needs
-
 sub-vpid-code : tie.Need-sub-vpid-code
 sub-vpid-code c = starts-length vpidCodeWord _ (sym (c .before .starts-with2 .ensures) ∙ c .if2 .taken)
 
 part-vpid-code-start : tie.Need-part-vpid-code-start
 part-vpid-code-start c = starts-length vpidCodeWord _ (sym (c .before .starts-with2 .ensures) ∙ c .if2 .taken)
-
-part-vpid-code-end : tie.Need-part-vpid-code-end
-part-vpid-code-end c = search needs
-
-vpid-code-requires : tie.Need-vpid-code-requires
-vpid-code-requires c κs = search needs
 
 returns-2 : tie.Need-returns-2
 unfolding itemOf
@@ -58,9 +34,6 @@ returns-2 c =
     let h : startsWith didSdidWord (c .before .before .before .before .before .before .before .before .before .args .text .now) ≡ false = sym (c .before .before .before .before .before .before .starts-with .ensures) ∙ c .before .before .before .before .before .if1 .left in
     let k : startsWith vpidCodeWord (c .before .before .before .before .before .before .before .before .before .args .text .now) ≡ true = sym (c .before .before .before .starts-with2 .ensures) ∙ c .before .before .if2 .taken in
     rw (h, k) (c .vpid-code .ensures ∙ ap vpidCodeOf (part-all 10 (c .before .before .before .before .before .before .before .before .before .args .text .now)))
-
-other-requires : tie.Need-other-requires
-other-requires c κs = search needs
 
 returns-3 : tie.Need-returns-3
 unfolding itemOf
@@ -72,20 +45,6 @@ returns-3 c =
 pub read-item-spec : {M : Type 1} → statement M
 read-item-spec =
     tie.close
-    (tie.spec
-    slice-aggregate-starts-with
-    starts-with-requires
-    sub-did-sdid
-    part-did-sdid-start
-    part-did-sdid-end
-    did-sdid-requires
-    returns
-    slice-aggregate-starts-with-2
-    starts-with-requires-2
-    sub-vpid-code
-    part-vpid-code-start
-    part-vpid-code-end
-    vpid-code-requires
-    returns-2
-    other-requires
-    returns-3)
+    (tie.spec (λ c. search needs) (λ c κs. search needs) sub-did-sdid part-did-sdid-start (λ c. search needs) (λ c κs. search needs) returns
+    (λ c. search needs) (λ c κs. search needs) sub-vpid-code part-vpid-code-start (λ c. search needs) (λ c κs. search needs) returns-2
+    (λ c κs. search needs) returns-3)

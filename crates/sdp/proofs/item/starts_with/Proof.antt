@@ -16,26 +16,11 @@ Inv-loop text word i₀ i = (i ≤ length word) × (startsWith (drop i word) (dr
 abbrev μ-loop : tie.MeasureT-loop
 μ-loop text word i₀ i = length word - i
 
-loop-holds : tie.Need-loop-holds Inv-loop μ-loop
-loop-holds c = search needs
-
 returns : tie.Need-returns Inv-loop μ-loop
 returns c = let l = c .before .before .loop in sym (starts-short _ _ _ (c .before .loop-test .taken) (c .if1 .taken)) ∙ l .inv .1
 
-shared-slice-read-if2 : tie.Need-shared-slice-read-if2 Inv-loop μ-loop
-shared-slice-read-if2 c = search needs
-
-shared-slice-read-if2-2 : tie.Need-shared-slice-read-if2-2 Inv-loop μ-loop
-shared-slice-read-if2-2 c = search needs
-
 returns-2 : tie.Need-returns-2 Inv-loop μ-loop
 returns-2 c = let l = c .before .before .before .before .before .loop in sym (starts-differs _ _ (l .i) (c .before .before .before .before .loop-test .taken) (omega arith) (c .if2 .taken)) ∙ l .inv .1
-
-add-i : tie.Need-add-i Inv-loop μ-loop
-add-i c = search needs
-
-loop-less : tie.Need-loop-less Inv-loop μ-loop
-loop-less c = search needs
 
 loop-again : tie.Need-loop-again Inv-loop μ-loop
 loop-again c = let l = c .before .before .before .before .before .loop in (search needs, starts-same _ _ (l .i) (c .before .before .before .before .loop-test .taken) (omega arith) (c .if2 .left) ∙ l .inv .1)
@@ -46,15 +31,5 @@ returns-3 c = sym (starts-end _ _ _ (c .loop-test .left)) ∙ c .before .loop .i
 pub starts-with-spec : {M : Type 1} → statement M
 starts-with-spec =
     tie.close
-    (tie.spec
-    Inv-loop
-    μ-loop
-    loop-holds
-    returns
-    shared-slice-read-if2
-    shared-slice-read-if2-2
-    returns-2
-    add-i
-    loop-less
-    loop-again
-    returns-3)
+    (tie.spec Inv-loop μ-loop (λ c. search needs) returns (λ c. search needs) (λ c. search needs) returns-2 (λ c. search needs) (λ c. search needs)
+    loop-again returns-3)

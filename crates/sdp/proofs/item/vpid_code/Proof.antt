@@ -43,9 +43,6 @@ module _ (s : List ℕ) (d : Digits) (same : d ≡ digitsOf decimalBase (digits 
       rw (lt-ltb 0 (length Ds) (omega (arith, count)), eq-eqb (length Ds) (length s) (sym count ∙ k), le-leb (number decimalBase Ds) maxCode (omega (arith, value)))
       (ap VpidCode value)
 
-decimal-requires : tie.Need-decimal-requires
-decimal-requires c κs = search needs
-
 returns : tie.Need-returns
 returns c = no-digits _ _ (c .before .before .decimal .ensures) (c .if1 .taken)
 
@@ -55,12 +52,10 @@ returns-2 c = more-behind _ _ (c .before .before .before .before .decimal .ensur
 returns-3 : tie.Need-returns-3
 returns-3 c = too-large _ _ (c .before .before .before .before .before .before .decimal .ensures) (c .before .before .before .before .if1 .left) (c .before .before .if2 .left) (c .if3 .taken)
 
-cast-t5 : tie.Need-cast-t5
-cast-t5 c = search needs
-
 returns-4 : tie.Need-returns-4
 returns-4 c = code _ _ (c .before .before .before .before .before .before .before .decimal .ensures) (c .before .before .before .before .before .if1 .left) (c .before .before .before .if2 .left) (c .before .if3 .left)
 
 pub vpid-code-spec : {M : Type 1} → statement M
 vpid-code-spec =
-    tie.close (tie.spec decimal-requires returns returns-2 returns-3 cast-t5 returns-4)
+    tie.close
+    (tie.spec (λ c κs. search needs) returns returns-2 returns-3 (λ c. search needs) returns-4)

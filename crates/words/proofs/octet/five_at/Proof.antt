@@ -1,23 +1,11 @@
 -- `five_at` is the forty bits at an octet.
 -- By the number that five octets write.
 use borrow.Author.Needs.{needs}
-use mathlib.Core.Path.{sym, _∙_}
+use mathlib.Core.Path.{sym}
 use native.Mathlib.Omega.{arith}
-use Rattle.words.proofs.Groups.{five-octets-at}
+use Rattle.words.proofs.Octets.{five-octets-at}
 use Rattle.words.proofs.octet.five_at.Statement.{statement}
 use Rattle.words.proofs.octet.five_at.Tie as tie
-
-quad-at-requires : tie.Need-quad-at-requires
-quad-at-requires c κs = search needs
-
-add-joined : tie.Need-add-joined
-add-joined c = search needs
-
-shared-slice-read-joined : tie.Need-shared-slice-read-joined
-shared-slice-read-joined c = search needs
-
-joined-requires : tie.Need-joined-requires
-joined-requires c κs = search needs
 
 returns : tie.Need-returns
 returns c =
@@ -28,4 +16,4 @@ returns c =
 pub five-at-spec : {M : Type 1} → statement M
 five-at-spec =
     tie.close
-    (tie.spec quad-at-requires add-joined shared-slice-read-joined joined-requires returns)
+    (tie.spec (λ c κs. search needs) (λ c. search needs) (λ c. search needs) (λ c κs. search needs) returns)

@@ -10,23 +10,11 @@ use Rattle.words.proofs.word.first_octet.Tie as tie
 known : (c : tie.Start) → First (c .args .a) (c .args .w) ((4 * 2 ^ c .args .m) % 65536) ((c .args .w * 2 ^ c .args .m) % 65536)
 known c = first-fits (c .args .m) (c .args .a) (c .args .w) (c .pre .0) (c .fits .a .fits) (c .pre .1)
 
-cast-u : tie.Need-cast-u
-cast-u c = search needs
-
-shl-u : tie.Need-shl-u
-shl-u c = search needs
-
 div-result : tie.Need-div-result
 div-result c = known c .pos
 
 mul-result : tie.Need-mul-result
 mul-result c = omega (arith, known c .cut)
-
-cast-result : tie.Need-cast-result
-cast-result c = search needs
-
-shl-result : tie.Need-shl-result
-shl-result c = search needs
 
 add-result : tie.Need-add-result
 add-result c = omega (arith, known c .whole)
@@ -40,13 +28,4 @@ returns c = λ b h. first-is (c .args .m) (c .args .a) b (c .args .w) (c .pre .0
 pub first-octet-spec : {M : Type 1} → statement M
 first-octet-spec =
     tie.close
-    (tie.spec
-    cast-u
-    shl-u
-    div-result
-    mul-result
-    cast-result
-    shl-result
-    add-result
-    cast-result-2
-    returns)
+    (tie.spec (λ c. search needs) (λ c. search needs) div-result mul-result (λ c. search needs) (λ c. search needs) add-result cast-result-2 returns)

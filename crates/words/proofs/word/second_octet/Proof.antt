@@ -10,18 +10,6 @@ use Rattle.words.proofs.word.second_octet.Tie as tie
 known : (c : tie.Start) → Second (c .args .b) (c .args .w) ((1 * 2 ^ c .args .m) % 65536) ((c .args .w * 2 ^ c .args .m) % 65536)
 known c = second-fits (c .args .m) (c .args .b) (c .args .w) (c .pre .0) (c .fits .b .fits) (c .pre .1)
 
-cast-u : tie.Need-cast-u
-cast-u c = search needs
-
-shl-u : tie.Need-shl-u
-shl-u c = search needs
-
-cast-result : tie.Need-cast-result
-cast-result c = search needs
-
-shl-result : tie.Need-shl-result
-shl-result c = search needs
-
 rem-result : tie.Need-rem-result
 rem-result c = known c .pos
 
@@ -37,4 +25,4 @@ returns c = λ a. second-is (c .args .m) a (c .args .b) (c .args .w) (c .pre .0)
 pub second-octet-spec : {M : Type 1} → statement M
 second-octet-spec =
     tie.close
-    (tie.spec cast-u shl-u cast-result shl-result rem-result add-result cast-result-2 returns)
+    (tie.spec (λ c. search needs) (λ c. search needs) (λ c. search needs) (λ c. search needs) rem-result add-result cast-result-2 returns)

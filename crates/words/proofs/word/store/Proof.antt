@@ -8,35 +8,8 @@ use Rattle.wire.proofs.Store.{store-ten}
 use Rattle.words.proofs.word.store.Statement.{statement}
 use Rattle.words.proofs.word.store.Tie as tie
 
-sub-m : tie.Need-sub-m
-sub-m c = search needs
-
-slice-read-first-octet : tie.Need-slice-read-first-octet
-slice-read-first-octet c = search needs
-
-first-octet-requires : tie.Need-first-octet-requires
-first-octet-requires c κs = search needs
-
-add-second-octet : tie.Need-add-second-octet
-add-second-octet c = search needs
-
-slice-read-second-octet : tie.Need-slice-read-second-octet
-slice-read-second-octet c = search needs
-
-second-octet-requires : tie.Need-second-octet-requires
-second-octet-requires c κs = search needs
-
-slice-write-octets : tie.Need-slice-write-octets
-slice-write-octets c = search needs
-
-add-octets : tie.Need-add-octets
-add-octets c = search needs
-
 slice-write-octets-2 : tie.Need-slice-write-octets-2
 slice-write-octets-2 c = simp length-set (omega arith)
-
-same-length : tie.Need-same-length
-same-length c = search needs
 
 returns : tie.Need-returns
 returns c =
@@ -51,15 +24,5 @@ returns c =
 pub store-spec : {M : Type 1} → statement M
 store-spec =
     tie.close
-    (tie.spec
-    sub-m
-    slice-read-first-octet
-    first-octet-requires
-    add-second-octet
-    slice-read-second-octet
-    second-octet-requires
-    slice-write-octets
-    add-octets
-    slice-write-octets-2
-    same-length
-    returns)
+    (tie.spec (λ c. search needs) (λ c. search needs) (λ c κs. search needs) (λ c. search needs) (λ c. search needs) (λ c κs. search needs)
+    (λ c. search needs) (λ c. search needs) slice-write-octets-2 (λ c. search needs) returns)

@@ -1,7 +1,7 @@
 -- `arrive` does one step: the next state, the answer, and the store.
 -- By what was found of the packet, stage by stage.
 use borrow.Author.Needs.{needs}
-use mathlib.Core.Path.{_≡_, refl, ap, sym, subst, _∙_}
+use mathlib.Core.Path.{_≡_, refl, ap, sym, _∙_}
 use mathlib.Core.Bool.{Bool, true, false, cond}
 use mathlib.Core.List.{List}
 use mathlib.Core.Logic.{⊎-elim}
@@ -14,21 +14,19 @@ use Rattle.wire.specs.Result.{Result, accepted}
 use Rattle.wire.specs.Cells.{listOf}
 use Rattle.wire.specs.Packet.{Content, readContent}
 use Rattle.wire.proofs.ListLaws.{part-written, length-splice}
-use Rattle.rtp.specs.Answers.{checkedOf, checkedRefusal, cellsAfter, summaryOf}
+use Rattle.rtp.specs.Answers.{checkedOf, cellsAfter, summaryOf}
 use Rattle.rtp.specs.declared.packet.Outline.{Outline}
 use Rattle.rtp.specs.declared.packet.Summary.{Summary}
 use Rattle.rtp.specs.declared.packet.Checked.the-variants as checked
-use Rattle.rtp.proofs.ReadLaws.{refused-is, Found, found}
+use Rattle.rtp.proofs.ReadLaws.{Found, found}
 use Rattle.depacketizer.specs.declared.state.Answer.the-variants as answer
 use Rattle.depacketizer.specs.declared.state.Depacketizer.{Depacketizer as State}
-use Rattle.depacketizer.specs.declared.state.Arrival.{Arrival}
-use Rattle.depacketizer.specs.declared.decide.Decision.{Decision}
-use Rattle.depacketizer.specs.declared.distance.Place.the-variants as place
-use Rattle.depacketizer.specs.Step.{Step, step, gathered, lost, sound, classify, distance}
-use Rattle.depacketizer.specs.Decide.{admission, placeOf, followBy, afterBy, arrivalOf}
-use Rattle.depacketizer.proofs.AdmitLaws.{passed, step-refused, step-admitted, packet-late}
+use Rattle.depacketizer.specs.declared.distance.Freshness.the-variants as freshness
+use Rattle.depacketizer.specs.Step.{Step, step, gathered, lost, follow, decisionOf, after, sound, admission, classify, distance}
+use Rattle.depacketizer.specs.Answers.{freshnessOf, arrivalOf}
+use Rattle.depacketizer.proofs.AdmitLaws.{passed, step-admitted, packet-late}
 use Rattle.depacketizer.proofs.DecideLaws.{Sound, sound-is}
-use Rattle.depacketizer.proofs.ArriveLaws.{fresh-step, fresh-room}
+use Rattle.depacketizer.proofs.ArriveLaws.{refused-step, fresh-step, fresh-room}
 use Rattle.depacketizer.proofs.state.Depacketizer.arrive.Statement.{statement}
 use Rattle.depacketizer.proofs.state.Depacketizer.arrive.Tie as tie
 
@@ -55,21 +53,21 @@ is-sound c = let a = c .before .before .before .before .before .before .args in 
 
 -- where the packet stands
 placed : (c : tie.After-known-told2)
-    → placeOf (c .before .before .before .before .before .before .before .before .before .before .before .before .args .self .heard) (classify (distance (c .before .before .before .before .before .before .before .before .before .before .before .before .args .self .last .0) (says (c .before .before .before .before .before .before) .says .number)))
-    ≡ place.Fresh (c .before .place .given .0 .0) (c .before .place .given .0 .1 .0)
+    → freshnessOf (c .before .before .before .before .before .before .before .before .before .before .before .before .args .self .heard) (classify (distance (c .before .before .before .before .before .before .before .before .before .before .before .before .args .self .last .0) (says (c .before .before .before .before .before .before) .says .number)))
+    ≡ freshness.Fresh (c .before .freshness .given .0 .0) (c .before .freshness .given .0 .1 .0)
 placed c =
     let a = c .before .before .before .before .before .before .before .before .before .before .before .before .args in
-    ap (λ (x : ℕ). placeOf (a .self .heard) (classify (distance (a .self .last .0) x))) (sym (number-is (c .before .before .before .before .before .before)))
-    ∙ sym (c .before .before .before .classify .ensures) ∙ c .before .place .given .1
+    ap (λ (x : ℕ). freshnessOf (a .self .heard) (classify (distance (a .self .last .0) x))) (sym (number-is (c .before .before .before .before .before .before)))
+    ∙ sym (c .before .before .before .classify .ensures) ∙ c .before .freshness .given .1
 
 -- what is decided, of what the packet says
 decided : (c : tie.After-decide)
     → c .decide .result
-    ≡ followBy (cond (c .before .before .place .given .0 .1 .0) (gathered (c .before .before .before .before .before .before .before .before .before .before .before .before .before .args .self)) lost) (summaryOf (says (c .before .before .before .before .before .before .before) .says)) (length (c .before .before .before .before .before .before .before .before .before .before .before .before .before .args .store .now))
+    ≡ decisionOf (follow (cond (c .before .before .freshness .given .0 .1 .0) (gathered (c .before .before .before .before .before .before .before .before .before .before .before .before .before .args .self)) lost) (summaryOf (says (c .before .before .before .before .before .before .before) .says)) (length (c .before .before .before .before .before .before .before .before .before .before .before .before .before .args .store .now)))
 decided c =
     let a = c .before .before .before .before .before .before .before .before .before .before .before .before .before .args in
     c .decide .ensures
-    ∙ ap (λ (x : Summary). followBy (cond (c .before .before .place .given .0 .1 .0) (gathered (a .self)) lost) x (length (a .store .now))) (sym (said (c .before .before .before .before .before .before .before)))
+    ∙ ap (λ (x : Summary). decisionOf (follow (cond (c .before .before .freshness .given .0 .1 .0) (gathered (a .self)) lost) x (length (a .store .now)))) (sym (said (c .before .before .before .before .before .before .before)))
 
 -- the whole step
 stepped : (c : tie.After-decide)
@@ -78,13 +76,13 @@ stepped : (c : tie.After-decide)
     step (a .self) (a .octets .now) (a .store .now)
     ≡ record {
       answer = c .decide .result .answer;
-      state = afterBy (a .self) (k .number) (c .decide .result) (c .before .before .place .given .0 .0);
+      state = after (a .self) (k .number) (c .decide .result) (c .before .before .freshness .given .0 .0);
       store = cond (c .decide .result .append) (splice (a .store .now) (a .self .cells) (listOf (k .records))) (a .store .now);
     }
 stepped c =
     let a = c .before .before .before .before .before .before .before .before .before .before .before .before .before .args in
     let f = says (c .before .before .before .before .before .before .before) in
-    fresh-step (a .self) (a .octets .now) (a .store .now) (f .says) (f .reads) (c .before .before .place .given .0 .0) (c .before .before .place .given .0 .1 .0)
+    fresh-step (a .self) (a .octets .now) (a .store .now) (f .says) (f .reads) (c .before .before .freshness .given .0 .0) (c .before .before .freshness .given .0 .1 .0)
     (placed (c .before)) (c .decide .result) (decided c)
 
 -- appended cells have room
@@ -93,7 +91,7 @@ roomy : (c : tie.After-decide) → c .decide .result .append ≡ true
 roomy c =
     let a = c .before .before .before .before .before .before .before .before .before .before .before .before .before .args in
     let f = says (c .before .before .before .before .before .before .before) in
-    fresh-room (a .self) (a .octets .now) (a .store .now) (f .says) (f .reads) (c .before .before .place .given .0 .0) (c .before .before .place .given .0 .1 .0)
+    fresh-room (a .self) (a .octets .now) (a .store .now) (f .says) (f .reads) (c .before .before .freshness .given .0 .0) (c .before .before .freshness .given .0 .1 .0)
     (placed (c .before)) (c .decide .result) (decided c)
 
 -- what the store then holds
@@ -117,36 +115,12 @@ same-size c =
     let x = listOf (says (c .before .before .before .before .before .before .before .before .before) .says .records) in
     ap length (written c) ∙ kept (c .before .before .decide .result .append) (a .store .now) (a .self .cells) x (roomy (c .before .before))
 
-admit-requires : tie.Need-admit-requires
-admit-requires c κs = search needs
-
-enum-known-admitted : tie.Need-enum-known-admitted
-enum-known-admitted c = search needs
-
-enum-told : tie.Need-enum-told
-enum-told c = search needs
-
-refusal-requires : tie.Need-refusal-requires
-refusal-requires c κs = search needs
-
 returns : tie.Need-returns
 returns c =
     let a = c .before .before .before .before .before .before .args in
     let t = c .before .enum-told .given in
-    let e = step-refused (a .self) (a .octets .now) (a .store .now) _ (refused-is _ _ _ (sym (c .before .before .before .admit .ensures) ∙ t .1)) in
-    (ap (λ x. record { state = a .self; answer = answer.Refused x }) (c .refusal .ensures ∙ ap checkedRefusal (t .1)) ∙ ap arrivalOf (sym e), ap (λ (x : Step). x .store) (sym e))
-
-classify-requires : tie.Need-classify-requires
-classify-requires c κs = search needs
-
-enum-known-place : tie.Need-enum-known-place
-enum-known-place c = search needs
-
-enum-told-2 : tie.Need-enum-told-2
-enum-told-2 c = search needs
-
-later-requires : tie.Need-later-requires
-later-requires c κs = search needs
+    let e = refused-step (a .self) (a .octets .now) (a .store .now) _ _ (c .before .before .before .admit .ensures) (t .1) in
+    rw (c .refusal .ensures, t .1) (ap arrivalOf (sym e), ap (λ (x : Step). x .store) (sym e))
 
 returns-2 : tie.Need-returns-2
 returns-2 c =
@@ -155,7 +129,7 @@ returns-2 c =
     let k = says p .says in
     let e = step-admitted (a .self) (a .octets .now) (a .store .now) k (says p .reads)
     ∙ packet-late (a .self) k (a .store .now) (a .self .heard)
-    (ap (λ (x : ℕ). placeOf (a .self .heard) (classify (distance (a .self .last .0) x))) (sym (number-is p)) ∙ sym (c .before .before .before .classify .ensures) ∙ c .before .enum-told2 .given .1) in
+    (ap (λ (x : ℕ). freshnessOf (a .self .heard) (classify (distance (a .self .last .0) x))) (sym (number-is p)) ∙ sym (c .before .before .before .classify .ensures) ∙ c .before .enum-told2 .given .1) in
     (ap (λ (x : State). record { state = x; answer = answer.Refused (record { number = 32; index = 0 }) }) (c .later .ensures) ∙ ap arrivalOf (sym e), ap (λ (x : Step). x .store) (sym e))
 
 decide-requires : tie.Need-decide-requires
@@ -170,9 +144,6 @@ sub-read-records c = is-sound (c .before .before .before .before .before .before
 part-read-records-start : tie.Need-part-read-records-start
 part-read-records-start c = omega (arith, is-sound (c .before .before .before .before .before .before .before .before) .fitting .enough)
 
-part-read-records-end : tie.Need-part-read-records-end
-part-read-records-end c = search needs
-
 read-records-requires : tie.Need-read-records-requires
 read-records-requires c κs =
     let a = c .before .before .before .before .before .before .before .before .before .before .before .before .before .before .before .args in
@@ -180,9 +151,6 @@ read-records-requires c κs =
     let n = roomy (c .before .before) (c .before .if1 .taken) in
     let e = ap (λ (x : Summary). x .cells) (said p) in
     (ap (checkedOf (a .octets .now)) (passes p .1) ∙ ap checked.Packet (says p .outline), simp (length-take, length-drop) (omega (arith, n, e)))
-
-after-requires : tie.Need-after-requires
-after-requires c κs = search needs
 
 same-length : tie.Need-same-length
 same-length c = same-size c
@@ -192,29 +160,12 @@ returns-3 c =
     let p = c .before .before .before .before .before .before .before .before .before in
     let d = c .before .before in
     let a = c .before .before .before .before .before .before .before .before .before .before .before .before .before .before .before .args in
-    let e = ap (λ (x : ℕ). afterBy (a .self) x (d .decide .result) (d .before .before .place .given .0 .0)) (number-is p) in
+    let e = ap (λ (x : ℕ). after (a .self) x (d .decide .result) (d .before .before .freshness .given .0 .0)) (number-is p) in
     ((λ i. record { state = (c .after .ensures ∙ e) i; answer = d .decide .result .answer }) ∙ ap arrivalOf (sym (stepped d)), written c ∙ ap (λ (x : Step). x .store) (sym (stepped d)))
 
 pub arrive-spec : {M : Type 1} → statement M
 arrive-spec =
     tie.close
-    (tie.spec
-    admit-requires
-    enum-known-admitted
-    enum-told
-    refusal-requires
-    returns
-    classify-requires
-    enum-known-place
-    enum-told-2
-    later-requires
-    returns-2
-    decide-requires
-    mul-read-records
-    sub-read-records
-    part-read-records-start
-    part-read-records-end
-    read-records-requires
-    after-requires
-    same-length
-    returns-3)
+    (tie.spec (λ c κs. search needs) (λ c. search needs) (λ c. search needs) (λ c κs. search needs) returns (λ c κs. search needs) (λ c. search needs)
+    (λ c. search needs) (λ c κs. search needs) returns-2 decide-requires mul-read-records sub-read-records part-read-records-start (λ c. search needs)
+    read-records-requires (λ c κs. search needs) same-length returns-3)

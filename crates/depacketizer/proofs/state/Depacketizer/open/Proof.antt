@@ -12,4 +12,5 @@ returns-2 : tie.Need-returns-2
 returns-2 c = rw (le-leb (c .before .args .payload-type) maxType (c .if1 .left))
 
 pub open-spec : {M : Type 1} → statement M
-open-spec = tie.close (tie.spec returns returns-2)
+open-spec = tie.close
+    (tie.spec returns returns-2)

@@ -1,0 +1,53 @@
+-- A refused arrival leaves the state's row and the store as they were, but for the late count.
+-- By the library's law of a refused step, and because the numbers of the state in a row are the row's own.
+use mathlib.Core.Path.{_≡_, refl, ap, _∙_}
+use mathlib.Core.Bool.{Bool, true, false, cond}
+use mathlib.Core.List.{List, []}
+use Prim.Native.Nat.{ℕ, _≤_}
+use lib.ListN.{length}
+use Rattle.wire.specs.Bits.{overwrite}
+use Rattle.depacketizer.specs.declared.state.Answer.{Answer}
+use Rattle.depacketizer.specs.declared.state.Answer.the-variants as answer
+use Rattle.depacketizer.specs.Step.{Step, step}
+use Rattle.depacketizer.proofs.StepLaws.{refused-keeps}
+use Rattle.boundary.specs.declared.state.Restored.the-variants as restored
+use Rattle.boundary.specs.Rows.{arrivalReply, rowReply, stateSize}
+use Rattle.boundary.specs.State.{isState, numbersOf, stateAt, stateIn}
+use Rattle.capi.specs.Calls.{Arrived, arrive, arrivedAt, rowsFit}
+use Rattle.capi.proofs.RowLaws.{rows-long}
+use Rattle.boundary.proofs.StateLaws.{row-again}
+
+module _ (state octets store given : List ℕ) where
+  -- what an arrival that is refused by a number other than 32 leaves alone
+  abbrev Keeps : Arrived → Type 0
+  Keeps a =
+      (a .reply .number ≡ 0 → ⊥) → (a .reply .number ≡ 32 → ⊥) → (overwrite (a .numbers) state ≡ state) × (a .store ≡ store)
+
+  abbrev next : Step
+  next = step (stateAt state) octets store
+
+  answer-keeps : isState state ≡ true → stateSize ≤ length state → (x : Answer) → next .answer ≡ x
+      → (arrivalReply x .number ≡ 0 → ⊥) → (arrivalReply x .number ≡ 32 → ⊥)
+      → (overwrite (numbersOf (next .state)) state ≡ state) × (next .store ≡ store)
+  answer-keeps is long (answer.Refused x) e accepted late =
+      let k = refused-keeps (stateAt state) octets store x e .other late in
+      (ap (λ (z : Step). overwrite (numbersOf (z .state)) state) k ∙ row-again state is long, ap (λ (z : Step). z .store) k)
+  answer-keeps is long answer.Skipped e accepted late = absurd (accepted refl)
+  answer-keeps is long answer.Held e accepted late = absurd (accepted refl)
+  answer-keeps is long answer.Mixed e accepted late = absurd (accepted refl)
+  answer-keeps is long answer.Overfull e accepted late = absurd (accepted refl)
+  answer-keeps is long (answer.Whole x) e accepted late = absurd (accepted refl)
+
+  state-keeps : (b : Bool) → isState state ≡ b → stateSize ≤ length state
+      → Keeps (arrivedAt (cond b (restored.State (stateAt state)) restored.Unsound) octets store)
+  state-keeps true is long = answer-keeps is long (next .answer) refl
+  state-keeps false is long = λ accepted late. (refl, refl)
+
+  rows-keep : (b : Bool) → rowsFit (length state) (length given) ≡ b
+      → Keeps (cond b (arrivedAt (stateIn state) octets store) (record { reply = rowReply; numbers = []; store = store }))
+  rows-keep true fit = state-keeps (isState state) refl (rows-long (length state) (length given) fit .0)
+  rows-keep false fit = λ accepted late. (refl, refl)
+
+  -- "Lent memory is unchanged, and so is the keeper's state, but 32 adds one to the late count."
+  pub refused-keeps-row : Keeps (arrive state octets store given)
+  refused-keeps-row = rows-keep (rowsFit (length state) (length given)) refl

@@ -1,0 +1,239 @@
+//! The depacketizer gathers packets into whole fields.
+
+use crate::anc::{MAX_CELLS, MAX_RECORDS};
+use crate::packet::{check, Accepted, Summary};
+use crate::refusal::Refusal;
+
+pub const LOST: u8 = 0;
+pub const READY: u8 = 1;
+pub const FILLING: u8 = 2;
+
+/// The depacketizer's state. Where it is not filling, an arrival that is fresh
+/// leaves timestamp, F, records and cells 0.
+#[derive(Clone, Copy, Debug, PartialEq, Eq)]
+pub struct State {
+    pub source: u32,
+    pub payload_type: u8,
+    /// 0 lost, 1 ready, 2 filling.
+    pub phase: u8,
+    /// Whether there was a first fresh arrival.
+    pub heard: bool,
+    /// The last fresh number, if heard.
+    pub last: u32,
+    pub timestamp: u32,
+    pub f: u8,
+    pub records: usize,
+    pub cells: usize,
+    pub fresh: u64,
+    pub late: u64,
+    pub missing: u64,
+}
+
+#[derive(Clone, Copy, Debug, PartialEq, Eq)]
+pub enum Answer {
+    Skipped,
+    Held,
+    Mixed,
+    Overfull,
+    Whole {
+        timestamp: u32,
+        f: u8,
+        records: usize,
+        cells: usize,
+    },
+    Refused(Refusal),
+}
+
+/// Where an arrival stands against the last fresh one.
+#[derive(Clone, Copy, Debug, PartialEq, Eq)]
+pub enum Distance {
+    First,
+    Next,
+    /// Distance over 1: that many packets are missing between.
+    Gap(u32),
+    Late,
+}
+
+/// A depacketizer just opened is lost, has no last fresh number, counts 0.
+/// 24 if the payload type is over 127.
+pub fn open(source: u32, payload_type: u8) -> Result<State, Refusal> {
+    if payload_type > 127 {
+        return Err(Refusal::plain(24));
+    }
+    Ok(State {
+        source,
+        payload_type,
+        phase: LOST,
+        heard: false,
+        last: 0,
+        timestamp: 0,
+        f: 0,
+        records: 0,
+        cells: 0,
+        fresh: 0,
+        late: 0,
+        missing: 0,
+    })
+}
+
+/// The number less the last fresh one modulo 2^32, read as a signed 32-bit
+/// number; zero or negative is late.
+#[inline]
+pub fn distance(last: u32, number: u32) -> Distance {
+    match number.wrapping_sub(last) as i32 {
+        1 => Distance::Next,
+        far if far > 1 => Distance::Gap(far as u32 - 1),
+        _ => Distance::Late,
+    }
+}
+
+/// One arrival: 35, then 1 to 13, then 30, 31, 32; a fresh one is counted
+/// and gathered. The store is written by held and whole only.
+#[inline]
+pub fn arrive(state: State, octets: &[u8], store: &mut [u16]) -> (State, Answer) {
+    if !state.is_sound(store.len()) {
+        return (state, refused(35));
+    }
+    let packet = match check(octets) {
+        Ok(packet) => packet,
+        Err(refusal) => return (state, Answer::Refused(refusal)),
+    };
+    if packet.summary.source != state.source {
+        return (state, refused(30));
+    }
+    if packet.summary.payload_type != state.payload_type {
+        return (state, refused(31));
+    }
+    match state.distance(packet.summary.number) {
+        Distance::Late => (state.count_late(), refused(32)),
+        far => state.take(far, &packet, store),
+    }
+}
+
+fn refused(number: u8) -> Answer {
+    Answer::Refused(Refusal::plain(number))
+}
+
+impl State {
+    /// None of what 35 names.
+    #[inline(always)]
+    fn is_sound(&self, store: usize) -> bool {
+        self.phase <= FILLING
+            && self.records <= MAX_RECORDS
+            && self.cells <= MAX_CELLS
+            && self.cells <= store
+            && (self.phase == FILLING || (self.records == 0 && self.cells == 0))
+            && (self.phase == LOST || self.heard)
+    }
+
+    #[inline(always)]
+    fn distance(&self, number: u32) -> Distance {
+        match self.heard {
+            false => Distance::First,
+            true => distance(self.last, number),
+        }
+    }
+
+    fn count_late(self) -> State {
+        State {
+            late: self.late.saturating_add(1),
+            ..self
+        }
+    }
+
+    /// A fresh arrival: what it was answered, and the state after it.
+    #[inline(always)]
+    fn take(self, far: Distance, packet: &Accepted, store: &mut [u16]) -> (State, Answer) {
+        let summary = &packet.summary;
+        let missing = match far {
+            Distance::Gap(missing) => missing as u64,
+            _ => 0,
+        };
+        let counted = State {
+            heard: true,
+            last: summary.number,
+            fresh: self.fresh.saturating_add(1),
+            missing: self.missing.saturating_add(missing),
+            ..self
+        };
+        if far != Distance::Next || self.phase == LOST {
+            return (counted.drop_field(summary.marker), Answer::Skipped);
+        }
+        if self.phase == FILLING && !self.joins(summary) {
+            return (counted.drop_field(summary.marker), Answer::Mixed);
+        }
+        counted.gather(packet, store)
+    }
+
+    fn joins(&self, summary: &Summary) -> bool {
+        self.timestamp == summary.timestamp && self.f == summary.f
+    }
+
+    /// Starts a field or joins one: overfull, whole or held. Not filling,
+    /// there are no records and cells to add to.
+    #[inline(always)]
+    fn gather(self, packet: &Accepted, store: &mut [u16]) -> (State, Answer) {
+        let summary = &packet.summary;
+        let records = self.records + summary.records as usize;
+        let cells = self.cells + summary.cells;
+        let fits = records <= MAX_RECORDS && cells <= MAX_CELLS && cells <= store.len();
+        if !fits || packet.run.read(&mut store[self.cells..]).is_err() {
+            return (self.drop_field(summary.marker), Answer::Overfull);
+        }
+        let (timestamp, f) = (summary.timestamp, summary.f);
+        if summary.marker {
+            let whole = Answer::Whole {
+                timestamp,
+                f,
+                records,
+                cells,
+            };
+            return (self.drop_field(true), whole);
+        }
+        let filling = State {
+            phase: FILLING,
+            timestamp,
+            f,
+            records,
+            cells,
+            ..self
+        };
+        (filling, Answer::Held)
+    }
+
+    /// After any marked fresh arrival ready; after an unmarked one that is
+    /// not held lost; nothing gathered.
+    fn drop_field(self, marker: bool) -> State {
+        State {
+            phase: if marker { READY } else { LOST },
+            timestamp: 0,
+            f: 0,
+            records: 0,
+            cells: 0,
+            ..self
+        }
+    }
+}
+
+#[cfg(test)]
+mod tests {
+    use super::*;
+
+    #[test]
+    fn marked_distances() {
+        assert_eq!(distance(0xFFFF_FFFF, 0), Distance::Next);
+        assert_eq!(distance(0, 0x7FFF_FFFF), Distance::Gap(0x7FFF_FFFE));
+        assert_eq!(distance(0, 0x8000_0000), Distance::Late);
+        assert_eq!(distance(5, 5), Distance::Late);
+        assert_eq!(distance(5, 4), Distance::Late);
+        assert_eq!(distance(0xFFFF_FFFF, 1), Distance::Gap(1));
+    }
+
+    #[test]
+    fn opening() {
+        assert_eq!(open(1, 128), Err(Refusal::plain(24)));
+        let state = open(1, 127).unwrap();
+        assert_eq!((state.phase, state.heard), (LOST, false));
+        assert_eq!((state.fresh, state.late, state.missing), (0, 0, 0));
+    }
+}

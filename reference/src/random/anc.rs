@@ -1,0 +1,92 @@
+//! ANC packets, built bit by bit.
+
+use super::*;
+
+/// The parts of an ANC packet: its ten-bit words are DID to checksum.
+#[derive(Clone, Debug)]
+pub struct Anc {
+    pub place: u32,
+    pub words: Vec<u16>,
+    pub alignment: u32,
+}
+
+pub(super) fn with_parity(number: u16) -> u16 {
+    let odd = number.count_ones() as u16 % 2;
+    number + 256 * odd + 512 * (1 - odd)
+}
+
+pub(super) fn checksum(words: &[u16]) -> u16 {
+    let sum: u32 = words.iter().map(|&word| word as u32 % 512).sum();
+    let sum = (sum % 512) as u16;
+    sum + if sum < 256 { 512 } else { 0 }
+}
+
+impl Anc {
+    pub fn of(record: &[u16]) -> Anc {
+        let [c, line, offset, s, stream] = [0, 1, 2, 3, 4].map(|i| record[i] as u32);
+        let mut words: Vec<u16> = record[5..8].iter().map(|&x| with_parity(x)).collect();
+        words.extend(&record[8..]);
+        words.push(checksum(&words));
+        Anc {
+            place: c << 31 | line << 20 | offset << 8 | s << 7 | stream,
+            words,
+            alignment: 0,
+        }
+    }
+
+    /// Bits up to a multiple of 32.
+    fn alignment_width(&self) -> u32 {
+        let bits = 32 + 10 * self.words.len() as u32;
+        (32 - bits % 32) % 32
+    }
+
+    pub fn octets(&self) -> Vec<u8> {
+        let mut bits = Bits::default();
+        bits.put(self.place, 32);
+        for &word in &self.words {
+            bits.put(word as u32, 10);
+        }
+        let width = self.alignment_width();
+        bits.put(self.alignment & ((1 << width) - 1), width);
+        bits.octets
+    }
+}
+
+#[derive(Default)]
+struct Bits {
+    octets: Vec<u8>,
+    held: u64,
+    width: u32,
+}
+
+impl Bits {
+    fn put(&mut self, value: u32, width: u32) {
+        self.held = self.held << width | value as u64;
+        self.width += width;
+        while self.width >= 8 {
+            self.width -= 8;
+            self.octets.push((self.held >> self.width) as u8);
+        }
+    }
+}
+
+/// ANC packets of a list.
+pub fn anc_of(cells: &[u16]) -> Vec<Anc> {
+    split_records(cells).into_iter().map(Anc::of).collect()
+}
+
+pub(super) fn run_octets(anc: &[Anc]) -> Vec<u8> {
+    anc.iter().flat_map(Anc::octets).collect()
+}
+
+/// Damages an ANC packet so that 10, 11 or 12 is likely.
+pub(super) fn damage_anc(r: &mut Random, anc: &mut Anc) {
+    let last = anc.words.len() - 1;
+    match r.below(6) {
+        0 | 1 => anc.words[r.below(3)] ^= 1 << r.below(10),
+        2 => anc.words[r.below(3)] = r.below(1024) as u16,
+        3 => anc.words[last] ^= 1 << r.below(10),
+        4 => anc.words[3 + r.below(last - 2)] ^= 1 + r.below(1023) as u16,
+        _ => anc.alignment = 1 << r.below(anc.alignment_width() as usize),
+    }
+}

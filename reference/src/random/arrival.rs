@@ -1,0 +1,263 @@
+//! States, streams and what arrives of them.
+
+use super::*;
+use crate::anc::MAX_CELLS;
+use crate::depacketizer::{State, FILLING, LOST, READY};
+use crate::packet::{check, Head};
+
+/// An input of one arrival, the state as a caller might make it up.
+#[derive(Clone, Debug)]
+pub struct ArriveCase {
+    pub state: State,
+    pub octets: Vec<u8>,
+    pub store: Vec<u16>,
+}
+
+pub fn arrive_case(r: &mut Random) -> ArriveCase {
+    let state = state(r);
+    let octets = match r.below(8) {
+        0 => damaged_packet(r),
+        _ => arrival_at(r, &state),
+    };
+    let cells = match r.below(8) {
+        0 => r.below(300),
+        1 => state.cells,
+        2 => state.cells.saturating_sub(1 + r.below(5)),
+        3 => state.cells.saturating_add(r.below(64)).min(MAX_CELLS + 64),
+        _ => MAX_CELLS + r.below(2000),
+    };
+    let store = (0..cells.min(20_000)).map(|_| 0xA5A5).collect();
+    ArriveCase {
+        state,
+        octets,
+        store,
+    }
+}
+
+pub(super) fn count64(r: &mut Random) -> u64 {
+    match r.below(4) {
+        0 => u64::MAX - r.below(3) as u64,
+        _ => r.below(1000) as u64,
+    }
+}
+
+/// A depacketizer's state, sound more often than not.
+pub fn state(r: &mut Random) -> State {
+    let phase = r.pick(&[LOST, READY, READY, FILLING, FILLING, FILLING]);
+    let mut state = State {
+        source: r.below(3) as u32,
+        payload_type: r.pick(&[96, 96, 112]),
+        phase,
+        heard: phase != LOST || r.one_in(2),
+        last: packet_number(r),
+        timestamp: 0,
+        f: 0,
+        records: 0,
+        cells: 0,
+        fresh: count64(r),
+        late: count64(r),
+        missing: count64(r),
+    };
+    if phase == FILLING {
+        state.timestamp = r.below(3) as u32;
+        state.f = r.pick(&[0, 2, 3]);
+        state.records = r.pick(&[0, 1, 2, 250, 254, 255]);
+        state.cells = r.pick(&[0, 8, 20, 300, 16_300, 16_376, 16_384]);
+    }
+    if r.one_in(10) {
+        spoil_state(r, &mut state);
+    }
+    state
+}
+
+pub(super) fn spoil_state(r: &mut Random, state: &mut State) {
+    match r.below(6) {
+        0 => state.records = r.pick(&[256, 1, usize::MAX]),
+        1 => state.cells = r.pick(&[16_385, 8, usize::MAX]),
+        2 => state.heard = false,
+        3 => state.phase = LOST,
+        4 => state.phase = READY,
+        _ => state.payload_type = 200,
+    }
+}
+
+/// A packet that comes near what the state waits for.
+pub(super) fn arrival_at(r: &mut Random, state: &State) -> Vec<u8> {
+    let away = match r.below(8) {
+        0 => r.pick(&[0, u32::MAX, 0x7FFF_FFFF, 0x8000_0000, 0x8000_0001]),
+        1 => r.below(5) as u32,
+        _ => 1,
+    };
+    let head = Head {
+        source: if r.one_in(12) { 3 } else { state.source },
+        payload_type: if r.one_in(12) { 97 } else { state.payload_type },
+        marker: r.one_in(2),
+        number: state.last.wrapping_add(away),
+        timestamp: if r.one_in(8) { 7 } else { state.timestamp },
+        f: if r.one_in(8) { 2 } else { state.f },
+    };
+    let mut parts = parts(r);
+    parts.head = head;
+    parts.assemble()
+}
+
+/// A sent packet of a stream.
+#[derive(Clone, Debug)]
+pub struct Sent {
+    pub head: Head,
+    pub cells: Vec<u16>,
+    pub records: usize,
+    pub octets: Vec<u8>,
+    /// The field it belongs to, from 0.
+    pub field: usize,
+}
+
+/// Well-formed fields of one source and type, numbered in sequence.
+#[derive(Clone, Debug)]
+pub struct Stream {
+    pub source: u32,
+    pub payload_type: u8,
+    pub sent: Vec<Sent>,
+}
+
+/// A stream of that many fields, each of one to `most` packets; it often
+/// starts near the wrap of the number.
+pub fn stream(r: &mut Random, fields: usize, most: usize) -> Stream {
+    let mut stream = Stream {
+        source: r.number32(),
+        payload_type: r.below(128) as u8,
+        sent: Vec::new(),
+    };
+    let start = packet_number(r);
+    let mut timestamp = r.number32();
+    for field in 0..fields {
+        let packets = 1 + r.below(most);
+        // Two fields may share a timestamp.
+        timestamp = timestamp.wrapping_add(r.pick(&[0, 1501, 1501, 3003]));
+        let f = r.pick(&[0, 2, 3]);
+        for index in 0..packets {
+            let head = Head {
+                source: stream.source,
+                payload_type: stream.payload_type,
+                marker: index + 1 == packets,
+                number: start.wrapping_add(stream.sent.len() as u32),
+                timestamp,
+                f,
+            };
+            stream.sent.push(sent(r, head, field));
+        }
+    }
+    stream
+}
+
+pub(super) fn sent(r: &mut Random, head: Head, field: usize) -> Sent {
+    let records = r.below(4);
+    let cells = list(r, records);
+    let mut parts = Parts::plain(head, &cells);
+    if r.one_in(4) {
+        dress(r, &mut parts);
+    }
+    Sent {
+        head,
+        cells,
+        records,
+        octets: parts.assemble(),
+        field,
+    }
+}
+
+/// An arrival at the depacketizer: a sent packet by its place in the stream, or
+/// octets that are refused by 1 to 13, 30 or 31.
+#[derive(Clone, Debug)]
+pub enum Arrival {
+    Sent(usize),
+    Other(Vec<u8>),
+}
+
+impl Stream {
+    pub fn octets<'a>(&'a self, arrival: &'a Arrival) -> &'a [u8] {
+        match arrival {
+            Arrival::Sent(index) => &self.sent[*index].octets,
+            Arrival::Other(octets) => octets,
+        }
+    }
+}
+
+/// What arrives of a stream: with loss, repeats and packets out of order,
+/// and foreign and damaged octets among it.
+pub fn arrivals(r: &mut Random, stream: &Stream) -> Vec<Arrival> {
+    let trouble = r.pick(&[4, 10, 30, 1000]);
+    let mut order: Vec<usize> = Vec::new();
+    for index in 0..stream.sent.len() {
+        if !r.one_in(trouble) {
+            order.push(index);
+        }
+        if r.one_in(trouble) {
+            order.push(r.below(index + 1));
+        }
+    }
+    for place in 1..order.len() {
+        if r.one_in(trouble) {
+            order.swap(place, place - 1 - r.below(place.min(4)));
+        }
+    }
+    let mut arrivals = Vec::new();
+    for index in order {
+        if r.one_in(trouble) {
+            arrivals.extend(foreign(r, stream, index));
+        }
+        arrivals.push(Arrival::Sent(index));
+    }
+    arrivals
+}
+
+/// Octets of another source or type, or damaged ones that are refused.
+pub(super) fn foreign(r: &mut Random, stream: &Stream, near: usize) -> Option<Arrival> {
+    let mut octets = stream.sent[near].octets.clone();
+    match r.below(4) {
+        0 => octets[8 + r.below(4)] ^= 1 << r.below(8),
+        1 => octets[1] ^= 1 << r.below(7),
+        2 => damage_octets(r, &mut octets),
+        _ => octets = damaged_packet(r),
+    }
+    let ours = check(&octets).is_ok_and(|accepted| {
+        accepted.summary.source == stream.source
+            && accepted.summary.payload_type == stream.payload_type
+    });
+    (!ours).then_some(Arrival::Other(octets))
+}
+
+/// Packets of one source that need not be in well-formed fields: timestamps
+/// and F change before a mark, fields pass the limits.
+pub fn wild_packets(r: &mut Random, count: usize) -> Vec<Vec<u8>> {
+    let mut head = head(r);
+    let mut packets = Vec::new();
+    let heavy = r.one_in(6);
+    for _ in 0..count {
+        let step = r.pick(&[1, 1, 1, 1, 1, 1, 1, 1, 2, 0, u32::MAX, 300]);
+        head.number = head.number.wrapping_add(step);
+        head.marker = r.one_in(3);
+        if packets.is_empty() || r.one_in(6) {
+            head.timestamp = head.timestamp.wrapping_add(r.below(2) as u32);
+            head.f = r.pick(&[0, 2, 3]);
+        }
+        packets.push(wild_packet(r, head, heavy));
+    }
+    packets
+}
+
+pub(super) fn wild_packet(r: &mut Random, mut head: Head, heavy: bool) -> Vec<u8> {
+    match r.below(24) {
+        0 => head.source ^= 1,
+        1 => head.payload_type ^= 1,
+        2..5 => return damaged_packet(r),
+        _ => {}
+    }
+    let mut parts = parts(r);
+    if heavy {
+        let (records, n) = r.pick(&[(100, 0), (60, 100), (20, 255), (128, 5)]);
+        parts.anc = (0..records).map(|_| Anc::of(&record(r, n))).collect();
+    }
+    parts.head = head;
+    parts.assemble()
+}

@@ -1,0 +1,159 @@
+//! Records in cells, and lists of them, valid and damaged.
+
+use super::*;
+use crate::anc::{MAX_CELLS, MAX_RECORDS, RECORD_HEAD};
+use crate::packet::Head;
+
+pub fn word_count(r: &mut Random) -> usize {
+    match r.below(8) {
+        0 => 0,
+        1 => r.below(256),
+        2 => r.pick(&[1, 2, 3, 4, 5, 12, 16, 17, 18, 19, 20, 21, 33, 254, 255]),
+        _ => r.below(12),
+    }
+}
+
+/// A record of n words, in cells.
+pub fn record(r: &mut Random, n: usize) -> Vec<u16> {
+    let line = r.below(2048) as u16;
+    let offset = r.below(4096) as u16;
+    let mut cells = vec![
+        r.below(2) as u16,
+        r.pick(&[line, line, 9, 0x7FD, 0x7FE, 0x7FF]),
+        r.pick(&[offset, offset, 0, 0xFFC, 0xFFD, 0xFFE, 0xFFF]),
+        r.below(2) as u16,
+        r.below(128) as u16,
+        r.below(256) as u16,
+        r.below(256) as u16,
+        n as u16,
+    ];
+    cells.extend((0..n).map(|_| r.below(1024) as u16));
+    cells
+}
+
+/// A list of that many records.
+pub fn list(r: &mut Random, records: usize) -> Vec<u16> {
+    let mut cells = Vec::new();
+    for _ in 0..records {
+        let n = word_count(r);
+        cells.extend(record(r, n));
+    }
+    cells
+}
+
+/// A list of exactly that many cells, in as few records as possible.
+pub fn list_of_cells(r: &mut Random, cells: usize) -> Vec<u16> {
+    let mut made = Vec::new();
+    while cells - made.len() >= RECORD_HEAD {
+        let left = cells - made.len();
+        let n = match left - RECORD_HEAD {
+            fits if fits <= 255 => fits,
+            over if over < 263 => 200,
+            _ => 255,
+        };
+        made.extend(record(r, n));
+    }
+    made
+}
+
+/// The records of a well-formed list.
+pub fn split_records(mut cells: &[u16]) -> Vec<&[u16]> {
+    let mut records = Vec::new();
+    while !cells.is_empty() {
+        let (record, left) = cells.split_at(RECORD_HEAD + cells[7] as usize);
+        records.push(record);
+        cells = left;
+    }
+    records
+}
+
+/// A list damaged in a record: a cell too large, a record cut, or cells of
+/// no meaning.
+pub fn damaged_list(r: &mut Random) -> Vec<u16> {
+    let records = 1 + record_count(r);
+    let mut cells = list(r, records);
+    let starts = record_starts(&cells);
+    match r.below(6) {
+        0 => cells.truncate(r.below(cells.len())),
+        1 => cells.extend((0..1 + r.below(7)).map(|_| 0)),
+        2 => {
+            let at = r.below(cells.len());
+            cells[at] = r.pick(&[2, 0x80, 0x100, 0x3FF, 0x400, 0x800, 0x1000, 0xFFFF]);
+        }
+        3 => {
+            let cell = r.below(RECORD_HEAD);
+            let limit = [1, 0x7FF, 0xFFF, 1, 127, 255, 255, 255][cell];
+            cells[r.pick(&starts) + cell] = limit + 1 + r.pick(&[0, 1, 0x4000]);
+        }
+        4 => cells[r.pick(&starts) + 7] = r.below(256) as u16,
+        _ => cells.extend((0..r.below(40)).map(|_| r.number32() as u16)),
+    }
+    cells
+}
+
+pub(super) fn record_starts(cells: &[u16]) -> Vec<usize> {
+    let mut starts = Vec::new();
+    let mut at = 0;
+    while at < cells.len() {
+        starts.push(at);
+        at += RECORD_HEAD + cells[at + 7] as usize;
+    }
+    starts
+}
+
+/// A list at or over the limits: 255 and 256 records, 16,384 cells and one
+/// more; a large one may be damaged near its end.
+pub fn large_list(r: &mut Random) -> Vec<u16> {
+    let mut cells = match r.below(6) {
+        0 => (0..MAX_RECORDS).flat_map(|_| record(r, 0)).collect(),
+        1 => (0..MAX_RECORDS + 1).flat_map(|_| record(r, 0)).collect(),
+        2 => (0..260 + r.below(80)).flat_map(|_| record(r, 1)).collect(),
+        3 => list_of_cells(r, MAX_CELLS),
+        4 => list_of_cells(r, MAX_CELLS + 1),
+        _ => {
+            let over = r.below(2000);
+            list_of_cells(r, MAX_CELLS + over)
+        }
+    };
+    if r.one_in(6) {
+        let at = cells.len() - 1 - r.below(100);
+        cells[at] = 0xFFFF;
+    }
+    cells
+}
+
+pub(super) fn any_list(r: &mut Random) -> Vec<u16> {
+    let records = record_count(r);
+    match r.below(12) {
+        0..5 => list(r, records),
+        5 if r.one_in(3) => large_list(r),
+        _ => damaged_list(r),
+    }
+}
+
+/// Octets that a list's packets need, or 100 where it has none.
+pub(super) fn needed_octets(cells: &[u16]) -> usize {
+    crate::anc::check_list(cells).map_or(100, |list| list.octets())
+}
+
+/// An input of the packet writer.
+#[derive(Clone, Debug)]
+pub struct WriteCase {
+    pub head: Head,
+    pub cells: Vec<u16>,
+    /// Octets lent.
+    pub room: usize,
+}
+
+pub fn write_case(r: &mut Random) -> WriteCase {
+    let mut head = head(r);
+    if r.one_in(12) {
+        head.payload_type = r.octet() | 0x80;
+    }
+    if r.one_in(12) {
+        head.f = r.pick(&[1, 4, 5, 255]);
+    }
+    let cells = any_list(r);
+    let room = r.room(20 + needed_octets(&cells));
+    WriteCase { head, cells, room }
+}

@@ -1,0 +1,491 @@
+//! The rules once more, bit by bit and without any care for speed, compared
+//! with the library on random inputs: answers, refusals and lent memory.
+
+use reference::anc::{MAX_CELLS, MAX_RECORDS};
+use reference::depacketizer::{arrive, Answer, State, FILLING, LOST, READY};
+use reference::packet::{self, Head, Summary};
+use reference::random::*;
+use reference::{file, Refusal};
+
+mod sdp;
+
+type Refused<T> = Result<T, (u8, usize)>;
+
+fn pair<T>(answer: Result<T, Refusal>) -> Refused<T> {
+    answer.map_err(|refusal| (refusal.number, refusal.index))
+}
+
+/// `width` bits from bit `at`, most significant first.
+fn bits(octets: &[u8], at: usize, width: usize) -> u64 {
+    (at..at + width).fold(0, |value, bit| {
+        value * 2 + (octets[bit / 8] as u64 >> (7 - bit % 8)) % 2
+    })
+}
+
+fn well_formed(word: u64) -> bool {
+    let ones: u64 = (0..9).map(|bit| word >> bit & 1).sum();
+    ones.is_multiple_of(2) && (word >> 9 & 1) != (word >> 8 & 1)
+}
+
+/// The cells of `count` ANC packets and the octets they take.
+fn naive_run(octets: &[u8], count: usize) -> Refused<(Vec<u16>, usize)> {
+    let (mut cells, mut at) = (Vec::new(), 0);
+    for index in 0..count {
+        let left = octets.len() - at;
+        if left < 12 {
+            return Err((9, index));
+        }
+        let word = |k: usize| bits(octets, 8 * at + 32 + 10 * k, 10);
+        if !(0..3).all(|k| well_formed(word(k))) {
+            return Err((10, index));
+        }
+        let n = (word(2) % 256) as usize;
+        let size = 4 * (72 + 10 * n).div_ceil(32);
+        if left < size {
+            return Err((9, index));
+        }
+        let sum: u64 = (0..n + 3).map(|k| word(k) % 512).sum();
+        let sum = sum % 512;
+        let b8 = sum / 256;
+        if word(n + 3) != sum + 512 * (1 - b8) {
+            return Err((11, index));
+        }
+        if bits(octets, 8 * at + 72 + 10 * n, 8 * size - 72 - 10 * n) != 0 {
+            return Err((12, index));
+        }
+        for (place, width) in [(0, 1), (1, 11), (12, 12), (24, 1), (25, 7)] {
+            cells.push(bits(octets, 8 * at + place, width) as u16);
+        }
+        cells.extend((0..3).map(|k| (word(k) % 256) as u16));
+        cells.extend((3..n + 3).map(|k| word(k) as u16));
+        at += size;
+    }
+    Ok((cells, at))
+}
+
+fn naive_check(o: &[u8]) -> Refused<(Summary, Vec<u16>)> {
+    if o.len() > 65_535 {
+        return Err((1, 0));
+    }
+    if o.len() < 12 {
+        return Err((2, 0));
+    }
+    if bits(o, 0, 2) != 2 {
+        return Err((3, 0));
+    }
+    let mut header = 12 + 4 * bits(o, 4, 4) as usize;
+    if header > o.len() {
+        return Err((2, 0));
+    }
+    if bits(o, 3, 1) == 1 {
+        if header + 4 > o.len() {
+            return Err((2, 0));
+        }
+        header += 4 + 4 * bits(o, 8 * header + 16, 16) as usize;
+        if header > o.len() {
+            return Err((2, 0));
+        }
+    }
+    let mut payload = &o[header..];
+    if bits(o, 2, 1) == 1 {
+        let padding = o[o.len() - 1] as usize;
+        if padding == 0 || padding > payload.len() {
+            return Err((4, 0));
+        }
+        payload = &payload[..payload.len() - padding];
+    }
+    if payload.len() < 8 {
+        return Err((5, 0));
+    }
+    let f = bits(payload, 40, 2);
+    if f == 1 {
+        return Err((6, 0));
+    }
+    let length = bits(payload, 16, 16) as usize;
+    if length != payload.len() - 8 {
+        return Err((7, 0));
+    }
+    let count = bits(payload, 32, 8) as usize;
+    if count == 0 && length != 0 {
+        return Err((8, 0));
+    }
+    let (cells, used) = naive_run(&payload[8..], count)?;
+    if used != length {
+        return Err((13, 0));
+    }
+    let summary = Summary {
+        source: bits(o, 64, 32) as u32,
+        payload_type: bits(o, 9, 7) as u8,
+        marker: bits(o, 8, 1) == 1,
+        number: (bits(payload, 0, 16) * 65_536 + bits(o, 16, 16)) as u32,
+        timestamp: bits(o, 32, 32) as u32,
+        f: f as u8,
+        records: count as u8,
+        cells: cells.len(),
+    };
+    Ok((summary, cells))
+}
+
+/// The start of `lent` becomes `new`; the rest stays.
+fn overwritten<T: Clone>(lent: &[T], at: usize, new: &[T]) -> Vec<T> {
+    let mut after = lent.to_vec();
+    after[at..at + new.len()].clone_from_slice(new);
+    after
+}
+
+#[test]
+fn packet_reader() {
+    let mut r = Random::new(1);
+    for _ in 0..20_000 {
+        let case = read_case(&mut r);
+        let lent = vec![0x5A5A; case.room];
+        let (expected, after) = match naive_check(&case.octets) {
+            Ok((_, cells)) if cells.len() > case.room => (Err((14, 0)), lent.clone()),
+            Ok((summary, cells)) => (Ok(summary), overwritten(&lent, 0, &cells)),
+            Err(refusal) => (Err(refusal), lent.clone()),
+        };
+        let mut cells = lent;
+        assert_eq!(pair(packet::read(&case.octets, &mut cells)), expected);
+        assert_eq!(cells, after);
+    }
+}
+
+/// Records of a list, or the index of the first malformed one.
+fn naive_list(cells: &[u16]) -> Refused<Vec<&[u16]>> {
+    let (mut records, mut at) = (Vec::new(), 0);
+    while at < cells.len() {
+        let refusal = (20, records.len());
+        let head = cells.get(at..at + 8).ok_or(refusal)?;
+        let limits = [1, 2047, 4095, 1, 127, 255, 255, 255];
+        if (0..8).any(|k| head[k] > limits[k]) {
+            return Err(refusal);
+        }
+        let end = at + 8 + head[7] as usize;
+        let record = cells.get(at..end).ok_or(refusal)?;
+        if record[8..].iter().any(|&word| word > 1023) {
+            return Err(refusal);
+        }
+        records.push(record);
+        at = end;
+    }
+    Ok(records)
+}
+
+/// ANC packets of a list in writing: 20, 21.
+fn naive_packets(cells: &[u16]) -> Refused<(Vec<u8>, u8)> {
+    let records = naive_list(cells)?;
+    if records.len() > 255 || cells.len() > 16_384 {
+        return Err((21, 0));
+    }
+    let octets = records.iter().flat_map(|record| Anc::of(record).octets());
+    Ok((octets.collect(), records.len() as u8))
+}
+
+fn naive_write(head: &Head, cells: &[u16]) -> Refused<Vec<u8>> {
+    if head.payload_type > 127 || ![0, 2, 3].contains(&head.f) {
+        return Err((24, 0));
+    }
+    naive_packets(cells)?;
+    Ok(Parts::plain(*head, cells).assemble())
+}
+
+fn lent_octets(answer: Refused<Vec<u8>>, room: usize, small: u8) -> (Refused<usize>, Vec<u8>) {
+    let lent = vec![0x5A; room];
+    match answer {
+        Ok(octets) if octets.len() > room => (Err((small, 0)), lent),
+        Ok(octets) => (Ok(octets.len()), overwritten(&lent, 0, &octets)),
+        Err(refusal) => (Err(refusal), lent),
+    }
+}
+
+#[test]
+fn packet_writer() {
+    let mut r = Random::new(2);
+    for _ in 0..20_000 {
+        let WriteCase { head, cells, room } = write_case(&mut r);
+        let (expected, after) = lent_octets(naive_write(&head, &cells), room, 23);
+        let mut out = vec![0x5A; room];
+        assert_eq!(pair(packet::write(&head, &cells, &mut out)), expected);
+        assert_eq!(out, after);
+    }
+}
+
+#[test]
+fn file_writer() {
+    let mut r = Random::new(3);
+    for _ in 0..20_000 {
+        let case = field_case(&mut r);
+        let written = match case.f {
+            0 | 2 | 3 => naive_packets(&case.cells).map(|(packets, count)| {
+                let mut octets = case.timestamp.to_be_bytes().to_vec();
+                octets.extend([case.f, count]);
+                octets.extend(packets);
+                octets
+            }),
+            _ => Err((53, 0)),
+        };
+        let (expected, after) = lent_octets(written, case.room, 23);
+        let mut out = vec![0x5A; case.room];
+        let answer = file::write(case.timestamp, case.f, &case.cells, &mut out);
+        assert_eq!(pair(answer), expected);
+        assert_eq!(out, after);
+    }
+}
+
+fn naive_field(file: &[u8], offset: usize) -> Refused<(file::Field, Vec<u16>)> {
+    if file.len() < 3 || &file[..3] != b"ANF" {
+        return Err((50, 0));
+    }
+    if file.len() < 5 || bits(file, 24, 16) != 1 {
+        return Err((51, 0));
+    }
+    if offset < 5 || offset > file.len() {
+        return Err((55, 0));
+    }
+    match file.len() - offset {
+        0 => return Err((54, 0)),
+        1..6 => return Err((52, 0)),
+        _ => {}
+    }
+    let at = &file[offset..];
+    if ![0, 2, 3].contains(&at[4]) {
+        return Err((53, 0));
+    }
+    let (cells, used) = naive_run(&at[6..], at[5] as usize)?;
+    if cells.len() > 16_384 {
+        return Err((21, 0));
+    }
+    let field = file::Field {
+        timestamp: bits(at, 0, 32) as u32,
+        f: at[4],
+        records: at[5] as usize,
+        cells: cells.len(),
+        next: offset + 6 + used,
+    };
+    Ok((field, cells))
+}
+
+#[test]
+fn file_reader() {
+    let mut r = Random::new(4);
+    for _ in 0..10_000 {
+        let case = file_case(&mut r);
+        let lent = vec![0x5A5A; case.room];
+        let (expected, after) = match naive_field(&case.file, case.offset) {
+            Ok((_, cells)) if cells.len() > case.room => (Err((14, 0)), lent.clone()),
+            Ok((field, cells)) => (Ok(field), overwritten(&lent, 0, &cells)),
+            Err(refusal) => (Err(refusal), lent.clone()),
+        };
+        let mut cells = lent;
+        assert_eq!(
+            pair(file::read(&case.file, case.offset, &mut cells)),
+            expected
+        );
+        assert_eq!(cells, after);
+    }
+}
+
+fn naive_arrive(s: State, octets: &[u8], store: &[u16]) -> (State, Refused<Answer>, Vec<u16>) {
+    let unchanged = store.to_vec();
+    let (r, c) = (s.records, s.cells);
+    let unsound = r > 255
+        || c > 16_384
+        || c > store.len()
+        || (s.phase != FILLING && (r != 0 || c != 0))
+        || (!s.heard && s.phase != LOST);
+    if unsound {
+        return (s, Err((35, 0)), unchanged);
+    }
+    let (p, cells) = match naive_check(octets) {
+        Ok(accepted) => accepted,
+        Err(refusal) => return (s, Err(refusal), unchanged),
+    };
+    if p.source != s.source {
+        return (s, Err((30, 0)), unchanged);
+    }
+    if p.payload_type != s.payload_type {
+        return (s, Err((31, 0)), unchanged);
+    }
+    let away = (p.number as i64 - s.last as i64).rem_euclid(1 << 32);
+    let signed = if away < 1 << 31 {
+        away
+    } else {
+        away - (1 << 32)
+    };
+    let mut after = s;
+    if s.heard && signed <= 0 {
+        after.late = s.late.saturating_add(1);
+        return (after, Err((32, 0)), unchanged);
+    }
+    after.heard = true;
+    after.last = p.number;
+    after.fresh = s.fresh.saturating_add(1);
+    if s.heard {
+        after.missing = s.missing.saturating_add(signed as u64 - 1);
+    }
+    (after.timestamp, after.f, after.records, after.cells) = (0, 0, 0, 0);
+    after.phase = if p.marker { READY } else { LOST };
+    if !s.heard || signed > 1 || s.phase == LOST {
+        return (after, Ok(Answer::Skipped), unchanged);
+    }
+    if s.phase == FILLING && (p.timestamp, p.f) != (s.timestamp, s.f) {
+        return (after, Ok(Answer::Mixed), unchanged);
+    }
+    let (records, all) = (r + p.records as usize, c + cells.len());
+    if records > MAX_RECORDS || all > MAX_CELLS || all > store.len() {
+        return (after, Ok(Answer::Overfull), unchanged);
+    }
+    let written = overwritten(store, c, &cells);
+    if p.marker {
+        let whole = Answer::Whole {
+            timestamp: p.timestamp,
+            f: p.f,
+            records,
+            cells: all,
+        };
+        return (after, Ok(whole), written);
+    }
+    after.phase = FILLING;
+    (after.timestamp, after.f, after.records, after.cells) = (p.timestamp, p.f, records, all);
+    (after, Ok(Answer::Held), written)
+}
+
+fn compare_arrival(state: State, octets: &[u8], store: &mut [u16]) -> State {
+    let (after, expected, written) = naive_arrive(state, octets, store);
+    let (next, answer) = arrive(state, octets, store);
+    let answer = match answer {
+        Answer::Refused(refusal) => pair(Err(refusal)),
+        answer => Ok(answer),
+    };
+    assert_eq!(answer, expected);
+    assert_eq!(next, after);
+    assert_eq!(store, written);
+    next
+}
+
+#[test]
+fn depacketizer_at_any_state() {
+    let mut r = Random::new(5);
+    for _ in 0..20_000 {
+        let mut case = arrive_case(&mut r);
+        compare_arrival(case.state, &case.octets, &mut case.store);
+    }
+}
+
+#[test]
+fn depacketizer_over_wild_packets() {
+    let mut r = Random::new(6);
+    for _ in 0..300 {
+        let packets = wild_packets(&mut r, 60);
+        let Some(first) = packets.iter().find_map(|octets| naive_check(octets).ok()) else {
+            continue;
+        };
+        let mut state =
+            reference::depacketizer::open(first.0.source, first.0.payload_type).unwrap();
+        let size = r.pick(&[0, 40, 200, 1000, 16_384, 20_000]);
+        let mut store = vec![0x5A5A; size];
+        for octets in &packets {
+            state = compare_arrival(state, octets, &mut store);
+        }
+    }
+}
+
+fn just_opened(source: u32, payload_type: u8) -> State {
+    State {
+        source,
+        payload_type,
+        phase: LOST,
+        heard: false,
+        last: 0,
+        timestamp: 0,
+        f: 0,
+        records: 0,
+        cells: 0,
+        fresh: 0,
+        late: 0,
+        missing: 0,
+    }
+}
+
+fn digits(number: u16, count: u32) -> String {
+    let digit = |place| char::from(b"0123456789abcdef"[(number >> (4 * place)) as usize % 16]);
+    (0..count).rev().map(digit).collect()
+}
+
+fn naive_record(record: &[u16]) -> String {
+    let mut line = String::from(if record[0] == 1 {
+        " c line="
+    } else {
+        " y line="
+    });
+    line += &(record[1].to_string() + " off=" + &record[2].to_string());
+    line += &(" s=".to_string() + &record[3].to_string() + "/" + &record[4].to_string());
+    line += &(" did=".to_string() + &digits(record[5], 2) + " sdid=" + &digits(record[6], 2));
+    line += &(" words=".to_string() + &record[7].to_string());
+    for &word in &record[8..] {
+        line += &(" ".to_string() + &digits(word, 3));
+    }
+    line
+}
+
+fn naive_listing(mut input: &[u8]) -> String {
+    let mut lines = vec!["fieldlist 1".to_string()];
+    let mut depacketizer: Option<State> = None;
+    let mut store = vec![0; 16_384];
+    while !input.is_empty() {
+        let size = match input.len() {
+            1 => usize::MAX,
+            _ => bits(input, 0, 16) as usize,
+        };
+        if input.len() - 1 <= size {
+            lines.push("cut".to_string());
+            break;
+        }
+        let packet = &input[2..2 + size];
+        input = &input[2 + size..];
+        let number = match naive_check(packet) {
+            Err((code, index)) => {
+                lines.push(format!("refused {code} {index}"));
+                continue;
+            }
+            Ok((summary, _)) => {
+                depacketizer.get_or_insert(just_opened(summary.source, summary.payload_type));
+                summary.number
+            }
+        };
+        let (after, answer, written) = naive_arrive(depacketizer.unwrap(), packet, &store);
+        (depacketizer, store) = (Some(after), written);
+        match answer {
+            Err((32, _)) => lines.push(format!("{number} late")),
+            Err((code, index)) => lines.push(format!("refused {code} {index}")),
+            Ok(Answer::Whole {
+                timestamp,
+                f,
+                records,
+                cells,
+            }) => {
+                lines.push(format!(
+                    "{number} whole ts={timestamp} f={f} records={records}"
+                ));
+                let records = naive_list(&store[..cells]).unwrap();
+                lines.extend(records.into_iter().map(naive_record));
+            }
+            Ok(other) => lines.push(format!("{number} {other:?}").to_lowercase()),
+        }
+    }
+    let counts = depacketizer.map_or((0, 0, 0), |state| (state.fresh, state.late, state.missing));
+    lines.push(format!(
+        "fresh={} late={} missing={}",
+        counts.0, counts.1, counts.2
+    ));
+    lines.join("\n") + "\n"
+}
+
+#[test]
+fn listings() {
+    let mut r = Random::new(9);
+    for _ in 0..1_500 {
+        let input = framed(&mut r);
+        assert_eq!(reference::fieldlist(&input), naive_listing(&input));
+    }
+}
