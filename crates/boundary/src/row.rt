@@ -1,4 +1,4 @@
-// Rows of numbers that a caller lends for what a call returns.
+// Rows of numbers that a caller lends for what a call returns. What writes to one asks that it is long enough.
 ghost use mathlib.Core.Path.{_≡_};
 ghost use Prim.Native.Nat.{_≤_};
 ghost use lib.ListN.{length};

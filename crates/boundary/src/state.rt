@@ -1,5 +1,5 @@
 // A depacketizer's state as a row of numbers: source, payload type, phase, heard, last, timestamp, F, records, cells, fresh,
-// late, missing.
+// late, missing. Who reads or writes one asks that the row is long enough.
 ghost use mathlib.Core.Path.{_≡_};
 ghost use Prim.Native.Nat.{_≤_};
 ghost use lib.ListN.{length};

@@ -1,4 +1,4 @@
-// The other lines (01, "`fieldlist`").
+// The other lines (01, "`fieldlist`"). Each function asks for the room that its line can take.
 ghost use Prim.Native.Nat.{_+_, _*_, _≤_};
 ghost use lib.ListN.{length};
 ghost use Rattle.text.specs.Put.{Put};

@@ -33,7 +33,7 @@ pub(crate) fn frame_at(octets: &[u8]) -> Front
     Front::Packet(size)
 }
 
-// Moves the octets from `at` on to the front.
+// Moves the octets from `at` on to the front; `at` must lie within them.
 pub fn move_to_front(octets: &mut [u8], at: usize)
     requires { ⌜ at ≤ length (now octets) ⌝ }
     ensures { λ r. ⌜ now (octets .exit) ≡ overwrite (drop at (now (octets .entry))) (now (octets .entry)) ⌝ }

@@ -1,4 +1,5 @@
 // Rows of words: from octets to cells, and from cells to octets. A word has 10 bits, so four of them fill five octets.
+// The functions ask that the words lie within the octets, and that there is room for them.
 ghost use mathlib.Core.Path.{_≡_};
 ghost use Prim.Native.Nat.{_+_, _*_, _%_, _^_, _≤_};
 ghost use lib.ListN.{length};

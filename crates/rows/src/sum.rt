@@ -1,4 +1,4 @@
-// Sums of the low nine bits of words (01, "Checksum").
+// Sums of the low nine bits of words (01, "Checksum"). They ask that the words are there.
 ghost use mathlib.Core.Path.{_≡_};
 ghost use Prim.Native.Nat.{_+_, _*_, _/_, _^_, _%_, _<_, _≤_};
 ghost use lib.ListN.{length};

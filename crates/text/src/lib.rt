@@ -1,4 +1,4 @@
-// Text put into lent octets, piece by piece: each function puts one piece at `at`, and says where the next goes.
+// Text put into lent octets, piece by piece: each function puts one piece at `at`, asks for its room, and says where the next goes.
 ghost use mathlib.Core.List.{_++_};
 ghost use Prim.Native.Nat.{_+_, _<_, _≤_};
 ghost use mathlib.Core.Path.{_≡_};
