@@ -3,7 +3,8 @@
  *
  * Written by hand; `differential/` tests it against the archive. Nothing here allocates, and nothing is kept between calls.
  *
- * Each function but `jibhotran_wanted` returns 0 where the call is accepted and a refusal's number otherwise (README, "Refusals").
+ * Each function but the two that ask for wanted records returns 0 where the call is accepted and a refusal's number otherwise (README,
+ * "Refusals").
  * `answer` takes what a call returns beside that: on acceptance the numbers that are named at the function, on a refusal the refusal's
  * index in answer[0]; the rest of the row stays. A row of fewer than JIBHOTRAN_ANSWER numbers is refused by JIBHOTRAN_ROW, and nothing is
  * written at all. On a refusal the other lent memory is unchanged, but for the late count (refusal 32).
@@ -77,6 +78,15 @@ uint8_t jibhotran_file_read(const uint8_t *file, size_t file_len, size_t at, uin
 
 /* 1 where a record of these numbers is wanted, and 0 where not. pairs: DID then SDID; a last octet without an SDID is no entry. */
 uint8_t jibhotran_wanted(uint8_t did, uint8_t sdid, const uint8_t *pairs, size_t pairs_len);
+
+/* A wanted pair. */
+struct jibhotran_pair {
+    uint8_t did;
+    uint8_t sdid;
+};
+
+/* The same over a row of pairs, whose length is the number of pairs. */
+uint8_t jibhotran_wanted_of(uint8_t did, uint8_t sdid, const struct jibhotran_pair *pairs, size_t pairs_len);
 
 #ifdef __cplusplus
 }

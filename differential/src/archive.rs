@@ -4,7 +4,7 @@
 //! slices do not overlap others. `tests/header.rs` compares the
 //! declarations with the header.
 
-use crate::{Head, Side};
+use crate::{Head, Pair, Side};
 
 pub struct Archive;
 
@@ -20,6 +20,7 @@ extern "C" {
     fn jibhotran_file_write(timestamp: u32, f: u8, cells: *const u16, cells_len: usize, out: *mut u8, out_len: usize, answer: *mut u64, answer_len: usize) -> u8;
     fn jibhotran_file_read(file: *const u8, file_len: usize, at: usize, cells: *mut u16, cells_len: usize, answer: *mut u64, answer_len: usize) -> u8;
     fn jibhotran_wanted(did: u8, sdid: u8, pairs: *const u8, pairs_len: usize) -> u8;
+    fn jibhotran_wanted_of(did: u8, sdid: u8, pairs: *const Pair, pairs_len: usize) -> u8;
 }
 
 /// Calls with each slice as a pointer and a length; `in` is only read, `mut`
@@ -87,5 +88,9 @@ impl Side for Archive {
 
     fn wanted(did: u8, sdid: u8, pairs: &[u8]) -> u8 {
         call!(jibhotran_wanted(did, sdid, in pairs))
+    }
+
+    fn wanted_of(did: u8, sdid: u8, pairs: &[Pair]) -> u8 {
+        call!(jibhotran_wanted_of(did, sdid, in pairs))
     }
 }

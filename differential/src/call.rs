@@ -5,7 +5,7 @@ use std::fmt::Debug;
 
 use reference::random::Random;
 
-use crate::{Archive, Head, Model, Side};
+use crate::{Archive, Head, Model, Pair, Side};
 
 /// A call: all that it is given but memory to be written.
 #[derive(Clone, Debug, PartialEq, Eq)]
@@ -45,6 +45,11 @@ pub enum Call {
         did: u8,
         sdid: u8,
         pairs: Vec<u8>,
+    },
+    WantedOf {
+        did: u8,
+        sdid: u8,
+        pairs: Vec<Pair>,
     },
 }
 
@@ -125,6 +130,7 @@ impl Call {
             } => S::file_write(*timestamp, *f, cells, out, answer),
             Call::FileRead { file, at } => S::file_read(file, *at, room, answer),
             Call::Wanted { did, sdid, pairs } => S::wanted(*did, *sdid, pairs),
+            Call::WantedOf { did, sdid, pairs } => S::wanted_of(*did, *sdid, pairs),
         }
     }
 }
@@ -153,6 +159,18 @@ pub fn compare(call: &Call, memory: &Memory) -> (u8, Memory) {
         );
     }
     (number, ours)
+}
+
+/// Whether a record is wanted, asked over pairs and over the same pairs as
+/// octets. Panics where the two differ.
+pub fn compare_wanted(asked: Pair, row: &[Pair], memory: &Memory) -> u8 {
+    let Pair { did, sdid } = asked;
+    let pairs = row.to_vec();
+    let (of_pairs, _) = compare(&Call::WantedOf { did, sdid, pairs }, memory);
+    let pairs = row.iter().flat_map(|pair| [pair.did, pair.sdid]).collect();
+    let (of_octets, _) = compare(&Call::Wanted { did, sdid, pairs }, memory);
+    assert_eq!(of_pairs, of_octets, "{asked:?} of {row:?}");
+    of_pairs
 }
 
 /// The first place where lent memory differs; guards have places under 0

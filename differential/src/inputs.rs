@@ -6,7 +6,7 @@ use reference::random::{self, Random};
 
 use crate::call::{Call, Lengths, Memory};
 use crate::model::row_of;
-use crate::{Head, ANSWER, NO_VPID, STATE};
+use crate::{Head, Pair, ANSWER, NO_VPID, STATE};
 
 pub type Case = (Call, Memory);
 
@@ -160,4 +160,15 @@ pub fn wanted(r: &mut Random) -> Case {
         pairs: (0..length).map(|_| r.below(most) as u8).collect(),
     };
     (call, Memory::new(Lengths::default(), r))
+}
+
+/// A pair and a row of pairs, of few different numbers too.
+pub fn wanted_of(r: &mut Random) -> (Pair, Vec<Pair>) {
+    let length = r.pick(&[0, 1, 2, 3, 4, 5, 32, 65]);
+    let most = r.pick(&[2, 4, 256]);
+    let pair = |r: &mut Random| Pair {
+        did: r.below(most) as u8,
+        sdid: r.below(most) as u8,
+    };
+    (pair(r), (0..length).map(|_| pair(r)).collect())
 }

@@ -38,7 +38,15 @@ pub struct Head {
     pub f: u8,
 }
 
-/// The boundary's ten functions over slices.
+/// A wanted pair, laid out as the header's `struct jibhotran_pair`.
+#[repr(C)]
+#[derive(Clone, Copy, Debug, PartialEq, Eq)]
+pub struct Pair {
+    pub did: u8,
+    pub sdid: u8,
+}
+
+/// The boundary's eleven functions over slices.
 pub trait Side {
     fn read(octets: &[u8], cells: &mut [u16], answer: &mut [u64]) -> u8;
     fn write(head: &Head, cells: &[u16], out: &mut [u8], answer: &mut [u64]) -> u8;
@@ -50,4 +58,5 @@ pub trait Side {
     fn file_write(timestamp: u32, f: u8, cells: &[u16], out: &mut [u8], answer: &mut [u64]) -> u8;
     fn file_read(file: &[u8], at: usize, cells: &mut [u16], answer: &mut [u64]) -> u8;
     fn wanted(did: u8, sdid: u8, pairs: &[u8]) -> u8;
+    fn wanted_of(did: u8, sdid: u8, pairs: &[Pair]) -> u8;
 }

@@ -3,7 +3,7 @@
 use reference::depacketizer::{arrive, open, Answer, State, FILLING};
 use reference::{file, packet, sdp, Refusal};
 
-use crate::{Head, Side, ANSWER, HELD, MIXED, OVERFULL, ROW, SKIPPED, STATE, WHOLE};
+use crate::{Head, Pair, Side, ANSWER, HELD, MIXED, OVERFULL, ROW, SKIPPED, STATE, WHOLE};
 
 pub struct Model;
 
@@ -192,5 +192,11 @@ impl Side for Model {
 
     fn wanted(did: u8, sdid: u8, pairs: &[u8]) -> u8 {
         sdp::wanted_octets(pairs, did, sdid) as u8
+    }
+
+    fn wanted_of(did: u8, sdid: u8, pairs: &[Pair]) -> u8 {
+        let entry = |&Pair { did, sdid }: &Pair| sdp::Pair { did, sdid };
+        let row: Vec<_> = pairs.iter().map(entry).collect();
+        sdp::wanted(&row, did, sdid) as u8
     }
 }

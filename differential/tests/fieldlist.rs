@@ -179,6 +179,73 @@ fn the_longest_frames() {
     }
 }
 
+/// The limits of a field: 255 records of 16,384 cells in all are one; a cell more
+/// is overfull, and so is a record more, in the field's second packet.
+#[test]
+fn fields_of_the_limit() {
+    let mut r = Random::new(604);
+    let mut records = |long| -> Vec<u16> {
+        let words = |k| if k < long { 57 } else { 56 };
+        (0..255).flat_map(|k| record(&mut r, words(k))).collect()
+    };
+    let (full, over) = (records(64), records(65));
+    assert_eq!((full.len(), over.len()), (16_384, 16_385));
+    let few = A.repeat(255);
+    let mut input = Vec::new();
+    for (number, marker, cells) in [
+        (7, true, &A[..]),
+        (8, true, &full),
+        (9, true, &over),
+        (10, false, &full[..full.len() - 64]),
+        (11, true, &full[full.len() - 64..]),
+        (12, false, &few),
+        (13, true, &A),
+    ] {
+        let head = Head {
+            number,
+            marker,
+            ..HEAD
+        };
+        put_frame(&Parts::plain(head, cells).assemble(), &mut input);
+    }
+    let listing = compare(&input, 30_000, "limits");
+    let answers: Vec<&str> = listing
+        .split('\n')
+        .filter(|line| line.starts_with(|c: char| c.is_ascii_digit()))
+        .collect();
+    let expected = [
+        "7 skipped",
+        "8 whole ts=1000 f=2 records=255",
+        "9 overfull",
+        "10 held",
+        "11 whole ts=1000 f=2 records=255",
+        "12 held",
+        "13 overfull",
+    ];
+    assert_eq!(answers, expected);
+}
+
+/// A write that fails is told, once, and ends the run.
+#[test]
+fn output_that_cannot_be_written() {
+    let full = fs::OpenOptions::new()
+        .write(true)
+        .open("/dev/full")
+        .unwrap();
+    let mut child = Command::new(program())
+        .stdin(Stdio::piped())
+        .stdout(full)
+        .stderr(Stdio::piped())
+        .spawn()
+        .unwrap();
+    // It ends without waiting for its input.
+    let pipe = child.stdin.take();
+    let output = child.wait_with_output().unwrap();
+    drop(pipe);
+    let errors = String::from_utf8_lossy(&output.stderr);
+    assert_eq!(errors, "write: No space left on device\n");
+}
+
 #[test]
 fn random_frames() {
     let mut r = Random::new(602);

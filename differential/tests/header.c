@@ -20,6 +20,7 @@ static octet (*const file_begin)(octet *, size_t, number *, size_t) = jibhotran_
 static octet (*const file_write)(uint32_t, octet, const cell *, size_t, octet *, size_t, number *, size_t) = jibhotran_file_write;
 static octet (*const file_read)(const octet *, size_t, size_t, cell *, size_t, number *, size_t) = jibhotran_file_read;
 static octet (*const wanted)(octet, octet, const octet *, size_t) = jibhotran_wanted;
+static octet (*const wanted_of)(octet, octet, const struct jibhotran_pair *, size_t) = jibhotran_wanted_of;
 
 static const cell record_a[8] = {0, 9, 0, 0, 0, 0x41, 0x05, 0};
 static number answer[JIBHOTRAN_ANSWER];
@@ -82,6 +83,9 @@ static void parameters(void) {
     printf("text: %.34s\n", (const char *)out);
     result("sdp write", sdp_write(pairs, 2, JIBHOTRAN_NO_VPID, out, 64, answer, 8), 2);
     printf("wanted: %d %d\n", wanted(0x41, 0x05, pairs, 2), wanted(0x41, 0x06, pairs, 2));
+    const struct jibhotran_pair row[2] = {{.did = 0x61, .sdid = 0x02}, {.did = 0x41, .sdid = 0x05}};
+    printf("wanted of: %d %d %d %d\n", wanted_of(0x41, 0x05, row, 2), wanted_of(0x05, 0x41, row, 2), wanted_of(0x41, 0x05, row, 1),
+           wanted_of(0x41, 0x05, row, 0));
 }
 
 static void file(void) {

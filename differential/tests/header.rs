@@ -48,6 +48,7 @@ fn rust_type(c: &str) -> String {
         "uint32_t" => "u32",
         "uint64_t" => "u64",
         "size_t" => "usize",
+        "struct jibhotran_pair" => "Pair",
         other => panic!("{other}"),
     };
     match (c.strip_prefix("const "), c.strip_suffix("*")) {
@@ -97,7 +98,7 @@ fn the_declarations_agree() {
         " -> u8;",
         rust_parameter,
     );
-    assert_eq!(in_c.len(), 10);
+    assert_eq!(in_c.len(), 11);
     assert_eq!(in_c, in_rust);
 }
 

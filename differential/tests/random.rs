@@ -3,7 +3,7 @@
 
 use std::collections::BTreeSet;
 
-use differential::call::compare;
+use differential::call::{compare, compare_wanted, Lengths, Memory};
 use differential::inputs::{self, Case};
 use differential::ROW;
 use reference::coverage::Coverage;
@@ -128,6 +128,19 @@ fn records_wanted() {
         let (call, memory) = inputs::wanted(&mut r);
         let (number, _) = compare(&call, &memory);
         met[number as usize] += 1;
+    }
+    assert!(met[0] > 20_000 && met[1] > 20_000, "{met:?}");
+}
+
+/// The same of a row of pairs, and of the row's octets.
+#[test]
+fn records_wanted_of_pairs() {
+    let mut r = Random::new(111);
+    let memory = Memory::new(Lengths::default(), &mut r);
+    let mut met = [0; 2];
+    for _ in 0..200_000 {
+        let (asked, row) = inputs::wanted_of(&mut r);
+        met[compare_wanted(asked, &row, &memory) as usize] += 1;
     }
     assert!(met[0] > 20_000 && met[1] > 20_000, "{met:?}");
 }

@@ -1,8 +1,8 @@
 //! Small spaces gone through whole: every number of one part, the rest as in
 //! a call that is accepted.
 
-use differential::call::{compare, Call, Lengths, Memory};
-use differential::{Head, ANSWER};
+use differential::call::{compare, compare_wanted, Call, Lengths, Memory};
+use differential::{Head, Pair, ANSWER};
 use reference::anc::packet_octets;
 use reference::random::{record, Parts, Random};
 use reference::runs::{changed, A, HEAD};
@@ -181,6 +181,25 @@ fn every_pair_number() {
             let (wanted, _) = compare(&Call::Wanted { did, sdid, pairs }, &memory);
             let is = [(9, 9), (0x41, 5), (x, 255 - x)].contains(&(x, y));
             assert_eq!(wanted, is as u8);
+        }
+    }
+}
+
+/// Every row of up to three of nine pairs, asked for each of the nine.
+#[test]
+fn every_row_of_three_pairs() {
+    let memory = lent(0, 0);
+    let numbers = [0, 1, 255];
+    let pairs = numbers.map(|did| numbers.map(|sdid| Pair { did, sdid }));
+    let pairs = pairs.concat();
+    for length in 0..=3 {
+        for code in 0..9_usize.pow(length) {
+            let places = (0..length).map(|place| pairs[code / 9_usize.pow(place) % 9]);
+            let row: Vec<Pair> = places.collect();
+            for &asked in &pairs {
+                let is = row.is_empty() || row.contains(&asked);
+                assert_eq!(compare_wanted(asked, &row, &memory), is as u8);
+            }
         }
     }
 }

@@ -7,9 +7,9 @@ use lib.ListN.{length, take, drop}
 use Rattle.wire.specs.Bits.{overwrite, splice}
 use Rattle.wire.specs.Anc.{Record}
 use Rattle.wire.specs.Cells.{headCells, cellsOf}
-use Rattle.wire.specs.Header.{headerOf, headerCells}
+use Rattle.record.specs.Header.{headerOf, headerCells}
 use Rattle.wire.proofs.ListLaws.{splice-append, part-written}
-use Rattle.wire.proofs.HeaderLaws.{header-cells}
+use Rattle.record.proofs.HeaderLaws.{header-cells}
 
 pub record-written : (r : Record) (cells head part : List ℕ) → r .c < 2 → r .s < 2
     → head ≡ overwrite (headerCells (headerOf r)) cells
@@ -19,4 +19,4 @@ record-written r cells head part c s h p =
     part-written headCells head (r .words) part p
     ∙ ap (λ (l : List ℕ). splice l headCells (r .words)) h
     ∙ splice-append cells 0 (headerCells (headerOf r)) (r .words) zero-le
-    ∙ ap (λ (l : List ℕ). overwrite l cells) (header-cells r c s)
+    ∙ ap (λ (l : List ℕ). overwrite (l ++ r .words) cells) (header-cells r c s)

@@ -4,15 +4,16 @@ ghost use Prim.Native.Nat.{_≤_};
 ghost use lib.ListN.{length};
 ghost use Rattle.wire.specs.Anc.{alignmentOk, ancSize, checksumOk, dataCount, headersOk, readAnc, readRun};
 ghost use Rattle.wire.specs.Layout.{leastSize, rfc8331};
-ghost use Rattle.wire.specs.Words.{isHeaderWord};
+ghost use Rattle.wire.specs.Words.{HeaderTable, isHeaderWord};
 ghost use Rattle.anc.specs.Answers.{runOf, runRefusal, verdictOf};
+use record::header::Header;
 use rows::sum::sum_octets;
 use wire::count::OctetCount;
 use wire::count::WordCount;
-use wire::header::Header;
 use wire::layout::DATA_COUNT_AT;
 use wire::layout::DID_AT;
 use wire::layout::FIXED_BITS;
+use wire::layout::HEADER_NUMBERS;
 use wire::layout::LEAST_SIZE;
 use wire::layout::SDID_AT;
 use wire::layout::WORD_BITS;
@@ -20,8 +21,8 @@ use wire::layout::WORDS_AT;
 use wire::refusal::Refusal;
 use words::checksum::checksum_word;
 use words::octet::quad_at;
-use words::parity::header_word;
 use words::size::packet_size;
+use words::size::plus;
 use words::word::fetch;
 
 // What one packet is.
@@ -36,24 +37,27 @@ pub enum Run {
     Refused(Refusal),
 }
 
-fn is_header_word(w: u16) -> bool
+// The table's word for the number that the word carries is the word.
+fn is_header_word(w: u16, table: &[u16; 256]) -> bool
+    requires { ⌜ HeaderTable (now table) ⌝ }
     ensures { λ r. ⌜ r ≡ isHeaderWord w ⌝ }
 {
-    w == header_word(w % 256)
+    let x = (w % HEADER_NUMBERS) as usize;
+    w == table[x]
 }
 
 // DID, SDID and Data_Count.
-fn header_words_ok(octets: &[u8]) -> bool
-    requires { ⌜ leastSize rfc8331 ≤ length (now octets) ⌝ }
+fn header_words_ok(octets: &[u8], table: &[u16; 256]) -> bool
+    requires { ⌜ HeaderTable (now table) × (leastSize rfc8331 ≤ length (now octets)) ⌝ }
     ensures { λ r. ⌜ r ≡ headersOk rfc8331 (now (octets .entry)) ⌝ }
 {
-    if !is_header_word(fetch(octets, DID_AT)) {
+    if !is_header_word(fetch(octets, DID_AT), table) {
         return false;
     }
-    if !is_header_word(fetch(octets, SDID_AT)) {
+    if !is_header_word(fetch(octets, SDID_AT), table) {
         return false;
     }
-    is_header_word(fetch(octets, DATA_COUNT_AT))
+    is_header_word(fetch(octets, DATA_COUNT_AT), table)
 }
 
 fn checksum_ok(octets: &[u8], words: WordCount) -> bool
@@ -103,16 +107,17 @@ impl Verdict {
 }
 
 // The packet at the front of the octets, the run's packet `index`.
-fn check_packet(octets: &[u8], index: usize) -> Verdict
+fn check_packet(octets: &[u8], index: usize, table: &[u16; 256]) -> Verdict
+    requires { ⌜ HeaderTable (now table) ⌝ }
     ensures { λ r. ⌜ r ≡ verdictOf (readAnc rfc8331 index (now (octets .entry))) ⌝ }
 {
     if octets.len() < LEAST_SIZE {
         return Verdict::refuse(Refusal::ANC_CUT, index);
     }
-    if !header_words_ok(octets) {
+    if !header_words_ok(octets, table) {
         return Verdict::refuse(Refusal::HEADER_WORD_MALFORMED, index);
     }
-    let words = WordCount((fetch(octets, DATA_COUNT_AT) % 256) as u8);
+    let words = WordCount((fetch(octets, DATA_COUNT_AT) % HEADER_NUMBERS) as u8);
     let size = packet_size(words);
     if octets.len() < size.0 {
         return Verdict::refuse(Refusal::ANC_CUT, index);
@@ -130,13 +135,14 @@ fn check_packet(octets: &[u8], index: usize) -> Verdict
 pub fn check_run(octets: &[u8], count: u8) -> Run
     ensures { λ r. ⌜ r ≡ runOf (readRun rfc8331 0 count (now (octets .entry))) ⌝ }
 {
+    let table = words::table::header_words();
     let n = count as usize;
     let mut rest = octets;
-    let mut used: usize = 0;
+    let mut used = OctetCount(0);
     let mut cells: usize = 0;
     let mut i: usize = 0;
     while i < n {
-        let verdict = check_packet(rest, i);
+        let verdict = check_packet(rest, i, &table);
         match verdict {
             Verdict::Refused(refusal) => {
                 return Run::Refused(refusal);
@@ -145,14 +151,14 @@ pub fn check_run(octets: &[u8], count: u8) -> Run
                 let size = packet_size(words);
                 let step = size.0;
                 rest = &rest[step..];
-                used += step;
+                used = plus(used, size);
                 cells += Header::CELLS + (words.0 as usize);
             }
         }
         i += 1;
     }
     Run::Accepted {
-        octets: OctetCount(used),
+        octets: used,
         cells,
     }
 }

@@ -9,10 +9,9 @@ ghost use Rattle.wire.specs.Layout.{rfc8331};
 ghost use Rattle.wire.specs.Result.{IsAccepted};
 ghost use Rattle.anc.specs.Answers.{runCells};
 use crate::header::read_header;
-use crate::header::store_header;
+use record::header::Header;
 use rows::row::read_words;
 use wire::count::WordCount;
-use wire::header::Header;
 use wire::layout::WORDS_AT;
 use words::size::packet_size;
 
@@ -23,9 +22,7 @@ fn read_packet(octets: &[u8], cells: &mut [u16]) -> WordCount
     ensures { λ r. ⌜ r .0 ≡ dataCount rfc8331 (now (octets .entry)) ⌝ }
     ensures { λ r. ⌜ now (cells .exit) ≡ overwrite (cellsOf (ancRecord rfc8331 (now (octets .entry)))) (now (cells .entry)) ⌝ }
 {
-    let h = read_header(octets);
-    store_header(h, cells);
-    let words = h.words;
+    let words = read_header(octets, cells);
     let n = words.0 as usize;
     read_words(octets, WORDS_AT, n, &mut cells[Header::CELLS..]);
     words

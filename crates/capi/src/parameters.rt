@@ -1,12 +1,13 @@
 // SDP format parameters, and whether a record is wanted.
 ghost use mathlib.Core.Path.{_≡_};
 ghost use Rattle.wire.specs.Bits.{bit, overwrite};
-ghost use Rattle.filter.specs.Wanted.{wantedIn};
+ghost use Rattle.filter.specs.Wanted.{wantedIn, wantedOf};
 ghost use Rattle.capi.specs.Calls.{sdpPairs, sdpReadReply, sdpText, sdpWriteReply, vpidOf};
 use crate::length::ANSWER_SIZE;
 use crate::length::ROW_TOO_SHORT;
 use boundary::answer::reply_reading;
 use boundary::answer::reply_written;
+use filter::DidSdid;
 use sdp::parameters::Vpid;
 
 // Reads SDP format parameters, the pairs into octets, DID then SDID.
@@ -53,14 +54,25 @@ pub extern "C" fn jibhotran_sdp_write(
     reply_written(written, answer)
 }
 
+// A yes is 1, and a no is 0.
+fn flag(is: bool) -> u8
+    ensures { λ r. ⌜ r ≡ bit is ⌝ }
+{
+    if is { 1 } else { 0 }
+}
+
 // 1 where a record of these numbers is wanted, and 0 where not.
 #[no_mangle]
 pub extern "C" fn jibhotran_wanted(did: u8, sdid: u8, pairs: &[u8]) -> u8
     ensures { λ r. ⌜ r ≡ bit (wantedIn did sdid (now (pairs .entry))) ⌝ }
 {
-    if filter::wanted(did, sdid, pairs) {
-        1
-    } else {
-        0
-    }
+    flag(filter::wanted(did, sdid, pairs))
+}
+
+// The same, the pairs lent as a list of pairs.
+#[no_mangle]
+pub extern "C" fn jibhotran_wanted_of(did: u8, sdid: u8, pairs: &[DidSdid]) -> u8
+    ensures { λ r. ⌜ r ≡ bit (wantedOf did sdid (now (pairs .entry))) ⌝ }
+{
+    flag(filter::wanted_of(did, sdid, pairs))
 }

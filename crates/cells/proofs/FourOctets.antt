@@ -4,26 +4,22 @@ use mathlib.Core.Path.{_≡_, refl, _∙_}
 use mathlib.Core.List.{List, [], _∷_}
 use Prim.Native.Nat.{ℕ, _+_, _*_, _/_, _%_}
 use native.Mathlib.Omega.{arith}
-use Rattle.wire.specs.Bits.{Fields, Fit, Below, pack}
-use Rattle.wire.specs.Layout.{rfc8331, sBits, streamBits}
+use Rattle.wire.specs.Anc.{Record, WellFormed, locationFields}
+use Rattle.wire.specs.Bits.{Below, pack}
+use Rattle.wire.specs.Layout.{rfc8331}
 use Rattle.wire.proofs.BitLaws.{packed}
 use Rattle.wire.proofs.Window.{below-each}
 use Rattle.wire.proofs.HeadLaws.{c-at, line-at, offset-at, s-at, stream-at}
 
--- RFC 8331, section 2.1: C, Line_Number, Horizontal_Offset, S, StreamNum
-abbrev pub location : ℕ → ℕ → ℕ → ℕ → ℕ → Fields
-location c line offset s stream = (1, c) ∷ (11, line) ∷ (12, offset) ∷ (sBits rfc8331, s) ∷ (streamBits rfc8331, stream) ∷ []
+abbrev pub locationOctets : Record → List ℕ
+locationOctets r =
+    (r .c * 128 + r .line / 16) ∷ (r .line % 16 * 16 + r .offset / 256) ∷ (r .offset % 256) ∷ (r .s * 128 + r .stream) ∷ []
 
-abbrev pub locationOctets : ℕ → ℕ → ℕ → ℕ → ℕ → List ℕ
-locationOctets c line offset s stream =
-    (c * 128 + line / 16) ∷ (line % 16 * 16 + offset / 256) ∷ (offset % 256) ∷ (s * 128 + stream) ∷ []
-
-pub location-packed : (c line offset s stream : ℕ) → Fit (location c line offset s stream)
-    → locationOctets c line offset s stream ≡ pack (location c line offset s stream)
-location-packed c line offset s stream f =
-    let o = locationOctets c line offset s stream in
+pub location-packed : (r : Record) → WellFormed rfc8331 r → locationOctets r ≡ pack (locationFields rfc8331 r)
+location-packed r f =
+    let o = locationOctets r in
     let b : Below 256 o = omega arith in
-    packed o (location c line offset s stream) 4 refl b (omega arith) (
+    packed o (locationFields rfc8331 r) 4 refl b (omega arith) (
       c-at o (below-each o b) (omega arith) ∙ omega arith,
       (
         line-at o (below-each o b) (omega arith) ∙ omega arith,

@@ -2,3 +2,4 @@ pub mod FourOctets
 pub mod ListRun
 pub mod PacketBits
 pub mod RunLeft
+pub mod ListedLaws

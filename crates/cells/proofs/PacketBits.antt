@@ -9,17 +9,15 @@ use lib.ListN.{length, getD}
 use Rattle.wire.specs.Bits.{toBits, bits, Fields, row, fieldBits, pack, Below, overwrite, splice}
 use Rattle.wire.specs.Words.{wordBits, headerNumbers, HeaderTable, sumLow, checksumWord}
 use Rattle.wire.specs.Layout.{rfc8331}
-use Rattle.wire.specs.Anc.{Record, WellFormed, checksum, bodyFields, ancFields, ancOctets, ancSize, didAt, wordsAt}
-use Rattle.wire.specs.Header.{headerOf, locationFields}
+use Rattle.wire.specs.Anc.{Record, WellFormed, checksum, locationFields, bodyFields, ancFields, ancOctets, ancSize, didAt, wordsAt}
 use Rattle.wire.proofs.BitLaws.{length-fieldBits, bits-octets, width-row}
-use Rattle.wire.proofs.BitLaws.{flag}
 use Rattle.wire.proofs.ListLaws.{splice-append}
-use Rattle.wire.proofs.LocationLaws.{line-of-number, offset-of-number}
 use Rattle.wire.proofs.PacketStore.{fieldBits-append, fieldBits-one, store-behind, aligned}
 use Rattle.wire.proofs.SizeLaws.{width-anc}
 use Rattle.wire.proofs.Store.{bits-splice, stored}
+use Rattle.record.specs.Header.{headerOf, headerLocation}
+use Rattle.record.proofs.HeaderLaws.{header-location}
 use Rattle.cells.specs.Packet.{headWords, summed}
-use Rattle.cells.proofs.FourOctets.{location}
 
 -- a sum of words fits its type
 pub sum-small : (ws : List ℕ) → sumLow ws ≤ 511 * length ws
@@ -27,9 +25,9 @@ sum-small [] = omega arith
 sum-small (w ∷ ws) = omega (arith, sum-small ws)
 
 -- the table's entries for DID, SDID and Data_Count are their header words
-pub entries-are : (table : List ℕ) (did sdid n : ℕ) → HeaderTable table → did < headerNumbers → sdid < headerNumbers → n < headerNumbers
-    → getD table did 0 ∷ getD table sdid 0 ∷ getD table n 0 ∷ [] ≡ headWords did sdid n
-entries-are table did sdid n t hd hs hn = λ i. t .entry did hd i ∷ t .entry sdid hs i ∷ t .entry n hn i ∷ []
+pub entries-are : (table : List ℕ) (r : Record) → HeaderTable table → WellFormed rfc8331 r
+    → getD table (r .did) 0 ∷ getD table (r .sdid) 0 ∷ getD table (length (r .words)) 0 ∷ [] ≡ headWords r
+entries-are table r t f = λ i. t .entry (r .did) (f .did) i ∷ t .entry (r .sdid) (f .sdid) i ∷ t .entry (length (r .words)) (f .count) i ∷ []
 
 -- the words, and the checksum word stored behind them
 pub summed-stored : (b : List Bool) (words : List ℕ) (sum : ℕ) → wordsAt rfc8331 ≤ length b
@@ -46,39 +44,31 @@ summed-stored b words sum h =
     ∙ ap (splice b (wordsAt rfc8331)) (sym (fieldBits-append fs last))
 
 module _ (r : Record) (formed : WellFormed rfc8331 r) where
-  abbrev head : List ℕ
-  head = headWords (r .did) (r .sdid) (length (r .words))
-
   abbrev places : Fields
-  places = location (r .c) (r .line) (r .offset) (r .s) (r .stream)
-
-  -- the header of a record has the record's fields
-  pub location-is : locationFields (headerOf r) ≡ places
-  location-is = λ i.
-      location (flag (r .c) (formed .c) i) (line-of-number (r .line) i) (offset-of-number (r .offset) i) (flag (r .s) (formed .s) i) (r .stream)
+  places = locationFields rfc8331 r
 
   -- the sums of the header words and of the words, together, make the record's checksum
-  body-is : fieldBits ((places ++ row wordBits head) ++ summed (r .words) (sumLow head)) ≡ fieldBits (bodyFields rfc8331 r)
+  body-is : fieldBits ((places ++ row wordBits (headWords r)) ++ summed (r .words) (sumLow (headWords r))) ≡ fieldBits (bodyFields rfc8331 r)
   unfolding fieldBits toBits
   body-is =
-      let e : checksumWord (sumLow head + sumLow (r .words)) ≡ checksum r = ap checksumWord (omega arith) in
-      ap (λ (w : ℕ). fieldBits ((places ++ row wordBits head) ++ (row wordBits (r .words) ++ (wordBits, w) ∷ []))) e
+      let e : checksumWord (sumLow (headWords r) + sumLow (r .words)) ≡ checksum r = ap checksumWord (omega arith) in
+      ap (λ (w : ℕ). fieldBits ((places ++ row wordBits (headWords r)) ++ (row wordBits (r .words) ++ (wordBits, w) ∷ []))) e
 
   module _ (s s₁ s₂ s₃ s₄ : List ℕ) where
     pub written : Below 256 s → Below 256 s₄ → ancSize rfc8331 (length (r .words)) ≤ length s
         → s₁ ≡ splice s (ancSize rfc8331 (length (r .words)) - 4) (0 ∷ 0 ∷ 0 ∷ 0 ∷ [])
-        → s₂ ≡ overwrite (pack (locationFields (headerOf r))) s₁
-        → bits s₃ ≡ splice (bits s₂) (didAt rfc8331) (fieldBits (row wordBits head))
-        → bits s₄ ≡ splice (bits s₃) (wordsAt rfc8331) (fieldBits (summed (r .words) (sumLow head)))
+        → s₂ ≡ overwrite (pack (headerLocation (headerOf r))) s₁
+        → bits s₃ ≡ splice (bits s₂) (didAt rfc8331) (fieldBits (row wordBits (headWords r)))
+        → bits s₄ ≡ splice (bits s₃) (wordsAt rfc8331) (fieldBits (summed (r .words) (sumLow (headWords r))))
         → s₄ ≡ overwrite (ancOctets rfc8331 r) s
     written h h₄ l e₁ e₂ e₃ e₄ =
-        let lf = locationFields (headerOf r) in
-        let f₃ = places ++ row wordBits head in
-        let tail = summed (r .words) (sumLow head) in
+        let lf = headerLocation (headerOf r) in
+        let f₃ = places ++ row wordBits (headWords r) in
+        let tail = summed (r .words) (sumLow (headWords r)) in
         let b₂ : bits s₂ ≡ splice (bits s₁) 0 (fieldBits places) =
-        ap bits e₂ ∙ bits-splice s₁ 0 (pack lf) ∙ ap (splice (bits s₁) 0) (bits-octets 4 (fieldBits lf) (length-fieldBits lf) ∙ ap fieldBits location-is) in
+        ap bits e₂ ∙ bits-splice s₁ 0 (pack lf) ∙ ap (splice (bits s₁) 0) (bits-octets 4 (fieldBits lf) (length-fieldBits lf) ∙ ap fieldBits (header-location r (formed .c) (formed .s))) in
         let b₃ : bits s₃ ≡ splice (bits s₁) 0 (fieldBits f₃) =
-        e₃ ∙ ap (λ (b : List Bool). splice b (didAt rfc8331) (fieldBits (row wordBits head))) b₂ ∙ store-behind (bits s₁) places (row wordBits head) in
+        e₃ ∙ ap (λ (b : List Bool). splice b (didAt rfc8331) (fieldBits (row wordBits (headWords r)))) b₂ ∙ store-behind (bits s₁) places (row wordBits (headWords r)) in
         let b₄ : bits s₄ ≡ splice (bits s₁) 0 (fieldBits (f₃ ++ tail)) =
         e₄ ∙ ap (λ (b : List Bool). splice b (wordsAt rfc8331) (fieldBits tail)) b₃ ∙ store-behind (bits s₁) f₃ tail in
         stored s s₄ h h₄ 0 (ancSize rfc8331 (length (r .words))) (ancFields rfc8331 r) (width-anc rfc8331 r) (omega arith)

@@ -15,7 +15,7 @@ use Rattle.wire.proofs.ListLaws.{length-splice, splice-append, splice-none}
 use Rattle.wire.proofs.ResultLaws.{Passed, accepted-is}
 use Rattle.wire.proofs.SizeLaws.{length-anc}
 use Rattle.cells.specs.Answers.{listOctets}
-use Rattle.cells.proofs.ListRun.{lies}
+use Rattle.record.proofs.FrontLaws.{lies}
 
 -- the cells `left` are those of records whose run, from octet `to` on, makes the octets `all`
 pub record ToWrite (all octets left : List ℕ) (to : ℕ) : Type 0 where

@@ -3,23 +3,11 @@ use mathlib.Core.List.{List, []}
 use Prim.Native.Nat.{ℕ}
 use lib.ListN.{length}
 use Rattle.wire.specs.declared.refusal.Refusal.{Refusal}
-use Rattle.wire.specs.Result.{Result, refused, accepted, noRefusal, judge}
+use Rattle.wire.specs.Result.{Result, refused, accepted, noRefusal}
 use Rattle.wire.specs.Layout.{rfc8331}
 use Rattle.wire.specs.Anc.{Record, runSize, runOctets}
-use Rattle.wire.specs.Cells.{cellChecks, cellRecord}
-use Rattle.cells.specs.declared.check.Front.{Front}
-use Rattle.cells.specs.declared.check.Front.the-variants as front
 use Rattle.cells.specs.declared.check.Listed.{Listed}
 use Rattle.cells.specs.declared.check.Listed.the-variants as listed
-
--- a record, by its n; or 20: "list malformed", the same for all of its cases
-abbrev pub frontFrom : Result Record → Front
-frontFrom (refused x) = front.Malformed
-frontFrom (accepted r) = front.Record (record { 0 = length (r .words) })
-
--- the record at the front of the cells
-abbrev pub frontOf : List ℕ → Front
-frontOf l = frontFrom (judge 0 (cellChecks l) (accepted (cellRecord l)))
 
 -- a list: how many records, for 21, and the octets of their packets, for 22 and 23
 abbrev pub listedOf : Result (List Record) → Listed

@@ -2,5 +2,5 @@
 //
 // `check_list` is the entry point: it takes any cells. `write_run` writes what `check_list` has accepted, and asks for that.
 pub mod check;
-pub mod header;
+pub mod head;
 pub mod write;

@@ -3,22 +3,20 @@ ghost use mathlib.Core.Path.{_≡_};
 ghost use Prim.Native.Nat.{_+_, _-_, _^_, _<_, _≤_};
 ghost use mathlib.Core.List.{[], _∷_};
 ghost use lib.ListN.{length};
-ghost use Rattle.wire.specs.Anc.{WellFormed, ancOctets, ancSize, didAt, wordsAt};
-ghost use Rattle.wire.specs.Bits.{Below, bits, fieldBits, overwrite, row, splice};
+ghost use Rattle.wire.specs.Anc.{WellFormed, ancOctets, ancSize, wordsAt};
+ghost use Rattle.wire.specs.Bits.{Below, bits, fieldBits, overwrite, splice};
 ghost use Rattle.wire.specs.Cells.{cellCount, cellRecord, headCells, readList};
-ghost use Rattle.wire.specs.Layout.{leastSize, rfc8331};
+ghost use Rattle.wire.specs.Layout.{rfc8331};
 ghost use Rattle.wire.specs.Result.{IsAccepted};
-ghost use Rattle.wire.specs.Words.{HeaderTable, headerNumbers, sumLow, wordBits};
+ghost use Rattle.wire.specs.Words.{HeaderTable, headerNumbers, wordBits};
 ghost use Rattle.cells.specs.Answers.{listOctets};
-ghost use Rattle.cells.specs.Packet.{headWords, summed};
-use crate::header::header_at;
-use crate::header::write_location;
-use rows::row::write_singly;
+ghost use Rattle.cells.specs.Packet.{summed};
+use crate::head::write_header_words;
+use crate::head::write_location;
+use record::header::Header;
 use rows::row::write_words;
 use rows::sum::sum_cells;
 use wire::count::WordCount;
-use wire::header::Header;
-use wire::layout::DID_AT;
 use wire::layout::WORD_BITS;
 use wire::layout::WORDS_AT;
 use words::checksum::checksum_word;
@@ -34,26 +32,6 @@ fn clear_end(octets: &mut [u8], size: usize)
     octets[size - 3] = 0;
     octets[size - 2] = 0;
     octets[size - 1] = 0;
-}
-
-// Stores DID, SDID and Data_Count as header words; the sum of their low nine bits.
-fn write_header_words(
-    did: u8,
-    sdid: u8,
-    words: WordCount,
-    octets: &mut [u8],
-    table: &[u16; 256],
-) -> u32
-    requires { ⌜ HeaderTable (now table) × (leastSize rfc8331 ≤ length (now octets)) ⌝ }
-    ensures { λ r. ⌜ r ≡ sumLow (headWords did sdid (words .0)) ⌝ }
-    ensures { λ r. ⌜ bits (now (octets .exit)) ≡ splice (bits (now (octets .entry))) (didAt rfc8331) (fieldBits (row wordBits (headWords did sdid (words .0)))) ⌝ }
-{
-    let did = did as usize;
-    let sdid = sdid as usize;
-    let n = words.0 as usize;
-    let head = [table[did], table[sdid], table[n]];
-    write_singly(&head, octets, DID_AT);
-    sum_cells(&head)
 }
 
 // Stores the user data words, and the checksum word behind them; `sum` is that of the words before them.
@@ -76,13 +54,12 @@ fn write_packet(cells: &[u16], octets: &mut [u8], table: &[u16; 256]) -> WordCou
     ensures { λ r. ⌜ r .0 ≡ cellCount (now (cells .entry)) ⌝ }
     ensures { λ r. ⌜ now (octets .exit) ≡ overwrite (ancOctets rfc8331 (cellRecord (now (cells .entry)))) (now (octets .entry)) ⌝ }
 {
-    let h = header_at(cells);
-    let words = h.words;
+    let words = WordCount(cells[Header::COUNT_CELL] as u8);
     let size = packet_size(words);
     let end = Header::CELLS + (words.0 as usize);
     clear_end(octets, size.0);
-    write_location(h, octets);
-    let sum = write_header_words(h.did, h.sdid, words, octets, table);
+    write_location(cells, octets);
+    let sum = write_header_words(cells, octets, table);
     write_user_words(&cells[Header::CELLS..end], octets, sum);
     words
 }

@@ -5,45 +5,66 @@ use mathlib.Core.Bool.{Bool, true, false, cond}
 use mathlib.Core.List.{List, [], _∷_}
 use Prim.Native.Nat.{ℕ}
 use native.Mathlib.Omega.{arith}
-use lib.Dec.{eqb}
 use lib.ListN.{length}
 use Rattle.wire.specs.declared.refusal.Refusal.{Refusal}
 use Rattle.wire.specs.Layout.{rfc8331}
-use Rattle.wire.specs.Result.{Result, refused, accepted}
+use Rattle.wire.specs.Result.{Result, refused, accepted, refuse, Checks, judge}
 use Rattle.wire.specs.Packet.{Content, readContent}
 use Rattle.wire.proofs.ResultLaws.{then-accepts, judge-accepts}
+use Rattle.rtp.specs.Answers.{headOf}
+use Rattle.depacketizer.specs.declared.admit.Stage.{Stage}
+use Rattle.depacketizer.specs.declared.admit.Stage.the-variants as stage
 use Rattle.depacketizer.specs.declared.state.Depacketizer.{Depacketizer as State}
 use Rattle.depacketizer.specs.declared.state.Answer.the-variants as answer
 use Rattle.depacketizer.specs.declared.distance.Freshness.the-variants as freshness
-use Rattle.depacketizer.specs.Step.{Class, late, next, gap, classify, distance, lost, gathered, step, sound, admission, admit, admittedStep, packetStep, classStep, freshStep, lateStep}
-use Rattle.depacketizer.specs.Answers.{freshnessOf}
+use Rattle.depacketizer.specs.Step.{Class, late, next, gap, classify, distance, lost, gathered, step, sound, openedChecks, admission, admit, admittedStep, packetStep, classStep, freshStep, lateStep}
+use Rattle.depacketizer.specs.Answers.{stageOf, freshnessOf}
 
--- what is admitted or refused, from the tests
+-- what follows a stage: a refusal goes straight out
+abbrev passing : {A : Type 0} → Stage → (refuse : Refusal → A) → A → A
+passing stage.Passed refuse r = r
+passing (stage.Refused x) refuse r = refuse x
+
+-- checks give their stage, then what follows it
+judge-stage : {A : Type 0} (ts : Checks) (r : Result A) → judge 0 ts r ≡ passing (stageOf ts) refused r
+judge-stage [] r = refl
+judge-stage (t ∷ ts) r = go (t .0) (judge-stage ts r)
+  where
+    go : (b : Bool) → judge 0 ts r ≡ passing (stageOf ts) refused r
+        → cond b (judge 0 ts r) (refuse (t .1) 0) ≡ passing (cond b (stageOf ts) (stage.Refused (record { number = t .1; index = 0 }))) refused r
+    go true h = h
+    go false h = refl
+
+-- one check, then the others
+pub stage-first : (b : Bool) (n : ℕ) (ts : Checks) → stageOf ((b, n) ∷ ts) ≡ passing (stageOf ((b, n) ∷ [])) stage.Refused (stageOf ts)
+stage-first true n ts = refl
+stage-first false n ts = refl
+
+-- what is admitted or refused, stage by stage
 module _ (st : State) (room : ℕ) (s : List ℕ) where
-  pub unsound : sound st room ≡ false → admission st room s ≡ refused (record { number = 35; index = 0 })
-  unsound e = rw e
+  module _ (y : Stage) (e : stageOf ((sound st room, 35) ∷ []) ≡ y) where
+    pub told : admission st room s ≡ passing y refused (admit (st .source) (st .«payload_type») s)
+    told =
+        judge-stage ((sound st room, 35) ∷ []) (admit (st .source) (st .«payload_type») s)
+        ∙ ap (λ (z : Stage). passing z refused (admit (st .source) (st .«payload_type») s)) e
 
-  module _ (e : sound st room ≡ true) where
+  module _ (e : stageOf ((sound st room, 35) ∷ []) ≡ stage.Passed) where
     pub unread : (x : Refusal) → readContent rfc8331 s ≡ refused x → admission st room s ≡ refused x
-    unread x r = rw (e, r)
+    unread x r = told stage.Passed e ∙ rw r
 
-    module _ (k : Content) (r : readContent rfc8331 s ≡ accepted k) where
-      pub other-source : eqb (k .source) (st .source) ≡ false → admission st room s ≡ refused (record { number = 30; index = 0 })
-      other-source a = rw (e, r, a)
-
-      module _ (a : eqb (k .source) (st .source) ≡ true) where
-        pub other-type : eqb (k .type) (st .«payload_type») ≡ false → admission st room s ≡ refused (record { number = 31; index = 0 })
-        other-type b = rw (e, r, a, b)
-
-        pub admitted : eqb (k .type) (st .«payload_type») ≡ true → admission st room s ≡ accepted k
-        admitted b = rw (e, r, a, b)
+    pub read : (k : Content) (y : Stage) → readContent rfc8331 s ≡ accepted k → stageOf (openedChecks (st .source) (st .«payload_type») (headOf k)) ≡ y
+        → admission st room s ≡ passing y refused (accepted k)
+    read k y r a =
+        told stage.Passed e
+        ∙ rw r
+        (judge-stage (openedChecks (st .source) (st .«payload_type») (headOf k)) (accepted k) ∙ ap (λ (z : Stage). passing z refused (accepted k)) a)
 
   -- what an admitted packet has passed
   pub passed : (k : Content) → admission st room s ≡ accepted k → (sound st room ≡ true) × (readContent rfc8331 s ≡ accepted k)
   passed k h =
       let p = judge-accepts 0 ((sound st room, 35) ∷ []) (admit (st .source) (st .«payload_type») s) k h in
       let a = then-accepts (readContent rfc8331 s) _ k (p .1) in
-      let b = judge-accepts 0 ((eqb (a .0 .source) (st .source), 30) ∷ (eqb (a .0 .type) (st .«payload_type»), 31) ∷ []) (accepted (a .0)) k (a .2) in
+      let b = judge-accepts 0 (openedChecks (st .source) (st .«payload_type») (headOf (a .0))) (accepted (a .0)) k (a .2) in
       (p .0 .0, a .1 ∙ b .1)
 
 -- the step of what is refused, and of what is admitted

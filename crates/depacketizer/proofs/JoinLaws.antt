@@ -15,9 +15,9 @@ use Rattle.wire.specs.Writing.{maxFieldRecords, maxFieldCells}
 use Rattle.wire.proofs.ListLaws.{length-splice, take-splice}
 use Rattle.rtp.specs.declared.packet.Summary.{Summary}
 use Rattle.rtp.specs.Answers.{summaryOf}
-use Rattle.depacketizer.specs.declared.state.Answer.the-variants as answer
-use Rattle.depacketizer.specs.Step.{Gathered, ready, filling, gatheredRecords, gatheredCells, marked, Gather, taken, fits, join, follow, appended}
+use Rattle.depacketizer.specs.Step.{ready, filling, gatheredCells, marked, Gather, wholeIfMarked, taken, fits, joinFits, join, follow, appended}
 use Rattle.depacketizer.specs.Stream.{Part, Field, parts, recordCount, cellsIn, Sent, isLast, Stream, contentAt, Within, Fits, handedBy, onlyIf}
+use Rattle.depacketizer.proofs.DecideLaws.{gatheredFits, taken-fits}
 use Rattle.depacketizer.proofs.PlaceLaws.{upTo, gatheredOf, entering, leaving, Holds, PartOf, records-append, cells-append, gathered-snoc}
 
 -- a packet is marked where it is its field's last
@@ -87,23 +87,20 @@ module _ (x : Sent) (store : List ℕ) (of : PartOf x) (within : Within (x .fiel
       simp (cells-append, length-append) in
       omega (arith, length-up)
 
-  fits-up : fits (recordCount (upTo x)) (length (cellsIn (upTo x))) (length store) ≡ true
-  fits-up =
+  fits-up : (r : ℕ) → r ≤ recordCount (upTo x) → fits r (length (cellsIn (upTo x))) (length store) ≡ true
+  fits-up r h =
       rw (
-        le-leb (recordCount (upTo x)) maxFieldRecords (omega (arith, records-fit)),
+        le-leb r maxFieldRecords (omega (arith, records-fit)),
         le-leb (length (cellsIn (upTo x))) maxFieldCells (omega (arith, cells-fit)),
         le-leb (length (cellsIn (upTo x))) (length store) (omega (arith, cells-fit)),
       )
 
   -- what is gathered after the packet is within the limits and the store
-  pub leaving-fits : fits (gatheredRecords (leaving x)) (gatheredCells (leaving x)) (length store) ≡ true
-  leaving-fits = rw (gathered-snoc (x .field) (x .before) (x .part)) (go (isLast x))
-    where
-      go : (b : Bool)
-          → (let g : Gathered = cond b ready (filling (x .field .timestamp) (x .field .f) (recordCount (upTo x)) (length (cellsIn (upTo x)))) in
-          fits (gatheredRecords g) (gatheredCells g) (length store) ≡ true)
-      go true = rw (le-leb 0 (length store) (omega arith))
-      go false = fits-up
+  pub leaving-fits : gatheredFits (leaving x) (length store) ≡ true
+  leaving-fits =
+      rw (gathered-snoc (x .field) (x .before) (x .part))
+      (taken-fits (isLast x) (x .field .timestamp) (x .field .f) (recordCount (upTo x)) (length (cellsIn (upTo x))) (length store)
+      (fits-up (recordCount (upTo x)) (omega arith)))
 
   -- the store that it leaves
   abbrev written : List ℕ
@@ -127,15 +124,13 @@ module _ (x : Sent) (store : List ℕ) (of : PartOf x) (within : Within (x .fiel
 
   hands-up : take cellsBefore store ≡ cellsIn (x .before) → (b : Bool) → isLast x ≡ b
       → handedBy
-      (cond b
-      (answer.Whole
+      (wholeIfMarked b
       (record {
         timestamp = record { 0 = x .field .timestamp };
         f = x .field .f;
         records = recordCount (upTo x);
         cells = length (cellsIn (upTo x));
       }))
-      answer.Held)
       written
       ≡ onlyIf b (x .field)
   hands-up e true l =
@@ -145,10 +140,13 @@ module _ (x : Sent) (store : List ℕ) (of : PartOf x) (within : Within (x .fiel
       rw (written-begins e) (rw (r, c))
   hands-up e false l = refl
 
+  joins-up : (s : Stream) (i : ℕ) → joinFits (recordCount (x .before)) cellsBefore (summaryOf (contentAt s i x)) (length store) ≡ true
+  joins-up s i = rw length-up (fits-up (recordCount (x .before) + length (x .part .records)) (omega (arith, records-up)))
+
   follow-taken : (s : Stream) (i : ℕ)
       → follow (entering x) (summaryOf (contentAt s i x)) (length store)
       ≡ taken (summaryOf (contentAt s i x)) (recordCount (upTo x)) (length (cellsIn (upTo x)))
-  follow-taken s i = follow-joins (x .field) (x .before) (summaryOf (contentAt s i x)) (length store) refl refl ∙ rw (records-up, length-up, fits-up)
+  follow-taken s i = follow-joins (x .field) (x .before) (summaryOf (contentAt s i x)) (length store) refl refl ∙ rw (joins-up s i, records-up, length-up)
 
   -- a packet with nothing missing before it joins its field
   pub part-joins : (s : Stream) (i : ℕ) (xs : List Field) → Each (Fits store) xs → Holds xs (entering x) store (cellsIn (x .before))

@@ -1,9 +1,12 @@
 pub mod AdmitLaws
+pub mod AnswerLaws
 pub mod ArriveLaws
+pub mod CheckLaws
 pub mod DecideLaws
 pub mod Demand3
 pub mod DistanceLaws
 pub mod FreshLaws
+pub mod HandedLaws
 pub mod JoinLaws
 pub mod MarkedExamples
 pub mod NumberLaws
@@ -12,4 +15,5 @@ pub mod RunExamples
 pub mod RunInvariant
 pub mod SignedLaws
 pub mod StepLaws
+pub mod StreamExamples
 pub mod WalkLaws

@@ -76,11 +76,11 @@ pub formed : WellFormedStream stream
 formed = record { few = omega arith; within = omega arith; accepts = accepts }
 
 -- a store one cell longer than a field
-abbrev store : List ℕ
+abbrev pub store : List ℕ
 store = 1 ∷ 2 ∷ 3 ∷ 4 ∷ 5 ∷ 6 ∷ 7 ∷ 8 ∷ 9 ∷ []
 
 -- a call for packet `i`, lent that store
-abbrev lend : List ℕ → ℕ → Call
+abbrev pub lend : List ℕ → ℕ → Call
 lend l i = record { arriving = packet i; store = l }
 
 -- 7, then eleven octets, 8, 8 and 10
@@ -113,7 +113,7 @@ pub counts : (run stream calls .state .fresh ≡ 3) × (run stream calls .state 
 counts = (kept .freshCount, kept .late, omega (arith, kept .freshCount, kept .missing))
 
 -- the answers to the calls of a stream, the latest last
-abbrev answers : Stream → Calls → List Answer
+abbrev pub answers : Stream → Calls → List Answer
 answers s none = []
 answers s (cs before c) = answers s cs ++ (callStep s (run s cs) c .answer ∷ [])
 
@@ -168,18 +168,22 @@ pair = two frame9Octets
 abbrev pub mixed : Stream
 mixed = two (set frame9Octets 17 0xC0)
 
+-- the same with timestamp 4003 in packet 9
+abbrev pub retimed : Stream
+retimed = two (set frame9Octets 7 0xA3)
+
 -- 17 cells, one more than that field has
 abbrev wide : List ℕ
 wide = store ++ take 8 store
 
 -- the calls for these packets, each lent that store
-abbrev lends : List ℕ → List ℕ → Calls
+abbrev pub lends : List ℕ → List ℕ → Calls
 lends l [] = none
 lends l (i ∷ is) = lends l is before lend l i
 
 -- "Held and whole append their cells after the gathered ones", and the last cell lent stays as it was; the store too short for
 -- the second packet; the first packet lost; the one sent just before them lost; F differing in the second, which leaves the store
--- as the call before did. The packets stand with the latest first.
+-- as the call before did; the timestamp differing. The packets stand with the latest first.
 pub pair-answered : (answers pair (lends wide (2 ∷ 1 ∷ 0 ∷ []))
     ≡ answer.Skipped ∷ answer.Held ∷ answer.Whole (record { timestamp = record { 0 = 4002 }; f = 2; records = 2; cells = 16 }) ∷ [])
     × (run pair (lends wide (2 ∷ 1 ∷ 0 ∷ [])) .store ≡ listOf (a ∷ a ∷ []) ++ (8 ∷ []))
@@ -188,5 +192,6 @@ pub pair-answered : (answers pair (lends wide (2 ∷ 1 ∷ 0 ∷ []))
     × (answers pair (lends wide (2 ∷ 1 ∷ [])) ≡ answer.Skipped ∷ answer.Skipped ∷ [])
     × (answers mixed (lends wide (2 ∷ 1 ∷ 0 ∷ [])) ≡ answer.Skipped ∷ answer.Held ∷ answer.Mixed ∷ [])
     × (run mixed (lends wide (2 ∷ 1 ∷ 0 ∷ [])) .store ≡ run mixed (lends wide (1 ∷ 0 ∷ [])) .store)
+    × (answers retimed (lends wide (2 ∷ 1 ∷ 0 ∷ [])) ≡ answer.Skipped ∷ answer.Held ∷ answer.Mixed ∷ [])
 unfolding toBits num bits bitsAt rowAt headerWord checksumWord ancSize ancRecord headersOk checksumOk alignmentOk ancChecks readAnc readRun packetRead headerChecks paddingChecks payloadChecks readRecords readPacket readContent step
-pair-answered = (refl, refl, refl, refl, refl, refl, refl)
+pair-answered = (refl, refl, refl, refl, refl, refl, refl, refl)

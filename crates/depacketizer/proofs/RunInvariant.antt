@@ -1,7 +1,7 @@
 -- What holds after each call of a run, and what an arrival that is refused leaves of it.
 -- The invariant: what is gathered, its cells, the counts and what was handed out are told by the fresh packets' indices.
 use mathlib.Core.Path.{_≡_, refl, _∙_, ap, ap₂, sym}
-use mathlib.Core.Bool.{Bool, true, false, cond, _&&_, _||_, or-true}
+use mathlib.Core.Bool.{Bool, true, false, cond, _&&_, _||_}
 use mathlib.Core.List.{List, [], _∷_, append-nil}
 use Prim.Native.Nat.{ℕ, suc, _+_, _^_, _%_, _≤_, _<_, min}
 use native.Mathlib.Nat.{not-suc-le-zero}
@@ -18,6 +18,7 @@ use Rattle.depacketizer.specs.declared.state.Phase.{Phase}
 use Rattle.depacketizer.specs.declared.state.Phase.the-variants as phase
 use Rattle.depacketizer.specs.Step.{maxCount, Gathered, lost, ready, filling, gatheredIn, gathered, phaseOf, gatheredRecords, gatheredCells, fits, isFilling, isLost, sound, classify, distance, classStep, lateStep, packetStep, openState}
 use Rattle.depacketizer.specs.Stream.{Field, cellsIn, Sent, sent, Stream, contentAt, Within, Fits, WellFormedStream, Run, storeFor, done, earliest}
+use Rattle.depacketizer.proofs.DecideLaws.{gatheredFits, soundIn, sound-lost, sound-heard}
 use Rattle.depacketizer.proofs.DistanceLaws.{class-late}
 use Rattle.depacketizer.proofs.WalkLaws.{packetAt, unbroken, handedBefore, NoneFrom}
 use Rattle.depacketizer.proofs.PlaceLaws.{upTo, leaving, Holds, part-at, field-at}
@@ -164,12 +165,6 @@ invariant-late s js l r i offered e h v =
       late = omega (arith, v .late);
     }
 
--- check 35 by what is gathered
-abbrev soundIn : Gathered → Bool → ℕ → Bool
-soundIn g heard room =
-    fits (gatheredRecords g) (gatheredCells g) room
-    && ((isFilling (phaseOf g) || (eqb (gatheredRecords g) 0 && eqb (gatheredCells g) 0)) && (heard || isLost (phaseOf g)))
-
 phase-gathered : (p : Phase) (t f r c : ℕ) → phaseOf (gatheredIn p t f r c) ≡ p
 phase-gathered phase.Lost t f r c = refl
 phase-gathered phase.Ready t f r c = refl
@@ -183,17 +178,9 @@ sound-gathered st room r c =
     ap₂ (λ (a b : ℕ). fits a b room && ((isFilling (st .phase) || (eqb a 0 && eqb b 0)) && (st .heard || isLost (st .phase)))) r c
     ∙ ap
     (λ (q : Phase).
-    fits (gatheredRecords g) (gatheredCells g) room
+    gatheredFits g room
     && ((isFilling q || (eqb (gatheredRecords g) 0 && eqb (gatheredCells g) 0)) && (st .heard || isLost q)))
     (sym p)
-
-sound-lost : (heard : Bool) (room : ℕ) → soundIn lost heard room ≡ true
-sound-lost heard room = rw (le-leb 0 room (omega arith), or-true heard)
-
-sound-heard : (g : Gathered) (room : ℕ) → fits (gatheredRecords g) (gatheredCells g) room ≡ true → soundIn g true room ≡ true
-sound-heard lost room h = rw h
-sound-heard ready room h = rw h
-sound-heard (filling t f r c) room h = rw h
 
 sound-after : (s : Stream) (l store : List ℕ) (heard : Bool) (last : ℕ) → WellFormedStream s → Each (Fits store) (s .fields)
     → top l ≤ length (sent (s .fields)) → LastHeard s l heard last

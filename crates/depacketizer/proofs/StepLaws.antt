@@ -9,15 +9,17 @@ use lib.Dec.{eqb}
 use lib.ListN.{length}
 use Rattle.wire.specs.declared.refusal.Refusal.{Refusal}
 use Rattle.wire.specs.Result.{Result, refused, accepted, refuse}
-use Rattle.wire.specs.Packet.{Content}
+use Rattle.wire.specs.Layout.{rfc8331}
+use Rattle.wire.specs.Packet.{Content, readContent}
 use Rattle.rtp.specs.declared.packet.Summary.{Summary}
 use Rattle.rtp.specs.Answers.{summaryOf}
 use Rattle.depacketizer.specs.declared.state.Depacketizer.{Depacketizer as State}
 use Rattle.depacketizer.specs.declared.state.Field.{Field}
 use Rattle.depacketizer.specs.declared.state.Answer.{Answer}
 use Rattle.depacketizer.specs.declared.state.Answer.the-variants as answer
-use Rattle.depacketizer.specs.Step.{Gathered, lost, ready, filling, gathered, marked, taken, dropped, fits, join, follow, Class, late, next, gap, classify, distance, Step, lateStep, classStep, packetStep, admit, admittedStep, sound, step}
+use Rattle.depacketizer.specs.Step.{Gathered, lost, ready, filling, gathered, marked, wholeIfMarked, fieldWith, joinFits, joinIfFits, join, joinIfSame, follow, Class, late, next, gap, classify, distance, Step, lateStep, freshStep, classStep, packetStep, admit, admission, admittedStep, sound, step}
 use Rattle.wire.proofs.ResultLaws.{Numbered}
+use Rattle.depacketizer.proofs.AdmitLaws.{passed}
 use Rattle.depacketizer.proofs.NumberLaws.{isAdmission, admit-numbered}
 
 abbrev isRefusal : Answer → Bool
@@ -28,15 +30,15 @@ isRefusal answer.Overfull = false
 isRefusal (answer.Whole x) = false
 isRefusal (answer.Refused x) = true
 
-taken-answers : (x : Field) (b : Bool) → isRefusal (cond b (answer.Whole x) answer.Held) ≡ false
+taken-answers : (x : Field) (b : Bool) → isRefusal (wholeIfMarked b x) ≡ false
 taken-answers x true = refl
 taken-answers x false = refl
 
 join-answers : (r c : ℕ) (s : Summary) (room : ℕ) → isRefusal (join r c s room .answer) ≡ false
-join-answers r c s room = go (fits (r + s .records) (c + s .cells) room)
+join-answers r c s room = go (joinFits r c s room)
   where
-    go : (b : Bool) → isRefusal ((cond b (taken s (r + s .records) (c + s .cells)) (dropped answer.Overfull (marked s))) .answer) ≡ false
-    go true = taken-answers (record { timestamp = s .head .timestamp; f = s .head .f; records = r + s .records; cells = c + s .cells }) (marked s)
+    go : (b : Bool) → isRefusal (joinIfFits b s (r + s .records) (c + s .cells) .answer) ≡ false
+    go true = taken-answers (fieldWith s (r + s .records) (c + s .cells)) (marked s)
     go false = refl
 
 -- a fresh packet is not refused
@@ -45,7 +47,7 @@ follow-answers lost s room = refl
 follow-answers ready s room = join-answers 0 0 s room
 follow-answers (filling t f r c) s room = go (eqb t (s .head .timestamp .0) && eqb f (s .head .f))
   where
-    go : (b : Bool) → isRefusal ((cond b (join r c s room) (dropped answer.Mixed (marked s))) .answer) ≡ false
+    go : (b : Bool) → isRefusal (joinIfSame b r c s room .answer) ≡ false
     go true = join-answers r c s room
     go false = refl
 
@@ -127,3 +129,25 @@ pub sound-step : (st : State) (octets store : List ℕ) → sound st (length sto
     → step st octets store ≡ admittedStep st (admit (st .source) (st .«payload_type») octets) store
 unfolding step
 sound-step st octets store h = rw h
+
+-- Every step refuses and changes nothing, or counts one more as late, or is that of a fresh packet. What holds of these three holds of
+-- every step.
+module _ (st : State) (octets store : List ℕ) (P : Step → Type 0) (refuses : (x : Refusal) → P (unchanged st store x)) (lates : P (lateStep st store))
+    (freshens : (k : Content) → readContent rfc8331 octets ≡ accepted k → sound st (length store) ≡ true → (follows : Bool) (missing : ℕ)
+    → P (freshStep st (cond follows (gathered st) lost) missing k store)) where
+  class-is : (c : Class) (k : Content) → readContent rfc8331 octets ≡ accepted k → sound st (length store) ≡ true → P (classStep c st k store)
+  class-is late k e h = lates
+  class-is next k e h = freshens k e h true 0
+  class-is (gap n) k e h = freshens k e h false n
+
+  packet-is : (b : Bool) (k : Content) → readContent rfc8331 octets ≡ accepted k → sound st (length store) ≡ true → P (packetStep b st k store)
+  packet-is false k e h = freshens k e h false 0
+  packet-is true k e h = class-is (classify (distance (st .last .0) (k .number))) k e h
+
+  admitted-is : (r : Result Content) → admission st (length store) octets ≡ r → P (admittedStep st r store)
+  admitted-is (refused x) e = refuses x
+  admitted-is (accepted k) e = let p = passed st (length store) octets k e in packet-is (st .heard) k (p .1) (p .0)
+
+  pub step-is : P (step st octets store)
+  unfolding step
+  step-is = admitted-is (admission st (length store) octets) refl

@@ -7,18 +7,20 @@ use lib.IntN.{ℤ, pos, negsuc}
 use lib.ListN.{length}
 use Rattle.wire.specs.Bits.{splice}
 use Rattle.wire.specs.Layout.{rfc8331}
-use Rattle.wire.specs.Result.{Result, refused, accepted, judge, _then_}
+use Rattle.wire.specs.Result.{Result, refused, accepted, Checks, judge, _then_}
 use Rattle.wire.specs.Cells.{listOf}
 use Rattle.wire.specs.Packet.{Content, readContent}
 use Rattle.wire.specs.Writing.{maxFieldRecords, maxFieldCells, maxType}
+use Rattle.rtp.specs.declared.packet.Head.{Head}
 use Rattle.rtp.specs.declared.packet.Summary.{Summary}
-use Rattle.rtp.specs.Answers.{summaryOf}
+use Rattle.rtp.specs.Answers.{headOf, summaryOf}
 use Rattle.depacketizer.specs.declared.decide.Decision.{Decision}
 use Rattle.depacketizer.specs.declared.state.Depacketizer.{Depacketizer as State}
 use Rattle.depacketizer.specs.declared.state.Phase.{Phase}
 use Rattle.depacketizer.specs.declared.state.Phase.the-variants as phase
 use Rattle.depacketizer.specs.declared.state.Answer.{Answer}
 use Rattle.depacketizer.specs.declared.state.Answer.the-variants as answer
+use Rattle.depacketizer.specs.declared.state.Field.{Field}
 use Rattle.depacketizer.specs.declared.state.Opened.{Opened}
 use Rattle.depacketizer.specs.declared.state.Opened.the-variants as opened
 
@@ -111,11 +113,20 @@ pub record Gather : Type 0 where
 abbrev pub dropped : Answer → (marker : Bool) → Gather
 dropped a marker = record { answer = a; gathered = cond marker ready lost; append = false }
 
--- "Started or joined, and marked (M): answer whole, with timestamp, F, records, cells used. Unmarked: held, now filling."
+-- "with timestamp, F, records, cells used": the field that a packet completes
+abbrev pub fieldWith : Summary → (records cells : ℕ) → Field
+fieldWith s r c = record { timestamp = s .head .timestamp; f = s .head .f; records = r; cells = c }
+
+-- "Started or joined, and marked (M): answer whole, .. Unmarked: held, ..
+abbrev pub wholeIfMarked : Bool → Field → Answer
+wholeIfMarked true x = answer.Whole x
+wholeIfMarked false x = answer.Held
+
+-- .. now filling."
 abbrev pub taken : Summary → (records cells : ℕ) → Gather
 taken s r c =
     record {
-      answer = cond (marked s) (answer.Whole (record { timestamp = s .head .timestamp; f = s .head .f; records = r; cells = c })) answer.Held;
+      answer = wholeIfMarked (marked s) (fieldWith s r c);
       gathered = cond (marked s) ready (filling (s .head .timestamp .0) (s .head .f) r c);
       append = true;
     }
@@ -124,18 +135,29 @@ taken s r c =
 abbrev pub fits : (records cells room : ℕ) → Bool
 fits r c room = leb r maxFieldRecords && (leb c maxFieldCells && leb c room)
 
+-- whether it fits with a packet that joins `r` records in `c` cells
+abbrev pub joinFits : (r c : ℕ) → Summary → (room : ℕ) → Bool
+joinFits r c s room = fits (r + s .records) (c + s .cells) room
+
+-- a packet takes the field to `r` records in `c` cells, which fit or not
+abbrev pub joinIfFits : Bool → Summary → (r c : ℕ) → Gather
+joinIfFits true s r c = taken s r c
+joinIfFits false s r c = dropped answer.Overfull (marked s)
+
 -- a packet joins `r` records in `c` cells, in a store of so many cells
 abbrev pub join : (r c : ℕ) → Summary → (room : ℕ) → Gather
-join r c s room =
-    cond (fits (r + s .records) (c + s .cells) room) (taken s (r + s .records) (c + s .cells)) (dropped answer.Overfull (marked s))
+join r c s room = joinIfFits (joinFits r c s room) s (r + s .records) (c + s .cells)
 
--- distance 1: "when lost: skipped"; "when ready: starts a field"; "when filling: if timestamp or F differs, answer mixed, the
--- gathered part dropped. Otherwise it joins."
+-- "if timestamp or F differs, answer mixed, the gathered part dropped. Otherwise it joins."
+abbrev pub joinIfSame : Bool → (r c : ℕ) → Summary → (room : ℕ) → Gather
+joinIfSame true r c s room = join r c s room
+joinIfSame false r c s room = dropped answer.Mixed (marked s)
+
+-- distance 1: "when lost: skipped"; "when ready: starts a field"; "when filling": joins or is mixed
 abbrev pub follow : Gathered → Summary → (room : ℕ) → Gather
 follow lost s room = dropped answer.Skipped (marked s)
 follow ready s room = join 0 0 s room
-follow (filling t f r c) s room =
-    cond (eqb t (s .head .timestamp .0) && eqb f (s .head .f)) (join r c s room) (dropped answer.Mixed (marked s))
+follow (filling t f r c) s room = joinIfSame (eqb t (s .head .timestamp .0) && eqb f (s .head .f)) r c s room
 
 -- the same, with what is gathered flat, as a state has it
 abbrev pub decisionOf : Gather → Decision
@@ -218,11 +240,13 @@ abbrev pub packetStep : Bool → State → Content → List ℕ → Step
 packetStep false st k store = freshStep st lost 0 k store
 packetStep true st k store = classStep (classify (distance (st .last .0) (k .number))) st k store
 
+-- 30: "other source"; 31: "other payload type"
+abbrev pub openedChecks : (source type : ℕ) → Head → Checks
+openedChecks source type h = (eqb (h .source) source, 30) ∷ (eqb (h .«payload_type») type, 31) ∷ []
+
 -- "1 to 13, then 30, 31": what the octets say, or the refusal
 abbrev pub admit : (source type : ℕ) → List ℕ → Result Content
-admit source type octets =
-    readContent rfc8331 octets then
-    λ k. judge 0 ((eqb (k .source) source, 30) ∷ (eqb (k .type) type, 31) ∷ []) (accepted k)
+admit source type octets = readContent rfc8331 octets then λ k. judge 0 (openedChecks source type (headOf k)) (accepted k)
 
 -- the step of an arrival that is refused, or admitted
 abbrev pub admittedStep : State → Result Content → List ℕ → Step

@@ -1,12 +1,15 @@
 // What lets an arrival pass (01: "An arrival passes 35, then 1 to 13, then 30, 31, 32").
 ghost use mathlib.Core.Path.{_≡_};
+ghost use mathlib.Core.List.{[], _∷_};
 ghost use Rattle.rtp.specs.Answers.{checkedOf};
+ghost use Rattle.depacketizer.specs.Answers.{stageOf, stageRefusal};
 ghost use Rattle.depacketizer.specs.Step as step;
 use crate::decide::fits;
 use crate::state::Depacketizer;
 use crate::state::Phase;
 use rtp::check::check;
 use rtp::packet::Checked;
+use rtp::packet::Head;
 use wire::refusal::Refusal;
 
 // 35: more than a field or the store can have, something gathered where not filling, or more than lost before a first arrival.
@@ -23,33 +26,65 @@ fn is_sound(state: Depacketizer, room: usize) -> bool
     }
 }
 
-// 35, 1 to 13, 30, 31.
+// What a test of an arrival gives.
+pub enum Stage {
+    Passed,
+    Refused(Refusal),
+}
+
+impl Stage {
+    // The refusal of an arrival.
+    fn refusal(self) -> Refusal
+        ensures { λ r. ⌜ r ≡ stageRefusal self ⌝ }
+    {
+        match self {
+            Stage::Refused(refusal) => refusal,
+            Stage::Passed => Refusal {
+                number: 0,
+                index: 0,
+            },
+        }
+    }
+}
+
+// Passed where the test holds, else refused with this number.
+fn require(holds: bool, number: u8) -> Stage
+    ensures { λ r. ⌜ r ≡ stageOf ((holds, number) ∷ []) ⌝ }
+{
+    if holds {
+        Stage::Passed
+    } else {
+        Stage::Refused(Refusal { number, index: 0 })
+    }
+}
+
+// 30, 31: a packet of the opened source and payload type.
+fn check_opened(source: u32, payload_type: u8, head: Head) -> Stage
+    ensures { λ r. ⌜ r ≡ stageOf (step.openedChecks source «payload_type» head) ⌝ }
+{
+    let stage = require(head.source == source, Refusal::SOURCE_OTHER);
+    let Stage::Passed = stage else {
+        return stage;
+    };
+    require(head.payload_type == payload_type, Refusal::TYPE_OTHER)
+}
+
+// 35, then 1 to 13, then 30, 31.
 pub(crate) fn admit(state: Depacketizer, room: usize, octets: &[u8]) -> Checked
     ensures { λ r. ⌜ r ≡ checkedOf (now (octets .entry)) (step.admission state room (now (octets .entry))) ⌝ }
 {
-    if !is_sound(state, room) {
-        return Checked::Refused(Refusal {
-            number: Refusal::STATE_UNSOUND,
-            index: 0,
-        });
-    }
+    let stage = require(is_sound(state, room), Refusal::STATE_UNSOUND);
+    let Stage::Passed = stage else {
+        return Checked::Refused(stage.refusal());
+    };
     let checked = check(octets);
     let Checked::Packet(outline) = checked else {
-        return Checked::Refused(checked.refusal());
+        return checked;
     };
     let summary = outline.summary;
-    let head = summary.head;
-    if head.source != state.source {
-        return Checked::Refused(Refusal {
-            number: Refusal::SOURCE_OTHER,
-            index: 0,
-        });
-    }
-    if head.payload_type != state.payload_type {
-        return Checked::Refused(Refusal {
-            number: Refusal::TYPE_OTHER,
-            index: 0,
-        });
-    }
+    let stage = check_opened(state.source, state.payload_type, summary.head);
+    let Stage::Passed = stage else {
+        return Checked::Refused(stage.refusal());
+    };
     Checked::Packet(outline)
 }

@@ -9,7 +9,6 @@ use borrow.Author.Tests.{le-leb, lt-leb, leb-true}
 use lib.Dec.{leb}
 use lib.ListN.{length, take, drop}
 use Rattle.wire.specs.declared.refusal.Refusal.{Refusal}
-use Rattle.wire.specs.declared.count.OctetCount.{OctetCount}
 use Rattle.wire.specs.Bits.{pack, overwrite, splice}
 use Rattle.wire.specs.Layout.{rfc8331}
 use Rattle.wire.specs.Result.{Result, refused, accepted, refuse}
@@ -23,28 +22,10 @@ use Rattle.wire.proofs.AncLaws.{length-run}
 use Rattle.wire.proofs.CellLaws.{list-iff}
 use Rattle.wire.proofs.Demand2.{run-cells}
 use Rattle.wire.specs.Written.{octetsAfter, writtenOf}
-use Rattle.cells.specs.Answers.{listedOf, listOctets}
-use Rattle.cells.specs.declared.check.Listed.the-variants as listed
+use Rattle.cells.specs.Answers.{listOctets}
 use Rattle.fieldfile.specs.File.{fieldHeaderSize, fieldHeaderFields, fieldOctets, fieldSize, fileFOk, roomChecks, recordsToWrite, writeField}
 use Rattle.wire.specs.declared.written.Written.the-variants as written
 use Rattle.fieldfile.proofs.FrontLaws.{length-field}
-
--- what an answer about a list says of it
-pub record Taken (r : Result (List Record)) (n : ℕ) (o : OctetCount) : Type 0 where
-  pub rs : List Record
-  pub reads : r ≡ accepted rs
-  pub count : length rs ≡ n
-  pub size : runSize rfc8331 rs ≡ o .0
-
-pub taken : (r : Result (List Record)) (n : ℕ) (o : OctetCount) → listedOf r ≡ listed.Records n o → Taken r n o
-taken (refused x) n o e = let z : _≡_ {A = ℕ} 0 1 = cc in absurd (omega arith)
-taken (accepted rs) n o e =
-    let u : record { 0 = runSize rfc8331 rs } ≡ o = cc in
-    record { rs = rs; reads = refl; count = (cc); size = ap (λ (y : OctetCount). y .0) u }
-
-pub listed-refused : (r : Result (List Record)) (x : Refusal) → listedOf r ≡ listed.Refused x → r ≡ refused x
-listed-refused (refused y) x e = let i : y ≡ x = cc in ap refused i
-listed-refused (accepted rs) x e = let z : _≡_ {A = ℕ} 0 1 = cc in absurd (omega arith)
 
 -- a field within its limits is small
 pub small : (cells : List ℕ) (rs : List Record) → readList cells ≡ accepted rs → length cells ≤ maxFieldCells → 2 * runSize rfc8331 rs ≤ 3 * maxFieldCells

@@ -2,6 +2,7 @@
 ghost use mathlib.Core.Path.{_≡_};
 ghost use Rattle.filter.specs.Wanted.{matching, matchingPair, wantedIn, wantedOf};
 
+#[repr(C)]
 pub struct DidSdid {
     pub did: u8,
     pub sdid: u8,

@@ -35,17 +35,21 @@ wordsText (w ∷ ws) = wordText w ++ wordsText ws
 unfoldable pub lineText : (c line : ℕ) → List ℕ
 lineText c line = cond (eqb c 1) (labelled " c line=" line) (labelled " y line=" line)
 
--- " y line=9 off=0 s=0/0"; "`s` is S and StreamNum"
+-- " s=0/0": "`s` is S and StreamNum"
+abbrev pub streamText : (s stream : ℕ) → List ℕ
+streamText s stream = labelled " s=" s ++ labelled "/" stream
+
+-- " y line=9 off=0 s=0/0"
 unfoldable pub locationText : Record → List ℕ
-locationText r = lineText (r .c) (r .line) ++ labelled " off=" (r .offset) ++ labelled " s=" (r .s) ++ labelled "/" (r .stream)
+locationText r = lineText (r .c) (r .line) ++ labelled " off=" (r .offset) ++ streamText (r .s) (r .stream)
 
 -- " did=41 sdid=05"
-abbrev pub typeText : Record → List ℕ
-typeText r = labelledHex " did=" (r .did) ++ labelledHex " sdid=" (r .sdid)
+abbrev pub typeText : (did sdid : ℕ) → List ℕ
+typeText did sdid = labelledHex " did=" did ++ labelledHex " sdid=" sdid
 
 -- " did=41 sdid=05 words=0", and the words
 unfoldable pub dataText : Record → List ℕ
-dataText r = typeText r ++ labelled " words=" (length (r .words)) ++ wordsText (r .words) ++ ascii "\n"
+dataText r = typeText (r .did) (r .sdid) ++ labelled " words=" (length (r .words)) ++ wordsText (r .words) ++ ascii "\n"
 
 -- the line of a record
 abbrev pub recordText : Record → List ℕ

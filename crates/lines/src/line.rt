@@ -6,7 +6,7 @@ ghost use Rattle.lines.specs.Lines as lines;
 ghost use Rattle.lines.specs.Room.{cellRoom, countsRoom, lineRoom};
 ghost use mathlib.Core.Path.{_≡_};
 ghost use Prim.Native.Nat.{min};
-use crate::record::put_records;
+use crate::records::put_records;
 use cells::check::Listed;
 use cells::check::check_list;
 use depacketizer::state::Answer;

@@ -5,13 +5,13 @@ use mathlib.Core.Bool.{Bool, true, false, cond}
 use mathlib.Core.List.{List, [], _∷_}
 use Prim.Native.Nat.{ℕ, _+_, _*_, _<_, _≤_}
 use native.Mathlib.Omega.{arith}
-use borrow.Author.Tests.{le-leb, lt-leb, leb-true}
+use borrow.Author.Tests.{le-leb, lt-leb, leb-true, leb-false}
 use lib.Dec.{leb}
 use lib.ListN.{length, take, drop, getD}
 use lib.Seq.{length-take-le}
 use Rattle.wire.specs.Bits.{bitsAt}
 use Rattle.wire.proofs.FieldLaws.{two-octets-at}
-use Rattle.listing.specs.Frames.{Front, end, cut, frame, front}
+use Rattle.listing.specs.Frames.{Front, end, cut, frame, front, maxFrame}
 use Rattle.listing.specs.Answers.{frontOf}
 use Rattle.listing.specs.declared.frame.Front.the-variants as found
 
@@ -76,3 +76,20 @@ pub cut-found : (f : Front) → frontOf f ≡ found.Cut → f ≡ cut
 cut-found end e = let o : _≡_ {A = ℕ} 0 1 = cc in absurd (omega arith)
 cut-found cut e = refl
 cut-found (frame p r) e = let o : _≡_ {A = ℕ} 0 1 = cc in absurd (omega arith)
+
+-- without a whole frame there are fewer octets than the longest has
+short-of-frame : (s : List ℕ) → ((j : ℕ) → getD s j 0 < 256) → ((p rest : List ℕ) → front s ≡ frame p rest → ⊥) → length s < maxFrame
+short-of-frame [] f n = omega arith
+short-of-frame (x ∷ []) f n = omega arith
+short-of-frame (x ∷ y ∷ s) f n = go (leb (256 * x + y) (length s)) refl
+  where
+    go : (b : Bool) → leb (256 * x + y) (length s) ≡ b → length (x ∷ y ∷ s) < maxFrame
+    go true h = absurd (n (take (256 * x + y) s) (drop (256 * x + y) s) (rw h))
+    go false h = omega (arith, leb-false (256 * x + y) (length s) h, f 0, f 1)
+
+-- where the code found none
+pub end-short : (s : List ℕ) → ((j : ℕ) → getD s j 0 < 256) → front s ≡ end → length s < maxFrame
+end-short s f e = short-of-frame s f (λ p rest g. let o : _≡_ {A = ℕ} 0 1 = cc in absurd (omega arith))
+
+pub cut-short : (s : List ℕ) → ((j : ℕ) → getD s j 0 < 256) → front s ≡ cut → length s < maxFrame
+cut-short s f e = short-of-frame s f (λ p rest g. let o : _≡_ {A = ℕ} 0 1 = cc in absurd (omega arith))

@@ -27,7 +27,7 @@ parts n s p rest e = go (leb n (length s)) refl e
     go true h q = record { inside = leb-true n (length s) h; packet = cc; behind = cc }
 
 -- what lies behind a frame is shorter
-shorter : (s p rest : List ℕ) → front s ≡ frame p rest → length rest < length s
+pub shorter : (s p rest : List ℕ) → front s ≡ frame p rest → length rest < length s
 shorter [] p rest e = let o : _≡_ {A = ℕ} 0 1 = cc in absurd (omega arith)
 shorter (x ∷ []) p rest e = let o : _≡_ {A = ℕ} 0 1 = cc in absurd (omega arith)
 shorter (x ∷ y ∷ s) p rest e =

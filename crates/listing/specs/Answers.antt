@@ -1,7 +1,7 @@
 -- What the code answers, and what it leaves in the store and in the octets that it is lent.
 use mathlib.Core.Bool.{Bool, true, false, cond}
 use mathlib.Core.List.{List}
-use Prim.Native.Nat.{ℕ, _+_, _≤_}
+use Prim.Native.Nat.{ℕ, _+_, _≤_, _<_}
 use lib.ListN.{length}
 use Rattle.wire.specs.declared.refusal.Refusal.{Refusal}
 use Rattle.wire.specs.Bits.{overwrite}
@@ -19,7 +19,7 @@ use Rattle.listing.specs.declared.session.Listed.{Listed}
 use Rattle.listing.specs.declared.session.Listed.the-variants as listed
 use Rattle.listing.specs.declared.session.Text.{Text}
 use Rattle.listing.specs.declared.session.Text.the-variants as text
-use Rattle.listing.specs.Frames.{Front, end, cut, frame, lengthSize}
+use Rattle.listing.specs.Frames.{Front, end, cut, frame, lengthSize, maxFrame}
 use Rattle.listing.specs.Session.{turn}
 
 -- what stands at the front
@@ -95,10 +95,10 @@ textOf roomy t = cond roomy (text.Octets (length t)) (text.Refused roomTooSmall)
 abbrev pub textAfter : Bool → List ℕ → List ℕ → List ℕ
 textAfter roomy t out = cond roomy (overwrite t out) out
 
--- what an answer counts lies in the octets that were lent
+-- what an answer counts lies in the octets that were lent; without a whole frame there are fewer than the longest has
 abbrev pub ListedFits : Listed → (octets out : ℕ) → Type 0
 ListedFits (listed.Refused x) octets out = Unit {0}
-ListedFits listed.NoFrame octets out = Unit {0}
+ListedFits listed.NoFrame octets out = octets < maxFrame
 ListedFits (listed.Frame x) octets out = (x .used ≤ octets) × (x .length ≤ out)
 
 -- and so for a text

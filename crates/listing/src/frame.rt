@@ -5,10 +5,14 @@ ghost use lib.ListN.{drop, length};
 ghost use Rattle.wire.specs.Bits.{overwrite};
 ghost use Rattle.listing.specs.Answers.{frontOf};
 ghost use Rattle.listing.specs.Frames.{front};
+use wire::limit::MAX_PACKET;
 use words::octet::pair_at;
 
 // Octets of a frame's length.
 pub const LENGTH_SIZE: usize = 2;
+
+// Octets of the longest frame.
+pub const MAX_FRAME: usize = LENGTH_SIZE + MAX_PACKET;
 
 // What stands at the front: a frame with a packet of so many octets, one that is broken off, or nothing.
 pub enum Front {

@@ -23,12 +23,16 @@ use lines::line::put_refused;
 use rtp::check::check;
 use rtp::packet::Checked;
 use text::put;
+use wire::limit::MAX_FIELD_CELLS;
 use wire::refusal::Refusal;
 
 // Octets of the lines of a field's records, for each cell; and of any other line.
 pub const CELL_ROOM: usize = 20;
 
 pub const LINE_ROOM: usize = 160;
+
+// Octets of what one packet can print, over a store of the cells that a field may have.
+pub const FIELD_ROOM: usize = LINE_ROOM + CELL_ROOM * MAX_FIELD_CELLS;
 
 // Waiting for the first packet that opens the depacketizer, or opened.
 pub enum Session {
@@ -190,12 +194,12 @@ pub fn begin(out: &mut [u8]) -> Text
     Text::Octets(length)
 }
 
-fn put_cut(out: &mut [u8], front: Front) -> usize
+fn put_cut(out: &mut [u8], here: Front) -> usize
     requires { ⌜ lineRoom ≤ length (now out) ⌝ }
-    ensures { λ r. ⌜ Put (now (out .entry)) 0 (listing.cutText (isCut front)) (now (out .exit)) r ⌝ }
+    ensures { λ r. ⌜ Put (now (out .entry)) 0 (listing.cutText (isCut here)) (now (out .exit)) r ⌝ }
     ensures { λ r. ⌜ r ≤ 4 ⌝ }
 {
-    match front {
+    match here {
         Front::Cut => put(out, 0, b"cut\n"),
         Front::End => 0,
         Front::Packet(_) => 0,

@@ -8,6 +8,7 @@ use native.Mathlib.Omega.{arith}
 use lib.Dec.{lit<}
 use lib.ListN.{getD}
 use Rattle.wire.specs.Bits.{bit, Below, pack}
+use Rattle.wire.specs.Packet.{Content}
 use Rattle.wire.specs.Writing.{maxType, HeadFits}
 use Rattle.wire.proofs.BitLaws.{Reads, packed}
 use Rattle.wire.proofs.Window.{window, below-each}
@@ -20,14 +21,17 @@ pub bit-lt : (b : Bool) → bit b < 2
 bit-lt true = lit< tt
 bit-lt false = lit< tt
 
--- the six values of a packet to be written, its records, and the octets of their ANC data packets
-module _ (h : Head) (count len : ℕ) (fits : HeadFits (contentOf h)) (type : h .«payload_type» ≤ maxType) (f : h .f ≤ 3) (hc : count < 256) (hl : len < 2 ^ 16) where
+-- what a packet to be written says, its records, and the octets of their ANC data packets
+module _ (h : Head) (count size : ℕ) (fits : HeadFits (contentOf h)) (type : contentOf h .type ≤ maxType) (f : contentOf h .f ≤ 3) (hc : count < 256) (hl : size < 2 ^ 16) where
+  abbrev k : Content
+  k = contentOf h
+
   abbrev pub octetsOf : List ℕ
   octetsOf =
-      128 ∷ (bit (h .marker) * 128 + h .«payload_type») ∷ (h .number .0 / 256 % 256) ∷ (h .number .0 % 256)
-      ∷ (h .timestamp .0 / 16777216) ∷ (h .timestamp .0 / 65536 % 256) ∷ (h .timestamp .0 / 256 % 256) ∷ (h .timestamp .0 % 256)
-      ∷ (h .source / 16777216) ∷ (h .source / 65536 % 256) ∷ (h .source / 256 % 256) ∷ (h .source % 256)
-      ∷ (h .number .0 / 16777216) ∷ (h .number .0 / 65536 % 256) ∷ (len / 256) ∷ (len % 256) ∷ count ∷ (h .f * 64) ∷ 0 ∷ 0 ∷ []
+      128 ∷ (k .marker * 128 + k .type) ∷ (k .number / 256 % 256) ∷ (k .number % 256)
+      ∷ (k .timestamp / 16777216) ∷ (k .timestamp / 65536 % 256) ∷ (k .timestamp / 256 % 256) ∷ (k .timestamp % 256)
+      ∷ (k .source / 16777216) ∷ (k .source / 65536 % 256) ∷ (k .source / 256 % 256) ∷ (k .source % 256)
+      ∷ (k .number / 16777216) ∷ (k .number / 65536 % 256) ∷ (size / 256) ∷ (size % 256) ∷ count ∷ (k .f * 64) ∷ 0 ∷ 0 ∷ []
 
   below : Below 256 octetsOf
   below = omega arith
@@ -35,7 +39,7 @@ module _ (h : Head) (count len : ℕ) (fits : HeadFits (contentOf h)) (type : h 
   octet : (j : ℕ) → getD octetsOf j 0 < 256
   octet = below-each octetsOf below
 
-  reads : Reads octetsOf 0 (frontFields h count len)
+  reads : Reads octetsOf 0 (frontFields h count size)
   reads = (
     within-octet octetsOf octet 0 (omega arith) 0 2 (omega arith),
     (
@@ -77,5 +81,5 @@ module _ (h : Head) (count len : ℕ) (fits : HeadFits (contentOf h)) (type : h 
     ),
   )
 
-  pub front-packed : octetsOf ≡ pack (frontFields h count len)
-  front-packed = packed octetsOf (frontFields h count len) frontSize refl below (omega arith) reads .1
+  pub front-packed : octetsOf ≡ pack (frontFields h count size)
+  front-packed = packed octetsOf (frontFields h count size) frontSize refl below (omega arith) reads .1

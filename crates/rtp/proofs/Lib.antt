@@ -1,3 +1,4 @@
+pub mod EntryLaws
 pub mod HeaderFields
 pub mod ReadLaws
 pub mod StageLaws

@@ -36,7 +36,7 @@ into-refused s room x h = rw (refused-is s (readContent rfc8331 s) x h)
 pub record Found (s : List ℕ) (r : Result Content) (o : Outline) : Type 0 where
   pub says : Content
   pub reads : r ≡ accepted says
-  pub outline : record { summary = summaryOf says; at = runAt rfc8331 s; length = lengthField s } ≡ o
+  pub outline : record { summary = summaryOf says; at = runAt rfc8331 s; length = record { 0 = lengthField s } } ≡ o
 
 pub found : (s : List ℕ) (r : Result Content) (o : Outline) → checkedOf s r ≡ checked.Packet o → Found s r o
 found s (refused y) o h = let z : _≡_ {A = ℕ} 0 1 = cc in absurd (omega arith)
@@ -45,13 +45,13 @@ found s (accepted k) o h = record { says = k; reads = refl; outline = (cc) }
 module _ (s : List ℕ) (o : Outline) (h : checkedOf s (readContent rfc8331 s) ≡ checked.Packet o) where
   -- the run, where the outline says that it stands
   abbrev pub outlineRun : Result (List Record × List ℕ)
-  outlineRun = readRun rfc8331 0 (o .summary .records) (take (o .at + o .length - o .at) (drop (o .at) s))
+  outlineRun = readRun rfc8331 0 (o .summary .records) (take (o .at + o .length .0 - o .at) (drop (o .at) s))
 
   pub record Outlined : Type 0 where
     pub accepts : IsAccepted outlineRun
     pub size : length (runCells outlineRun) ≡ o .summary .cells
     pub after : (l : List ℕ) → overwrite (runCells outlineRun) l ≡ cellsAfter (readContent rfc8331 s) l
-    pub whole : o .at + o .length ≤ length s
+    pub whole : o .at + o .length .0 ≤ length s
 
   pub outlined : Below 256 s → Outlined
   unfolding readContent readRecords
@@ -69,8 +69,8 @@ module _ (s : List ℕ) (o : Outline) (h : checkedOf s (readContent rfc8331 s) �
       let rs : b .0 .0 ≡ k .records = accepted-inj (c .1) ∙ ap (λ (y : Content). y .records) says in
       let count : o .summary .records ≡ ancCount s = ap (λ (y : Outline). y .summary .records) (sym (f .outline)) ∙ ap (λ (y : Content). length (y .records)) (sym says) ∙ i .0 in
       let at : o .at ≡ runAt rfc8331 s = ap (λ (y : Outline). y .at) (sym (f .outline)) in
-      let long : o .length ≡ lengthField s = ap (λ (y : Outline). y .length) (sym (f .outline)) in
-      let len : o .at + o .length - o .at ≡ lengthField s = omega arith in
+      let long : o .length .0 ≡ lengthField s = ap (λ (y : Outline). y .length .0) (sym (f .outline)) in
+      let len : o .at + o .length .0 - o .at ≡ lengthField s = omega arith in
       let ran : outlineRun ≡ accepted (k .records, b .0 .1) =
       ap₂ (λ (x : ℕ) (y : List ℕ). readRun rfc8331 0 x y) count (ap₂ (λ (x y : ℕ). take x (drop y s)) len at)
       ∙ b .1 ∙ ap (λ (y : List Record). accepted (y, b .0 .1)) rs in

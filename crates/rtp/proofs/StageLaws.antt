@@ -12,31 +12,31 @@ use lib.Seq.{length-take-le}
 use Rattle.wire.specs.declared.refusal.Refusal.{Refusal}
 use Rattle.wire.specs.declared.count.OctetCount.{OctetCount}
 use Rattle.wire.specs.Bits.{Below}
-use Rattle.wire.specs.Layout.{rfc8331}
+use Rattle.wire.specs.Layout.{rfc8331, payloadHeaderSize}
 use Rattle.wire.specs.Result.{Result, refused, accepted, refuse, Checks, judge, _then_}
 use Rattle.wire.specs.Anc.{Record, readRun, runOctets, runSize}
 use Rattle.wire.specs.Cells.{listOf}
-use Rattle.wire.specs.Packet.{content, packetRead, headerSize, payloadSize, lengthField, ancCount, runAt, headerChecks, paddingChecks, payloadChecks, readRecords, readPacket, readContent}
+use Rattle.wire.specs.Packet.{content, packetRead, headerLeast, headerSize, payloadSize, lengthField, ancCount, runAt, headerChecks, paddingChecks, payloadChecks, readRecords, readPacket, readContent}
 use Rattle.wire.proofs.BitLaws.{below-take, below-drop}
 use Rattle.wire.proofs.ResultLaws.{Passed, judge-accepts, judge-passes, accepted-inj}
 use Rattle.wire.proofs.AncLaws.{run-iff, length-run}
 use Rattle.wire.proofs.PacketLaws.{Sizes, sizes}
 use Rattle.anc.specs.Answers.{runOf}
 use Rattle.anc.specs.declared.check.Run.the-variants as run
-use Rattle.rtp.specs.Answers.{stageOf, checkedOf, headAt}
+use Rattle.rtp.specs.Answers.{stageOf, frontChecked, checkedOf, headAt}
 use Rattle.rtp.specs.declared.packet.Checked.the-variants as checked
 use Rattle.rtp.specs.declared.stage.Stage.the-variants as stage
 
 -- a stage that passed: its checks hold, and it found what it should
-pub stage-passed : (ts : Checks) (v n : ℕ) → stageOf (judge 0 ts (accepted v)) ≡ stage.Passed n → Passed ts × (v ≡ n)
+pub stage-passed : (ts : Checks) (v : ℕ) (n : OctetCount) → stageOf (judge 0 ts (accepted v)) ≡ stage.Passed n → Passed ts × (v ≡ n .0)
 stage-passed ts v n h = go (judge 0 ts (accepted v)) refl h
   where
-    go : (r : Result ℕ) → judge 0 ts (accepted v) ≡ r → stageOf r ≡ stage.Passed n → Passed ts × (v ≡ n)
+    go : (r : Result ℕ) → judge 0 ts (accepted v) ≡ r → stageOf r ≡ stage.Passed n → Passed ts × (v ≡ n .0)
     go (refused x) e h = let z : _≡_ {A = ℕ} 0 1 = cc in absurd (omega arith)
     go (accepted m) e h =
         let p = judge-accepts 0 ts (accepted v) m e in
-        let k : m ≡ n = cc in
-        (p .0, accepted-inj (p .1) ∙ k)
+        let k : record { 0 = m } ≡ n = cc in
+        (p .0, accepted-inj (p .1) ∙ ap (λ (y : OctetCount). y .0) k)
 
 -- a stage that refused decides, whatever would follow
 pub stage-refused : {A : Type 0} (ts : Checks) (v : ℕ) (x : Refusal) (r : Result A) → stageOf (judge 0 ts (accepted v)) ≡ stage.Refused x → judge 0 ts r ≡ refused x
@@ -122,11 +122,48 @@ module _ (s : List ℕ) where
 
           -- the packet is accepted: what it says, as the code finds it
           pub accepted-run : lengthField s ≤ used .0
-              → checkedOf s (readContent rfc8331 s) ≡ checked.Packet (record { summary = record { head = headAt s; records = ancCount s; cells = cells }; at = runAt rfc8331 s; length = lengthField s })
+              → checkedOf s (readContent rfc8331 s) ≡ checked.Packet (record { summary = record { head = headAt s; records = ancCount s; cells = cells }; at = runAt rfc8331 s; length = record { 0 = lengthField s } })
           unfolding readRecords packetRead
           accepted-run l =
               let r : Ran = run-found in
               let t : eqb (length (r .rest)) 0 ≡ true = eq-eqb (length (r .rest)) 0 (omega (arith, r .left)) in
               let e : readContent rfc8331 s ≡ accepted (content (packetRead rfc8331 (r .rs) s)) = past ∙ rw (r .ran, t) in
               ap (checkedOf s) e
-              ∙ λ i. checked.Packet (record { summary = record { head = headAt s; records = r .count i; cells = sym (r .size) i }; at = runAt rfc8331 s; length = lengthField s })
+              ∙ λ i. checked.Packet (record { summary = record { head = headAt s; records = r .count i; cells = sym (r .size) i }; at = runAt rfc8331 s; length = record { 0 = lengthField s } })
+
+-- the stages that came before the ANC data packets, passed
+pub record Front (s : List ℕ) (n m : ℕ) : Type 0 where
+  pub header-passed : Passed (headerChecks s)
+  pub padding-passed : Passed (paddingChecks rfc8331 s)
+  pub payload-passed : Passed (payloadChecks rfc8331 s)
+  pub header : headerSize s ≡ n
+  pub length : lengthField s ≡ m
+  pub least : headerLeast ≤ n
+  pub whole : n + payloadHeaderSize rfc8331 + m ≤ lib.ListN.length s
+
+pub front : (s : List ℕ) (n m : ℕ) → frontChecked s ≡ accepted (n, m) → Front s n m
+front s n m e =
+    let a = judge-accepts 0 (headerChecks s) _ (n, m) e in
+    let b = judge-accepts 0 (paddingChecks rfc8331 s) _ (n, m) (a .1) in
+    let c = judge-accepts 0 (payloadChecks rfc8331 s) (accepted (headerSize s, lengthField s)) (n, m) (b .1) in
+    let same : _≡_ {A = ℕ × ℕ} (headerSize s, lengthField s) (n, m) = accepted-inj (c .1) in
+    let h : headerSize s ≡ n = ap (λ (q : ℕ × ℕ). q .0) same in
+    let l : lengthField s ≡ m = ap (λ (q : ℕ × ℕ). q .1) same in
+    let z = sizes rfc8331 s (a .0) (b .0) (c .0) in
+    record {
+      header-passed = a .0;
+      padding-passed = b .0;
+      payload-passed = c .0;
+      header = h;
+      length = l;
+      least = omega arith;
+      whole = omega (arith, z .whole);
+    }
+
+pub front-passed : (s : List ℕ) → Passed (headerChecks s) → Passed (paddingChecks rfc8331 s) → Passed (payloadChecks rfc8331 s)
+    → (n m : ℕ) → headerSize s ≡ n → lengthField s ≡ m → frontChecked s ≡ accepted (n, m)
+front-passed s ph pp py n m h l =
+    judge-passes 0 (headerChecks s) _ ph
+    ∙ judge-passes 0 (paddingChecks rfc8331 s) _ pp
+    ∙ judge-passes 0 (payloadChecks rfc8331 s) _ py
+    ∙ λ i. accepted (h i, l i)

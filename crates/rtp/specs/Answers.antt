@@ -7,9 +7,9 @@ use lib.ListN.{length}
 use Rattle.wire.specs.declared.refusal.Refusal.{Refusal}
 use Rattle.wire.specs.Bits.{overwrite}
 use Rattle.wire.specs.Layout.{rfc8331}
-use Rattle.wire.specs.Result.{Result, refused, accepted, noRefusal}
+use Rattle.wire.specs.Result.{Result, refused, accepted, noRefusal, judge}
 use Rattle.wire.specs.Cells.{listOf}
-use Rattle.wire.specs.Packet.{Content, content, packetRead, headerSize, runAt, lengthField}
+use Rattle.wire.specs.Packet.{Content, content, packetRead, headerSize, runAt, lengthField, headerChecks, paddingChecks, payloadChecks}
 use Rattle.rtp.specs.declared.packet.Head.{Head}
 use Rattle.rtp.specs.declared.packet.Summary.{Summary}
 use Rattle.rtp.specs.declared.packet.Read.{Read}
@@ -42,12 +42,18 @@ headAt s = headOf (content (packetRead rfc8331 [] s))
 -- "1, 2 (under 12 octets), 3, 2 (rest)", "4, 5" or "6, 7, 8": the stage's refusal, or the octets that it found
 abbrev pub stageOf : Result ℕ → Stage
 stageOf (refused x) = stage.Refused x
-stageOf (accepted n) = stage.Passed n
+stageOf (accepted n) = stage.Passed (record { 0 = n })
 
 -- "A refusal returns its number and an index": the one that a stage gave
 abbrev pub stageRefusal : Stage → Refusal
 stageRefusal (stage.Refused x) = x
 stageRefusal (stage.Passed n) = noRefusal
+
+-- the three stages one after the other, 1 to 8: the octets of the header with its sources and extension, and those of the ANC data packets
+abbrev pub frontChecked : List ℕ → Result (ℕ × ℕ)
+frontChecked s =
+    judge 0 (headerChecks s)
+    (judge 0 (paddingChecks rfc8331 s) (judge 0 (payloadChecks rfc8331 s) (accepted (headerSize s, lengthField s))))
 
 -- 2, "(rest)": a header's size, or any number over the octets where it is cut
 pub record SizeFound (s : List ℕ) (size : ℕ) : Type 0 where
@@ -57,7 +63,7 @@ pub record SizeFound (s : List ℕ) (size : ℕ) : Type 0 where
 -- a packet checked, up to 13: the refusal, or what it says and where its ANC data packets stand
 abbrev pub checkedOf : List ℕ → Result Content → Checked
 checkedOf s (refused x) = checked.Refused x
-checkedOf s (accepted k) = checked.Packet (record { summary = summaryOf k; at = runAt rfc8331 s; length = lengthField s })
+checkedOf s (accepted k) = checked.Packet (record { summary = summaryOf k; at = runAt rfc8331 s; length = record { 0 = lengthField s } })
 
 -- "A refusal returns its number and an index": the one that the check gave
 abbrev pub checkedRefusal : Checked → Refusal

@@ -4,7 +4,8 @@ ghost use Prim.Native.Nat.{_+_, _≤_};
 ghost use lib.ListN.{length};
 ghost use Rattle.wire.specs.Layout.{payloadHeaderSize, rfc8331};
 ghost use Rattle.wire.specs.Packet.{headerLeast, headerSize, readContent};
-ghost use Rattle.rtp.specs.Answers.{cellsAfter, checkedOf, headAt};
+ghost use Rattle.wire.specs.Result.{accepted};
+ghost use Rattle.rtp.specs.Answers.{cellsAfter, checkedOf, frontChecked, headAt};
 use crate::packet::Checked;
 use crate::packet::Head;
 use crate::packet::Outline;
@@ -16,6 +17,9 @@ use crate::stage::check_payload;
 use anc::check::Run;
 use anc::check::check_run;
 use anc::read::read_run;
+use wire::count::OctetCount;
+use wire::layout::ANC_COUNT_AT;
+use wire::layout::F_AT;
 use wire::layout::PAYLOAD_HEADER_SIZE;
 use wire::number::PacketNumber;
 use wire::number::Timestamp;
@@ -25,12 +29,13 @@ use words::octet::quad_at;
 use words::octet::wide;
 
 // The six values of a packet whose payload header stands at `header`.
-fn head_at(octets: &[u8], header: usize) -> Head
-    requires { ⌜ (header ≡ headerSize (now octets)) × (headerLeast ≤ header) × (header + payloadHeaderSize rfc8331 ≤ length (now octets)) ⌝ }
+fn head_at(octets: &[u8], header: OctetCount) -> Head
+    requires { ⌜ (header .0 ≡ headerSize (now octets)) × (headerLeast ≤ header .0) × (header .0 + payloadHeaderSize rfc8331 ≤ length (now octets)) ⌝ }
     ensures { λ r. ⌜ r ≡ headAt (now (octets .entry)) ⌝ }
 {
+    let at = header.0;
     let second = wide(octets[1]);
-    let high = pair_at(octets, header);
+    let high = pair_at(octets, at);
     let low = pair_at(octets, 2);
     Head {
         source: quad_at(octets, 8),
@@ -38,8 +43,44 @@ fn head_at(octets: &[u8], header: usize) -> Head
         marker: second / 128 == 1,
         number: PacketNumber((high * 65536 + low) as u32),
         timestamp: Timestamp(quad_at(octets, 4)),
-        f: (wide(octets[header + 5]) / 64) as u8,
+        f: (wide(octets[at + F_AT]) / 64) as u8,
     }
+}
+
+// The ANC data packets, and 13, of a packet that passed 1 to 8.
+fn check_packets(octets: &[u8], header: OctetCount, size: OctetCount) -> Checked
+    requires { ⌜ frontChecked (now octets) ≡ accepted (header .0, size .0) ⌝ }
+    ensures { λ r. ⌜ r ≡ checkedOf (now (octets .entry)) (readContent rfc8331 (now (octets .entry))) ⌝ }
+{
+    let from = header.0;
+    let at = from + PAYLOAD_HEADER_SIZE;
+    let end = at + size.0;
+    let count = octets[from + ANC_COUNT_AT];
+    let run = check_run(&octets[at..end], count);
+    let Run::Accepted {
+        octets: used,
+        cells,
+    } = run
+    else {
+        return Checked::Refused(run.refusal());
+    };
+    if used.0 < size.0 {
+        return Checked::Refused(Refusal {
+            number: Refusal::OCTETS_LEFT,
+            index: 0,
+        });
+    }
+    let head = head_at(octets, header);
+    let summary = Summary {
+        head,
+        records: count,
+        cells,
+    };
+    Checked::Packet(Outline {
+        summary,
+        at,
+        length: size,
+    })
 }
 
 // Everything but 14.
@@ -58,34 +99,7 @@ pub fn check(octets: &[u8]) -> Checked
     let Stage::Passed(length) = stage else {
         return Checked::Refused(stage.refusal());
     };
-    let at = header + PAYLOAD_HEADER_SIZE;
-    let end = at + length;
-    let count = octets[header + 4];
-    let run = check_run(&octets[at..end], count);
-    let Run::Accepted {
-        octets: used,
-        cells,
-    } = run
-    else {
-        return Checked::Refused(run.refusal());
-    };
-    if used.0 < length {
-        return Checked::Refused(Refusal {
-            number: Refusal::OCTETS_LEFT,
-            index: 0,
-        });
-    }
-    let head = head_at(octets, header);
-    let summary = Summary {
-        head,
-        records: count,
-        cells,
-    };
-    Checked::Packet(Outline {
-        summary,
-        at,
-        length,
-    })
+    check_packets(octets, header, length)
 }
 
 // Writes the cells of a packet that `check` accepted to the first cells.
@@ -96,6 +110,7 @@ pub fn read_records(octets: &[u8], outline: Outline, cells: &mut [u16])
 {
     let summary = outline.summary;
     let at = outline.at;
-    let end = at + outline.length;
+    let length = outline.length;
+    let end = at + length.0;
     read_run(&octets[at..end], summary.records, cells);
 }

@@ -2,10 +2,7 @@
 //
 // `read` is the entry point, and `check::check` is `read` without the writing. The writer is crate `packetizer`.
 ghost use mathlib.Core.Path.{_≡_};
-ghost use lib.ListN.{length};
-ghost use Rattle.wire.specs.Layout.{rfc8331};
-ghost use Rattle.wire.specs.Packet.{readInto};
-ghost use Rattle.rtp.specs.Answers.{cellsAfter, readOf};
+ghost use Rattle.rtp.specs.Entry.{readLeaves, readReturns};
 
 pub mod check;
 pub mod packet;
@@ -19,8 +16,8 @@ use wire::refusal::Refusal;
 
 // Reads a packet: its records into the first cells, and what stands beside them.
 pub fn read(octets: &[u8], cells: &mut [u16]) -> Read
-    ensures { λ r. ⌜ r ≡ readOf (readInto rfc8331 (now (octets .entry)) (length (now (cells .entry)))) ⌝ }
-    ensures { λ r. ⌜ now (cells .exit) ≡ cellsAfter (readInto rfc8331 (now (octets .entry)) (length (now (cells .entry)))) (now (cells .entry)) ⌝ }
+    ensures { λ r. ⌜ r ≡ readReturns (now (octets .entry)) (now (cells .entry)) ⌝ }
+    ensures { λ r. ⌜ now (cells .exit) ≡ readLeaves (now (octets .entry)) (now (cells .entry)) ⌝ }
 {
     let checked = check(octets);
     let Checked::Packet(outline) = checked else {

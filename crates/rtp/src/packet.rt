@@ -1,6 +1,7 @@
 // What the reader returns and the writer takes (01, "Records in a lent list").
 ghost use mathlib.Core.Path.{_≡_};
 ghost use Rattle.rtp.specs.Answers.{checkedRefusal};
+use wire::count::OctetCount;
 use wire::number::PacketNumber;
 use wire::number::Timestamp;
 use wire::refusal::Refusal;
@@ -27,11 +28,11 @@ pub enum Read {
     Refused(Refusal),
 }
 
-// A packet that was checked: what it says, and the octets of its ANC data packets.
+// A packet that was checked: what it says, where its ANC data packets start, and their octets.
 pub struct Outline {
     pub summary: Summary,
     pub at: usize,
-    pub length: usize,
+    pub length: OctetCount,
 }
 
 pub enum Checked {

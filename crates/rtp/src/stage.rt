@@ -3,11 +3,16 @@ ghost use mathlib.Core.Path.{_≡_};
 ghost use Prim.Native.Nat.{_+_, _≤_};
 ghost use lib.ListN.{length};
 ghost use Rattle.wire.specs.Layout.{payloadHeaderSize, rfc8331};
-ghost use Rattle.wire.specs.Packet.{headerChecks, headerLeast, headerSize, lengthField, paddingChecks, paddingCount, payloadChecks, payloadSize};
+ghost use Rattle.wire.specs.Packet.{headerChecks, headerLeast, headerSize, lengthField, paddingChecks, paddingCount, paddingFlag, payloadChecks, payloadSize};
 ghost use Rattle.wire.specs.Result.{accepted, judge};
 ghost use Rattle.rtp.specs.Answers.{SizeFound, stageOf, stageRefusal};
+use wire::count::OctetCount;
+use wire::layout::ANC_COUNT_AT;
+use wire::layout::F_AT;
+use wire::layout::LENGTH_AT;
 use wire::layout::PAYLOAD_HEADER_SIZE;
 use wire::layout::RTP_HEADER_SIZE;
+use wire::layout::RTP_WORD;
 use wire::limit::MAX_PACKET;
 use wire::refusal::Refusal;
 use words::octet::pair_at;
@@ -15,7 +20,7 @@ use words::octet::wide;
 
 // A stage passed, with the octets that it found, or the refusal.
 pub enum Stage {
-    Passed(usize),
+    Passed(OctetCount),
     Refused(Refusal),
 }
 
@@ -41,19 +46,20 @@ impl Stage {
 }
 
 // The octets of the RTP header with its sources and extension; more than there are where it is cut.
-fn header_size(octets: &[u8]) -> usize
+fn header_size(octets: &[u8]) -> OctetCount
     requires { ⌜ headerLeast ≤ length (now octets) ⌝ }
-    ensures { λ r. ⌜ SizeFound (now (octets .entry)) r ⌝ }
+    ensures { λ r. ⌜ SizeFound (now (octets .entry)) (r .0) ⌝ }
 {
     let first = wide(octets[0]);
-    let fixed = RTP_HEADER_SIZE + 4 * (first % 16);
+    let fixed = RTP_HEADER_SIZE + RTP_WORD * (first % 16);
     if first / 16 % 2 == 0 {
-        return fixed;
+        return OctetCount(fixed);
     }
-    if octets.len() < fixed + 4 {
-        return fixed + 4;
+    let least = fixed + RTP_WORD;
+    if octets.len() < least {
+        return OctetCount(least);
     }
-    fixed + 4 + 4 * pair_at(octets, fixed + 2)
+    OctetCount(least + RTP_WORD * pair_at(octets, fixed + 2))
 }
 
 // 1, 2, 3, 2: the header's octets.
@@ -70,56 +76,67 @@ pub(crate) fn check_header(octets: &[u8]) -> Stage
         return Stage::refuse(Refusal::VERSION_NOT_2);
     }
     let size = header_size(octets);
-    if octets.len() < size {
+    if octets.len() < size.0 {
         return Stage::refuse(Refusal::HEADER_CUT);
     }
     Stage::Passed(size)
 }
 
-fn padding_count(octets: &[u8]) -> usize
+// P.
+fn padding_flag(octets: &[u8]) -> usize
     requires { ⌜ headerLeast ≤ length (now octets) ⌝ }
-    ensures { λ r. ⌜ r ≡ paddingCount (now (octets .entry)) ⌝ }
+    ensures { λ r. ⌜ r ≡ paddingFlag (now (octets .entry)) ⌝ }
+{
+    wide(octets[0]) / 32 % 2
+}
+
+// "If P, the last octet counts the padding, itself included."
+fn padding_count(octets: &[u8]) -> OctetCount
+    requires { ⌜ headerLeast ≤ length (now octets) ⌝ }
+    ensures { λ r. ⌜ r .0 ≡ paddingCount (now (octets .entry)) ⌝ }
 {
     let last = octets.len() - 1;
-    wide(octets[0]) / 32 % 2 * wide(octets[last])
+    OctetCount(padding_flag(octets) * wide(octets[last]))
 }
 
 // 4, 5: the payload's octets.
-pub(crate) fn check_padding(octets: &[u8], header: usize) -> Stage
-    requires { ⌜ (header ≡ headerSize (now octets)) × (header ≤ length (now octets)) × (headerLeast ≤ length (now octets)) ⌝ }
+pub(crate) fn check_padding(octets: &[u8], header: OctetCount) -> Stage
+    requires { ⌜ (header .0 ≡ headerSize (now octets)) × (header .0 ≤ length (now octets)) × (headerLeast ≤ length (now octets)) ⌝ }
     ensures { λ r. ⌜ r ≡ stageOf (judge 0 (paddingChecks rfc8331 (now (octets .entry))) (accepted (payloadSize (now (octets .entry))))) ⌝ }
 {
     let padding = padding_count(octets);
-    let after = octets.len() - header;
-    if padding < wide(octets[0]) / 32 % 2 {
+    let after = octets.len() - header.0;
+    if padding.0 < padding_flag(octets) {
         return Stage::refuse(Refusal::PADDING_WRONG);
     }
-    if after < padding {
+    if after < padding.0 {
         return Stage::refuse(Refusal::PADDING_WRONG);
     }
-    if after - padding < PAYLOAD_HEADER_SIZE {
+    if after - padding.0 < PAYLOAD_HEADER_SIZE {
         return Stage::refuse(Refusal::PAYLOAD_CUT);
     }
-    Stage::Passed(after - padding)
+    Stage::Passed(OctetCount(after - padding.0))
 }
 
 // 6, 7, 8: the octets of the ANC data packets.
-pub(crate) fn check_payload(octets: &[u8], header: usize, payload: usize) -> Stage
-    requires { ⌜ (header ≡ headerSize (now octets)) × (payload ≡ payloadSize (now octets)) ⌝ }
-    requires { ⌜ (payloadHeaderSize rfc8331 ≤ payload) × (header + payload ≤ length (now octets)) ⌝ }
+pub(crate) fn check_payload(octets: &[u8], header: OctetCount, payload: OctetCount) -> Stage
+    requires { ⌜ (header .0 ≡ headerSize (now octets)) × (payload .0 ≡ payloadSize (now octets)) ⌝ }
+    requires { ⌜ (payloadHeaderSize rfc8331 ≤ payload .0) × (header .0 + payload .0 ≤ length (now octets)) ⌝ }
     ensures { λ r. ⌜ r ≡ stageOf (judge 0 (payloadChecks rfc8331 (now (octets .entry))) (accepted (lengthField (now (octets .entry))))) ⌝ }
 {
-    let length = pair_at(octets, header + 2);
-    if wide(octets[header + 5]) / 64 == 1 {
+    let at = header.0;
+    let length = OctetCount(pair_at(octets, at + LENGTH_AT));
+    let f_valid = wide(octets[at + F_AT]) / 64 != 1;
+    let length_right = length.0 == payload.0 - PAYLOAD_HEADER_SIZE;
+    let counted = (octets[at + ANC_COUNT_AT] != 0) | (length.0 == 0);
+    if !f_valid {
         return Stage::refuse(Refusal::F_INVALID);
     }
-    if length != payload - PAYLOAD_HEADER_SIZE {
+    if !length_right {
         return Stage::refuse(Refusal::LENGTH_WRONG);
     }
-    if octets[header + 4] == 0 {
-        if length != 0 {
-            return Stage::refuse(Refusal::LENGTH_WITHOUT_PACKETS);
-        }
+    if !counted {
+        return Stage::refuse(Refusal::LENGTH_WITHOUT_PACKETS);
     }
     Stage::Passed(length)
 }

@@ -13,18 +13,19 @@ use lib.Pow.{pow-pos}
 use borrow.Author.Tests.{ne-eqb, leb-true, le-leb}
 use Rattle.wire.specs.Bits.{pack, Fit, Below, row}
 use Rattle.wire.specs.Layout.{Layout, rfc8331, fBits, reservedBits, payloadHeaderSize}
-use Rattle.wire.specs.Result.{accepted, judge, _then_}
+use Rattle.wire.specs.Result.{accepted, _then_}
 use Rattle.wire.specs.Anc.{Record, WellFormed, Each, ancOctets, runOctets}
 use Rattle.wire.specs.Cells.{listOf, readList}
 use Rattle.wire.specs.Packet.{maxPacket, Packet, rtpFields, extensionFields, payloadFields, packetFields, packetOctets, lastOctet, WellFormedPacket, sourceCount, packetRead, readPacket, BareOctets, Content, content, readContent}
-use Rattle.wire.specs.Writing.{maxRecords, maxCells, maxType, plain, contentOctets, HeadFits, withRecords, headChecks, limitChecks, writeContent}
+use Rattle.wire.specs.Writing.{maxRecords, maxCells, maxType, plain, contentOctets, HeadFits, withRecords, headChecks, limitChecks, packetRecords, writeContent}
 use Rattle.wire.proofs.BitLaws.{length-rowAt, below-octets, below-append, fit-append}
-use Rattle.wire.proofs.ResultLaws.{accepted-inj, judge-accepts, judge-passes, then-accepts, and-true, and-both}
+use Rattle.wire.proofs.ResultLaws.{Passed, accepted-inj, then-accepts, and-true, and-both}
 use Rattle.wire.proofs.SizeLaws.{length-anc, size-cells}
 use Rattle.wire.proofs.AncLaws.{below-run}
 use Rattle.wire.proofs.CellLaws.{list-iff}
 use Rattle.wire.proofs.PacketLaws.{no-length, not-eqb, length-packet}
 use Rattle.wire.proofs.PacketIff.{packet-iff, read-is}
+use Rattle.wire.proofs.WritingLaws.{passes, all-pass}
 
 -- "A packet is accepted exactly when the rules of RFC 8331 and ST 291-1, as document 01 fixes them, hold, and the
 -- records are the ones they define."
@@ -85,20 +86,20 @@ pub written-read : (L : Layout) (k : Content) (cells : List ℕ) (room : ℕ) (o
     × (readContent L o ≡ accepted (withRecords k rs))
 unfolding writeContent
 written-read L k cells room o h e =
-    let a = judge-accepts 0 (headChecks k) _ o e in
-    let a1 = and-true (leb (k .type) maxType) (leb (k .f) 3 && not (eqb (k .f) 1)) (a .0 .0) in
-    let a2 = and-true (leb (k .f) 3) (not (eqb (k .f) 1)) (a1 .1) in
-    let b = then-accepts (readList cells) _ o (a .1) in
+    let b = then-accepts (packetRecords L k cells room) _ o e in
     let rs = b .0 in
     let q = withRecords k rs in
-    let c = judge-accepts 0 (limitChecks L q (length cells) room) (accepted (contentOctets L q)) o (b .2) in
-    let n = leb-true (length rs) maxRecords (and-true _ _ (c .0 .0) .0) in
-    let l = leb-true (length (contentOctets L q)) maxPacket search in
-    let m = leb-true (length (contentOctets L q)) room search in
-    let r = list-iff cells rs .0 (b .1) in
+    let p = passes (headChecks k) (λ rs. limitChecks L (withRecords k rs) (length cells) room) cells rs (b .1) in
+    let a1 = and-true (leb (k .type) maxType) (leb (k .f) 3 && not (eqb (k .f) 1)) (p .head-passed .0) in
+    let a2 = and-true (leb (k .f) 3) (not (eqb (k .f) 1)) (a1 .1) in
+    let c = p .limits-passed in
+    let n = leb-true (length rs) maxRecords (and-true _ _ (c .0) .0) in
+    let l = leb-true (length (contentOctets L q)) maxPacket (c .1 .0) in
+    let m = leb-true (length (contentOctets L q)) room (c .1 .1 .0) in
+    let r = list-iff cells rs .0 (p .reads) in
     let hq : HeadFits q = record { marker = h .marker; number = h .number; timestamp = h .timestamp; source = h .source } in
     let g = plain-formed L q hq (leb-true (k .type) maxType (a1 .0)) (leb-true (k .f) 3 (a2 .0)) (not-eqb (k .f) 1 (a2 .1)) (r .0) n l in
-    let same : contentOctets L q ≡ o = accepted-inj (c .1) in
+    let same : contentOctets L q ≡ o = accepted-inj (b .2) in
     (rs, r .1, r .0, sym same, subst (λ (x : List ℕ). length x ≤ room) same m, ap (readContent L) (sym same) ∙ plain-read L q g)
 
 -- the writer takes every list within its limits whose packet is well-formed
@@ -109,13 +110,26 @@ writes L k rs room h l m =
     let q = withRecords k rs in
     let n = length (listOf rs) in
     let r = list-iff (listOf rs) rs .1 (layout-each L rs .1 (h .records), refl) in
-    judge-passes 0 (headChecks k) _
-    (and-both (le-leb (k .type) maxType (omega (arith, h .fit))) (and-both (le-leb (k .f) 3 (layout-f L (k .f) .1 (omega (arith, h .fit)))) (rw (ne-eqb (k .f) 1 (h .f)))), tt)
-    ∙ ap (λ x. x then λ rs. judge 0 (limitChecks L (withRecords k rs) n room) (accepted (contentOctets L (withRecords k rs)))) r
-    ∙ judge-passes 0 (limitChecks L q n room) _ (
+    let head : Passed (headChecks k) = (
+      and-both (le-leb (k .type) maxType (omega (arith, h .fit))) (and-both (le-leb (k .f) 3 (layout-f L (k .f) .1 (omega (arith, h .fit)))) (rw (ne-eqb (k .f) 1 (h .f)))),
+      tt,
+    ) in
+    let limits : Passed (limitChecks L q n room) = (
       and-both (le-leb (length rs) maxRecords (omega (arith, h .fit))) (le-leb n maxCells l),
       (le-leb (length (contentOctets L q)) maxPacket (h .short), (le-leb (length (contentOctets L q)) room m, tt)),
-    )
+    ) in
+    ap (λ x. x then λ rs. accepted (contentOctets L (withRecords k rs)))
+    (all-pass (headChecks k) (λ rs. limitChecks L (withRecords k rs) n room) (listOf rs) head rs r limits)
+
+-- what is written of a list's records is their packet
+pub written-octets : (L : Layout) (k : Content) (rs : List Record) (room : ℕ) (o : List ℕ) → Each (WellFormed rfc8331) rs
+    → writeContent L k (listOf rs) room ≡ accepted o → contentOctets L (withRecords k rs) ≡ o
+unfolding writeContent
+written-octets L k rs room o h e =
+    let b = then-accepts (packetRecords L k (listOf rs) room) _ o e in
+    let p = passes (headChecks k) (λ ks. limitChecks L (withRecords k ks) (length (listOf rs)) room) (listOf rs) (b .0) (b .1) in
+    let same : rs ≡ b .0 = accepted-inj (sym (list-iff (listOf rs) rs .1 (h, refl)) ∙ p .reads) in
+    ap (λ (x : List Record). contentOctets L (withRecords k x)) same ∙ accepted-inj (b .2)
 
 -- nothing stands in a packet that writing leaves out
 pub record Bare (k : Packet) : Type 0 where
@@ -212,6 +226,13 @@ module _ (L : Layout) (s : List ℕ) (below : Below 256 s) (k : Content) (e : re
   rewritten-formed =
       let a = acceptance L s below k .0 e in
       subst (λ (y : Content). WellFormedPacket L (plain y)) (a .3) (plain-again L (a .0) (a .1))
+
+  -- and is written in no more octets
+  pub rewritten-shorter : length (contentOctets L k) ≤ length s
+  rewritten-shorter =
+      let a = acceptance L s below k .0 e in
+      let l = plain-shorter L (a .0) (a .1) in
+      rw (a .2) (subst (λ (y : Content). length (contentOctets L y) ≤ length (packetOctets L (a .0))) (a .3) l)
 
   -- "Rewriting an accepted packet whose list fits the writer gives the same octets exactly when it had no padding,
   -- extension or contributing sources, and zero reserved bits." The list has at most 255 records, for ANC_Count has

@@ -11,10 +11,9 @@ pub mod FieldLaws
 pub mod AncLaws
 pub mod CellLaws
 pub mod RoundTrip
-pub mod LocationLaws
-pub mod HeaderLaws
 pub mod Examples
 pub mod PacketLaws
 pub mod PacketIff
+pub mod WritingLaws
 pub mod Demand2
 pub mod PacketExamples

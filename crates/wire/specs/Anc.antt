@@ -9,7 +9,7 @@ use Rattle.wire.specs.Layout.{Layout, sAt, sBits, streamBits, rBits, ali
 use Rattle.wire.specs.Words.{wordBits, headerNumbers, headerWord, isHeaderWord, sumLow, checksumWord}
 use Rattle.wire.specs.Result.{Result, accepted, Checks, judge, _then_}
 
--- What an ANC data packet says: 01's record. `line` and `offset` are the fields' numbers; specs/Location.antt tells
+-- What an ANC data packet says: 01's record. `line` and `offset` are the fields' numbers; `record`'s specs/Location.antt tells
 -- the special ones from the plain.
 pub record Record : Type 0 where
   pub c : ℕ
@@ -56,10 +56,15 @@ checksum r =
 --     +           +-+-+-+-+-+-+-+-+-+-+-+-+-+-+-+-+-+-+-+-+-+-+-+-+-+-+
 --     |           |   Checksum_Word   |           word_align          |
 --     +-+-+-+-+-+-+-+-+-+-+-+-+-+-+-+-+-+-+-+-+-+-+-+-+-+-+-+-+-+-+-+-+
+-- the 32 bits before DID
+abbrev pub locationFields : Layout → Record → Fields
+locationFields L r = (1, r .c) ∷ (11, r .line) ∷ (12, r .offset) ∷ (sBits L, r .s) ∷ (streamBits L, r .stream) ∷ []
+
+-- all before the user data words
 abbrev pub headerFields : Layout → Record → Fields
 headerFields L r =
-    (1, r .c) ∷ (11, r .line) ∷ (12, r .offset) ∷ (sBits L, r .s) ∷ (streamBits L, r .stream)
-    ∷ (wordBits, headerWord (r .did)) ∷ (wordBits, headerWord (r .sdid)) ∷ (wordBits, headerWord (length (r .words)))
+    locationFields L r
+    ++ (wordBits, headerWord (r .did)) ∷ (wordBits, headerWord (r .sdid)) ∷ (wordBits, headerWord (length (r .words)))
     ∷ (rBits L, 0) ∷ []
 
 -- ".. DID, SDID, Data_Count, n user data words, checksum, .."

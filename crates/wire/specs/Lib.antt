@@ -2,10 +2,8 @@ pub mod Bits
 pub mod Result
 pub mod Words
 pub mod Layout
-pub mod Location
 pub mod Anc
 pub mod Cells
-pub mod Header
 pub mod Packet
 pub mod Writing
 pub mod Written

@@ -88,9 +88,16 @@ limitChecks L k cells room =
     ∷ (leb (length (contentOctets L k)) room, 23)
     ∷ []
 
--- "Writing: 24, 20, 21, 22, 23."
+-- What a writer takes of a list: its checks of what is given beside the list, then 20, then its limits for the list's records.
+abbrev pub recordsToWrite : Checks → (List Record → Checks) → List ℕ → Result (List Record)
+recordsToWrite head limits cells =
+    judge 0 head (readList cells then λ rs. judge 0 (limits rs) (accepted rs))
+
+-- "Writing: 24, 20, 21, 22, 23.": the records of a packet that is written
+abbrev pub packetRecords : Layout → Content → (cells : List ℕ) (room : ℕ) → Result (List Record)
+packetRecords L k cells room =
+    recordsToWrite (headChecks k) (λ rs. limitChecks L (withRecords k rs) (length cells) room) cells
+
+-- its octets
 unfoldable pub writeContent : Layout → Content → List ℕ → ℕ → Result (List ℕ)
-writeContent L k cells room =
-    judge 0 (headChecks k)
-    (readList cells then
-    λ rs. judge 0 (limitChecks L (withRecords k rs) (length cells) room) (accepted (contentOctets L (withRecords k rs))))
+writeContent L k cells room = packetRecords L k cells room then λ rs. accepted (contentOctets L (withRecords k rs))

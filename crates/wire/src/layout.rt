@@ -5,6 +5,16 @@ pub const RTP_HEADER_SIZE: usize = 12;
 
 pub const PAYLOAD_HEADER_SIZE: usize = 8;
 
+// Octets of a contributing source, of the head of an extension and of each of its words.
+pub const RTP_WORD: usize = 4;
+
+// The payload header's octets: where Length, ANC_Count and F stand.
+pub const LENGTH_AT: usize = 2;
+
+pub const ANC_COUNT_AT: usize = 4;
+
+pub const F_AT: usize = 5;
+
 // Octets before the ANC data packets of a packet that is written.
 pub const FRONT_SIZE: usize = RTP_HEADER_SIZE + PAYLOAD_HEADER_SIZE;
 
@@ -24,3 +34,19 @@ pub const WORDS_AT: usize = DATA_COUNT_AT + WORD_BITS;
 pub const FIXED_BITS: usize = WORDS_AT + WORD_BITS;
 
 pub const LEAST_SIZE: usize = 12;
+
+// It takes up to a multiple of so many bits.
+pub const ALIGNMENT: usize = 32;
+
+// How many numbers fit a field: C or S, Line_Number, Horizontal_Offset, StreamNum, what a header word carries, a word.
+pub const FLAG_NUMBERS: u16 = 2;
+
+pub const LINE_NUMBERS: u16 = 2048;
+
+pub const OFFSET_NUMBERS: u16 = 4096;
+
+pub const STREAM_NUMBERS: u16 = 128;
+
+pub const HEADER_NUMBERS: u16 = 256;
+
+pub const WORD_NUMBERS: u16 = 1024;

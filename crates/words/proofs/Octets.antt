@@ -9,13 +9,13 @@ use lib.Dec.{lit<}
 use lib.ListN.{length, take, drop, getD, set, length-append, length-drop}
 use lib.Pow.{mod-pow-add}
 use lib.Seq.{getD-drop}
-use Rattle.wire.specs.Bits.{bits, bitsAt, splice, toBits}
+use Rattle.wire.specs.Bits.{bits, bitsAt, quadOf, splice, toBits}
 use Rattle.wire.proofs.BitLaws.{num-inj, num-toBits, length-toBits}
 use Rattle.wire.proofs.FieldLaws.{four-octets-at}
 use Rattle.wire.proofs.ListLaws.{splice-append, set-splice}
 use Rattle.wire.proofs.Store.{bits-splice}
 use Rattle.wire.proofs.Window.{window, number, below-all, num-append}
-use Rattle.words.specs.Octet.{quadOf, reversedOf}
+use Rattle.words.specs.Octet.{reversedOf}
 
 -- four octets reversed
 reversed-digits : (a b c d : ℕ) → a < 256 → b < 256 → c < 256 → d < 256

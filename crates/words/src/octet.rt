@@ -3,8 +3,15 @@ ghost use mathlib.Core.Path.{_≡_};
 ghost use mathlib.Core.List.{[], _∷_};
 ghost use Prim.Native.Nat.{_+_, _*_, _/_, _%_, _^_, _<_, _≤_};
 ghost use lib.ListN.{length};
-ghost use Rattle.wire.specs.Bits.{bits, bitsAt, overwrite, splice, toBits};
-ghost use Rattle.words.specs.Octet.{quadOf, reversedOf};
+ghost use Rattle.wire.specs.Bits.{bit, bits, bitsAt, overwrite, quadOf, splice, toBits};
+ghost use Rattle.words.specs.Octet.{reversedOf};
+
+// 1 for true and 0 for false.
+pub fn flag(b: bool) -> u8
+    ensures { λ r. ⌜ r ≡ bit b ⌝ }
+{
+    if b { 1 } else { 0 }
+}
 
 pub fn wide(x: u8) -> usize
     ensures { λ r. ⌜ r ≡ x ⌝ }
@@ -12,10 +19,11 @@ pub fn wide(x: u8) -> usize
     x as usize
 }
 
-fn pair(a: u8, b: u8) -> usize
+// Two octets as one number.
+pub(crate) fn pair(a: u8, b: u8) -> u16
     ensures { λ r. ⌜ r ≡ a * 256 + b ⌝ }
 {
-    (a as usize) * 256 + (b as usize)
+    (a as u16) * 256 + (b as u16)
 }
 
 // The two octets at `at`.
@@ -23,7 +31,7 @@ pub fn pair_at(octets: &[u8], at: usize) -> usize
     requires { ⌜ at + 2 ≤ length (now octets) ⌝ }
     ensures { λ r. ⌜ r ≡ bitsAt (now (octets .entry)) (8 * at) 16 ⌝ }
 {
-    pair(octets[at], octets[at + 1])
+    pair(octets[at], octets[at + 1]) as usize
 }
 
 fn quad(a: u8, b: u8, c: u8, d: u8) -> u32

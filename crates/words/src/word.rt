@@ -4,13 +4,8 @@ ghost use Prim.Native.Nat.{ℕ, _+_, _*_, _/_, _^_, _%_, _<_, _≤_};
 ghost use Rattle.wire.specs.Bits.{bits, bitsAt, toBits, splice};
 ghost use Rattle.wire.specs.Words.{wordBits};
 ghost use Rattle.words.specs.Word.{WordsFit, replaced};
-
-// Two octets as one number.
-fn pair(a: u8, b: u8) -> u16
-    ensures { λ r. ⌜ r ≡ a * 256 + b ⌝ }
-{
-    (a as u16) * 256 + (b as u16)
-}
+use crate::octet::pair;
+use wire::layout::WORD_NUMBERS;
 
 // The word that starts at the bit `bit`.
 pub fn fetch(octets: &[u8], bit: usize) -> u16
@@ -18,7 +13,7 @@ pub fn fetch(octets: &[u8], bit: usize) -> u16
     ensures { λ r. ⌜ r ≡ bitsAt (now (octets .entry)) bit wordBits ⌝ }
 {
     let i = bit / 8;
-    (pair(octets[i], octets[i + 1]) >> (6 - bit % 8)) % 1024
+    (pair(octets[i], octets[i + 1]) >> (6 - bit % 8)) % WORD_NUMBERS
 }
 
 // The first of the two octets that hold a word: `a`, with its last bits replaced by the first of `w`, which ends `m` bits before the second.

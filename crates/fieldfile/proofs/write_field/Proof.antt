@@ -11,7 +11,8 @@ use Rattle.wire.proofs.AncLaws.{length-run}
 use Rattle.cells.specs.Answers.{listOctets, listRefusal}
 use Rattle.fieldfile.specs.File.{fieldHeaderSize, recordsToWrite}
 use Rattle.wire.specs.declared.written.Written.the-variants as written
-use Rattle.fieldfile.proofs.WriteLaws.{Taken, taken, listed-refused, small, Writes, writes, written-whole, written-length}
+use Rattle.cells.proofs.ListedLaws.{Taken, taken, listed-refused}
+use Rattle.fieldfile.proofs.WriteLaws.{small, Writes, writes, written-whole, written-length}
 use Rattle.fieldfile.proofs.write_field.Statement.{statement}
 use Rattle.fieldfile.proofs.write_field.Tie as tie
 

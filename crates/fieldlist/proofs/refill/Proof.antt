@@ -1,43 +1,33 @@
--- `refill` keeps what is left, and reads more behind it.
--- By the law of what is moved to the front; what is left and what was read fit the input.
+-- `refill` writes the text that waits, and then reads more.
+-- By whether the write failed.
 use borrow.Author.Needs.{needs}
-use mathlib.Core.Path.{refl, sym}
-use native.Mathlib.Omega.{arith}
-use mathlib.Core.List.{_++_}
-use Prim.Native.Nat.{_-_}
-use lib.ListN.{length, drop}
-use lib.Seq.{length-take-le}
-use Rattle.fieldlist.proofs.TurnLaws.{part-moved, no-more}
+use mathlib.Core.Path.{refl, sym, subst}
+use mathlib.Core.Bool.{Bool}
+use borrow.Author.Tests.{not-true, not-false}
+use Rattle.fieldlist.specs.Turns.{ReadOn}
 use Rattle.fieldlist.proofs.refill.Statement.{statement}
 use Rattle.fieldlist.proofs.refill.Tie as tie
 
-slice-aggregate-write-all : tie.Need-slice-aggregate-write-all
-slice-aggregate-write-all c = sym (length-take-le (c .before .before .before .args .run .filled) (c .before .before .before .args .out .now) (c .before .before .before .pre .2))
-
-slice-aggregate-move-to-front : tie.Need-slice-aggregate-move-to-front
-slice-aggregate-move-to-front c = sym (length-take-le (c .before .before .before .before .before .args .run .end) (c .before .before .before .before .before .args .input .now) (c .before .before .before .before .before .pre .1))
-
-move-to-front-requires : tie.Need-move-to-front-requires
-move-to-front-requires c κs = omega (arith, c .before .before .before .before .before .pre .0, length-take-le (c .before .before .before .before .before .args .run .end) (c .before .before .before .before .before .args .input .now) (c .before .before .before .before .before .pre .1))
-
 returns : tie.Need-returns
 returns c =
-    let v = c .before .before .before .before .before .before .before .before .before .before .before .before .before .before .before .before .args .run in
-    let i = c .before .before .before .before .before .before .before .before .before .before .before .before .before .before .before .before .args .input .now in
-    let n = c .before .count .result in
-    let moved = c .before .before .before .before .before .before .before .before .before .before .move-to-front .last .0 in
-    let w = moved ++ drop (v .end) i in
-    let k = v .end - v .at in
+    let m = c .before .flush .result in
+    let i = c .before .before .before .before .args .input .now in
     record {
-      session = refl;
-      bounds = search needs;
-      octets = part-moved i (v .at) (v .end) (c .before .before .before .before .before .before .before .before .before .before .before .before .before .before .before .before .pre .0) (c .before .before .before .before .before .before .before .before .before .before .before .before .before .before .before .before .pre .1) moved (c .before .before .before .before .before .before .read .last .1 .0) (drop (length w - k) (drop k w)) n (c .before .before .before .before .before .before .before .before .before .before .move-to-front .ensures);
-      ended = λ h. no-more (c .before .before .before .before .before .before .before .before .before .before .before .before .write-all .result) n (omega (arith, h));
+      flushed = m;
+      text = c .before .flush .ensures;
+      octets = subst (λ (b : Bool). ReadOn b m i m i) (sym (not-true (m .«open») (c .if1 .taken))) (refl, refl);
+    }
+
+returns-2 : tie.Need-returns-2
+returns-2 c =
+    let m = c .before .before .before .before .before .flush .result in
+    let i = c .before .before .before .before .before .before .before .before .args .input .now in
+    record {
+      flushed = m;
+      text = c .before .before .before .before .before .flush .ensures;
+      octets = subst (λ (b : Bool). ReadOn b m i (c .before .before .read-more .result) (c .before .before .read-more .last .1 .1 .0)) (sym (not-false (m .«open») (c .before .before .before .before .if1 .left))) (c .before .before .read-more .ensures);
     }
 
 pub refill-spec : {M : Type 1} → statement M
-refill-spec =
-    tie.close
-    (tie.spec slice-aggregate-write-all (λ c κs. search needs) (λ c. search needs) slice-aggregate-move-to-front move-to-front-requires
-    (λ c. search needs) (λ c. search needs) (λ c. search needs) (λ c. search needs) (λ c κs. search needs) (λ c. search needs) (λ c. search needs)
-    (λ c. search needs) (λ c κs. search needs) (λ c. search needs) (λ c κs. search needs) (λ c. search needs) (λ c. search needs) returns)
+refill-spec = tie.close
+    (tie.spec (λ c κs. search needs) returns (λ c κs. search needs) (λ c. search needs) returns-2)

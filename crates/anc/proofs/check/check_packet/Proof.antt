@@ -37,8 +37,8 @@ returns-2 c =
 headed : (c : tie.Else2) → headersOk rfc8331 (octets (c .before .before)) ≡ true
 headed c = passed _ _ (c .before .header-words-ok .ensures) (c .if2 .left)
 
-cast-t10 : tie.Need-cast-t10
-cast-t10 c = omega arith
+cast-t11 : tie.Need-cast-t11
+cast-t11 c = omega arith
 
 -- the size is that of as many words as Data_Count says
 abbrev count : tie.After-fetch → ℕ
@@ -92,6 +92,6 @@ returns-6 c =
 pub check-packet-spec : {M : Type 1} → statement M
 check-packet-spec =
     tie.close
-    (tie.spec (λ c κs. search needs) returns (λ c κs. search needs) (λ c κs. search needs) returns-2 (λ c κs. search needs) cast-t10
+    (tie.spec (λ c κs. search needs) returns (λ c κs. search needs) (λ c κs. search needs) returns-2 (λ c κs. search needs) cast-t11
     (λ c κs. search needs) (λ c κs. search needs) returns-3 (λ c κs. search needs) (λ c κs. search needs) returns-4 (λ c κs. search needs)
     (λ c κs. search needs) returns-5 returns-6)

@@ -18,32 +18,35 @@ use Rattle.anc.proofs.check.check_run.Statement.{statement}
 use Rattle.anc.proofs.check.check_run.Tie as tie
 
 abbrev Inv-loop : tie.InvT-loop
-Inv-loop octets count n rest₀ used₀ cells₀ i₀ rest used cells i =
-    (i ≤ n) × (n < headerNumbers) × (used + length rest ≡ length octets) × (cells ≤ (headCells + headerNumbers) * i)
-    × (tally used cells (readRun rfc8331 i (n - i) rest) ≡ runOf (readRun rfc8331 0 n octets))
+Inv-loop octets count table n rest₀ used₀ cells₀ i₀ rest used cells i =
+    (i ≤ n) × (n < headerNumbers) × (used .0 + length rest ≡ length octets) × (cells ≤ (headCells + headerNumbers) * i)
+    × (tally (used .0) cells (readRun rfc8331 i (n - i) rest) ≡ runOf (readRun rfc8331 0 n octets))
 
 abbrev μ-loop : tie.MeasureT-loop
-μ-loop octets count n rest₀ used₀ cells₀ i₀ rest used cells i = n - i
+μ-loop octets count table n rest₀ used₀ cells₀ i₀ rest used cells i = n - i
 
 -- the packet of this turn was accepted
 next : (c : tie.After-known-told2 Inv-loop μ-loop)
-    → let l = c .before .before .before .before .before .loop in
-    Next (l .rest .now) (l .i) (c .before .before .before .before .before .before .before .args .count - (l .i + 1)) (l .used) (l .cells) (c .before .verdict2 .given .0 .0)
+    → let l = c .before .before .before .before .before .before .loop in
+    Next (l .rest .now) (l .i) (c .before .before .before .before .before .before .before .before .before .args .count - (l .i + 1)) (l .used .0) (l .cells) (c .before .verdict2 .given .0 .0)
 next c =
-    let l = c .before .before .before .before .before .loop in
-    accepted-next (l .rest .now) (l .i) _ (l .used) (l .cells) _ (sym (c .before .before .before .check-packet .ensures) ∙ c .before .verdict2 .given .1)
+    let l = c .before .before .before .before .before .before .loop in
+    accepted-next (l .rest .now) (l .i) _ (l .used .0) (l .cells) _ (sym (c .before .before .before .check-packet .ensures) ∙ c .before .verdict2 .given .1)
 
 loop-holds : tie.Need-loop-holds Inv-loop μ-loop
 loop-holds c =
-    let a = c .before .args in
-    (omega arith, c .before .fits .count .fits, zero-add _, omega arith, rw (sub-zero (a .count)) (tally-none (readRun rfc8331 0 (a .count) (a .octets .now))))
+    let a = c .before .before .args in
+    (omega arith, c .before .before .fits .count .fits, zero-add _, omega arith, rw (sub-zero (a .count)) (tally-none (readRun rfc8331 0 (a .count) (a .octets .now))))
+
+check-packet-requires : tie.Need-check-packet-requires Inv-loop μ-loop
+check-packet-requires c κs = c .before .before .before .header-words .ensures
 
 returns : tie.Need-returns Inv-loop μ-loop
 returns c =
-    let a = c .before .before .before .before .before .before .before .args in
-    let l = c .before .before .before .before .before .loop in
+    let a = c .before .before .before .before .before .before .before .before .before .args in
+    let l = c .before .before .before .before .before .before .loop in
     let n : a .count - l .i ≡ suc (a .count - (l .i + 1)) = omega arith in
-    sym (refused-next (l .rest .now) (l .i) (a .count - (l .i + 1)) (l .used) (l .cells) _ (sym (c .before .before .before .check-packet .ensures) ∙ c .before .verdict .given .1))
+    sym (refused-next (l .rest .now) (l .i) (a .count - (l .i + 1)) (l .used .0) (l .cells) _ (sym (c .before .before .before .check-packet .ensures) ∙ c .before .verdict .given .1))
     ∙ (rw n at (l .inv .4))
 
 sub-rest : tie.Need-sub-rest Inv-loop μ-loop
@@ -55,8 +58,8 @@ part-rest-start c = omega (arith, next (c .before) .fits, c .packet-size .ensure
 part-rest-end : tie.Need-part-rest-end Inv-loop μ-loop
 part-rest-end c = omega arith
 
-add-used : tie.Need-add-used Inv-loop μ-loop
-add-used c = omega (arith, next (c .before .before) .fits, c .before .packet-size .ensures)
+plus-requires : tie.Need-plus-requires Inv-loop μ-loop
+plus-requires c κs = omega (arith, next (c .before .before) .fits, c .before .packet-size .ensures)
 
 cast-cells : tie.Need-cast-cells Inv-loop μ-loop
 cast-cells c = omega arith
@@ -75,34 +78,35 @@ loop-less c = omega arith
 
 loop-again : tie.Need-loop-again Inv-loop μ-loop
 loop-again c =
-    let a = c .before .before .before .before .before .before .before .before .before .before .args in
-    let l = c .before .before .before .before .before .before .before .before .loop in
+    let a = c .before .before .before .before .before .before .before .before .before .before .before .before .before .args in
+    let l = c .before .before .before .before .before .before .before .before .before .before .loop in
     let s = l .rest .now in
-    let z = c .before .before .packet-size .result .0 in
-    let w = c .before .before .before .before .verdict2 .given .0 .0 .0 in
+    let z = c .before .before .before .packet-size .result .0 in
+    let w = c .before .before .before .before .before .verdict2 .given .0 .0 .0 in
     let m = a .count - (l .i + 1) in
     let n : a .count - l .i ≡ suc m = omega arith in
-    let t = next (c .before .before .before) in
-    let e : z ≡ ancSize rfc8331 w = c .before .before .packet-size .ensures in (
+    let t = next (c .before .before .before .before) in
+    let e : z ≡ ancSize rfc8331 w = c .before .before .before .packet-size .ensures in (
       omega arith,
       l .inv .1,
-      omega (arith, ap length (part-all z s), length-drop z s, t .fits),
+      omega (arith, ap length (part-all z s), length-drop z s, t .fits, c .before .plus .ensures),
       omega arith,
-      ap (λ (x : List ℕ). tally (l .used + z) (l .cells + (headCells + w)) (readRun rfc8331 (l .i + 1) m x)) (part-all z s)
-          ∙ ap (λ (x : ℕ). tally (l .used + x) (l .cells + (headCells + w)) (readRun rfc8331 (l .i + 1) m (drop x s))) e
+      rw (c .before .plus .ensures)
+          (ap (λ (x : List ℕ). tally (l .used .0 + z) (l .cells + (headCells + w)) (readRun rfc8331 (l .i + 1) m x)) (part-all z s)
+          ∙ ap (λ (x : ℕ). tally (l .used .0 + x) (l .cells + (headCells + w)) (readRun rfc8331 (l .i + 1) m (drop x s))) e
           ∙ sym (t .goes)
-          ∙ (rw n at (l .inv .4)),
+          ∙ (rw n at (l .inv .4))),
     )
 
 returns-2 : tie.Need-returns-2 Inv-loop μ-loop
 unfolding readRun
 returns-2 c =
     let l = c .before .loop in
-    let e : c .before .before .before .args .count - l .i ≡ 0 = omega arith in
-    rw (add-zero (l .used), add-zero (l .cells)) at (rw e at (l .inv .4))
+    let e : c .before .before .before .before .args .count - l .i ≡ 0 = omega arith in
+    rw (add-zero (l .used .0), add-zero (l .cells)) at (rw e at (l .inv .4))
 
 pub check-run-spec : {M : Type 1} → statement M
 check-run-spec =
     tie.close
-    (tie.spec Inv-loop μ-loop loop-holds (λ c κs. search needs) (λ c. search needs) returns (λ c. search needs) (λ c κs. search needs) sub-rest
-    part-rest-start part-rest-end add-used cast-cells add-cells add-cells-2 add-i loop-less loop-again returns-2)
+    (tie.spec Inv-loop μ-loop (λ c κs. search needs) loop-holds check-packet-requires (λ c. search needs) returns (λ c. search needs) (λ c κs. search needs) sub-rest
+    part-rest-start part-rest-end plus-requires cast-cells add-cells add-cells-2 add-i loop-less loop-again returns-2)

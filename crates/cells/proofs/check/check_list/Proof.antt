@@ -13,14 +13,15 @@ use Rattle.wire.proofs.ListLaws.{part-all}
 use Rattle.wire.proofs.ResultLaws.{Passed}
 use Rattle.wire.proofs.SizeLaws.{size-cells}
 use Rattle.cells.specs.Answers.{listedOf}
-use Rattle.cells.proofs.ListRun.{Lies, lies, rest-is, taken, tally, tally-none, tally-next, tally-stops, tally-ends}
+use Rattle.record.proofs.FrontLaws.{Lies, lies, rest-is, taken}
+use Rattle.cells.proofs.ListRun.{tally, tally-none, tally-next, tally-stops, tally-ends}
 use Rattle.cells.proofs.check.check_list.Statement.{statement}
 use Rattle.cells.proofs.check.check_list.Tie as tie
 
 abbrev Inv-loop : tie.InvT-loop
 Inv-loop cells rest₀ octets₀ count₀ rest octets count =
-    (count + length rest ≤ length cells) × (2 * octets + 3 * length rest ≤ 3 * length cells)
-    × (tally count octets (recordsFrom (length rest) count rest) ≡ listedOf (readList cells))
+    (count + length rest ≤ length cells) × (2 * octets .0 + 3 * length rest ≤ 3 * length cells)
+    × (tally count (octets .0) (recordsFrom (length rest) count rest) ≡ listedOf (readList cells))
 
 abbrev μ-loop : tie.MeasureT-loop
 μ-loop cells rest₀ octets₀ count₀ rest octets count = length rest
@@ -30,9 +31,8 @@ loop-holds c = (omega arith, omega arith, tally-none (readList (c .before .args 
 
 returns : tie.Need-returns Inv-loop μ-loop
 returns c =
-    let k = c .before .before in
-    let l = k .before .before .loop in
-    sym (tally-stops (l .count) (l .octets) (l .rest .now) (k .before .loop-test .taken) (sym (k .check-record .ensures) ∙ c .enum-told .given .1))
+    let l = c .before .before .before .before .loop in
+    sym (tally-stops (l .count) (l .octets .0) (l .rest .now) (c .before .before .before .loop-test .taken) (sym (c .before .before .check-record .ensures) ∙ c .enum-told .given .1))
     ∙ l .inv .2
 
 -- the record at the front passes its checks, and lies in the cells
@@ -69,43 +69,41 @@ size-is c =
     let e = c .packet-size .ensures ∙ ap (ancSize rfc8331) (front-passes (c .before .before) .2) in
     (e, rw e (size-cells rfc8331 _))
 
-add-octets : tie.Need-add-octets Inv-loop μ-loop
-add-octets c = omega (arith, front-passes (c .before .before .before .before .before), size-is (c .before .before .before))
+plus-requires : tie.Need-plus-requires Inv-loop μ-loop
+plus-requires c κs = omega (arith, front-passes (c .before .before .before .before), size-is (c .before .before))
 
 add-count : tie.Need-add-count Inv-loop μ-loop
 add-count c = omega arith
 
 loop-less : tie.Need-loop-less Inv-loop μ-loop
 loop-less c =
-    let f = c .before .before .before .before .before in
-    let r = f .before .before .before .before .loop .rest .now in
-    let k = headCells + f .front .given .0 .0 .0 in
+    let r = c .before .before .before .before .before .before .before .before .before .loop .rest .now in
+    let k = headCells + c .before .before .before .before .before .front .given .0 .0 .0 in
     rw (part-all k r, length-drop k r) (omega arith)
 
 loop-again : tie.Need-loop-again Inv-loop μ-loop
 loop-again c =
-    let p = c .before .before .before in
-    let f = p .before .before in
-    let i = f .before .before .before in
-    let l = i .before .loop in
+    let l = c .before .before .before .before .before .before .before .before .before .loop in
     let r = l .rest .now in
-    let cells = i .before .before .before .args .cells .now in
-    let h = front-passes f in
+    let cells = c .before .before .before .before .before .before .before .before .before .before .before .args .cells .now in
+    let h = front-passes (c .before .before .before .before .before) in
+    let z = size-is (c .before .before .before) in
     let d = length-drop (headCells + cellCount r) r in
-    subst (λ (x : List ℕ). Inv-loop cells cells 0 0 x (l .octets + p .packet-size .result .0) (l .count + 1))
-    (sym (rest-is r (f .front .given .0 .0 .0) (h .2))) (
+    let sum = c .plus .ensures in
+    subst (λ (x : List ℕ). Inv-loop cells cells (record { 0 = 0 }) 0 x (c .plus .result) (l .count + 1))
+    (sym (rest-is r (c .before .before .before .before .before .front .given .0 .0 .0) (h .2))) (
       omega arith,
-      omega (arith, size-is p),
-      rw (size-is p .0) (sym (tally-next (l .count) (l .octets) r (i .loop-test .taken) (h .0)) ∙ l .inv .2),
+      omega (arith, z),
+      rw (sum, z .0) (sym (tally-next (l .count) (l .octets .0) r (c .before .before .before .before .before .before .before .before .loop-test .taken) (h .0)) ∙ l .inv .2),
     )
 
 returns-2 : tie.Need-returns-2 Inv-loop μ-loop
 returns-2 c =
     let l = c .before .loop in
-    sym (tally-ends (l .count) (l .octets) (l .rest .now) (c .loop-test .left)) ∙ l .inv .2
+    sym (tally-ends (l .count) (l .octets .0) (l .rest .now) (c .loop-test .left)) ∙ l .inv .2
 
 pub check-list-spec : {M : Type 1} → statement M
 check-list-spec =
     tie.close
     (tie.spec Inv-loop μ-loop loop-holds (λ c κs. search needs) (λ c. search needs) returns (λ c. search needs) (λ c κs. search needs) cast-step
-    add-step mul-rest sub-rest part-rest-start part-rest-end add-octets add-count loop-less loop-again returns-2)
+    add-step mul-rest sub-rest part-rest-start part-rest-end plus-requires add-count loop-less loop-again returns-2)

@@ -11,7 +11,7 @@ use Rattle.wire.specs.Anc.{ancOctets, ancSize}
 use Rattle.wire.specs.Cells.{headCells, cellCount, cellRecord, rest, readList}
 use Rattle.wire.proofs.ListLaws.{part-all, part-written}
 use Rattle.cells.specs.Answers.{listOctets}
-use Rattle.cells.proofs.ListRun.{rest-is}
+use Rattle.record.proofs.FrontLaws.{rest-is}
 use Rattle.cells.proofs.RunLeft.{ToWrite, Next, to-write-all, to-write-none, next, to-write-same}
 use Rattle.cells.proofs.write.write_run.Statement.{statement}
 use Rattle.cells.proofs.write.write_run.Tie as tie

@@ -2,9 +2,10 @@
 -- By the limits; a packet over them by itself is over them with what is gathered.
 use borrow.Author.Needs.{needs}
 use mathlib.Core.Path.{sym, _∙_}
-use Prim.Native.Nat.{_+_}
+use Prim.Native.Nat.{_+_, _<_}
 use native.Mathlib.Omega.{arith}
 use borrow.Author.Tests.{not-true, not-false}
+use Rattle.wire.specs.Writing.{maxFieldCells}
 use Rattle.depacketizer.proofs.DecideLaws.{over-cells}
 use Rattle.depacketizer.proofs.decide.join.Statement.{statement}
 use Rattle.depacketizer.proofs.decide.join.Tie as tie
@@ -12,7 +13,8 @@ use Rattle.depacketizer.proofs.decide.join.Tie as tie
 returns : tie.Need-returns
 returns c =
     let a = c .before .before .before .before .args in
-    rw (c .dropped .ensures, over-cells (a .records + a .summary .records) (a .cells + a .summary .cells) (a .room) (omega arith))
+    let h : maxFieldCells < a .cells + a .summary .cells = omega arith in
+    rw (c .dropped .ensures, over-cells)
 
 returns-2 : tie.Need-returns-2
 returns-2 c =

@@ -6,7 +6,8 @@ use native.Mathlib.Omega.{arith}
 use borrow.Author.Tests.{not-true, not-false}
 use Rattle.wire.specs.Cells.{readList}
 use Rattle.cells.specs.Answers.{listedOf}
-use Rattle.fieldfile.proofs.WriteLaws.{taken, listed-refused, small, refused-f, refused-list, over-records, over-cells, no-room, all-fit}
+use Rattle.cells.proofs.ListedLaws.{taken, listed-refused}
+use Rattle.fieldfile.proofs.WriteLaws.{small, refused-f, refused-list, over-records, over-cells, no-room, all-fit}
 use Rattle.fieldfile.proofs.writing.measure.Statement.{statement}
 use Rattle.fieldfile.proofs.writing.measure.Tie as tie
 

@@ -14,7 +14,7 @@ use Rattle.listing.specs.Frames.{front}
 use Rattle.lines.specs.Room.{lineRoom, cellRoom}
 use Rattle.listing.specs.Session.{turn}
 use Rattle.listing.specs.declared.session.Listed.the-variants as listed
-use Rattle.listing.proofs.FrameLaws.{FrameAt, frame-found, end-found, cut-found}
+use Rattle.listing.proofs.FrameLaws.{FrameAt, frame-found, end-found, cut-found, end-short, cut-short}
 use Rattle.listing.proofs.session.list_frame.Statement.{statement}
 use Rattle.listing.proofs.session.list_frame.Tie as tie
 
@@ -37,10 +37,18 @@ list-packet-requires : tie.Need-list-packet-requires
 list-packet-requires c κs = leb-true (lineRoom + cellRoom * length (c .before .before .before .before .before .before .before .before .before .before .before .before .args .store .now)) (length (c .before .before .before .before .before .before .before .before .before .before .before .before .args .out .now)) (sym (c .before .before .before .before .before .before .before .before .is-roomy .ensures) ∙ not-false (c .before .before .before .before .before .before .before .before .is-roomy .result) (c .before .before .before .before .before .before .before .if1 .left))
 
 returns-2 : tie.Need-returns-2
-returns-2 c = rw (sym (c .before .before .before .before .is-roomy .ensures) ∙ not-false (c .before .before .before .before .is-roomy .result) (c .before .before .before .if1 .left), end-found (front (c .before .before .before .before .before .before .before .before .args .octets .now)) (sym (c .before .before .frame-at .ensures) ∙ c .enum-told .given .1)) (refl, (refl, (refl, tt)))
+returns-2 c =
+    let s = c .before .before .before .before .before .before .before .before .args .octets .now in
+    let e = end-found (front s) (sym (c .before .before .frame-at .ensures) ∙ c .enum-told .given .1) in
+    let short = end-short s (λ j. c .before .before .before .before .before .before .before .shared-slice-known .given j .fits) e in
+    rw (sym (c .before .before .before .before .is-roomy .ensures) ∙ not-false (c .before .before .before .before .is-roomy .result) (c .before .before .before .if1 .left), e) (refl, (refl, (refl, short)))
 
 returns-3 : tie.Need-returns-3
-returns-3 c = rw (sym (c .before .before .before .before .is-roomy .ensures) ∙ not-false (c .before .before .before .before .is-roomy .result) (c .before .before .before .if1 .left), cut-found (front (c .before .before .before .before .before .before .before .before .args .octets .now)) (sym (c .before .before .frame-at .ensures) ∙ c .enum-told2 .given .1)) (refl, (refl, (refl, tt)))
+returns-3 c =
+    let s = c .before .before .before .before .before .before .before .before .args .octets .now in
+    let e = cut-found (front s) (sym (c .before .before .frame-at .ensures) ∙ c .enum-told2 .given .1) in
+    let short = cut-short s (λ j. c .before .before .before .before .before .before .before .shared-slice-known .given j .fits) e in
+    rw (sym (c .before .before .before .before .is-roomy .ensures) ∙ not-false (c .before .before .before .before .is-roomy .result) (c .before .before .before .if1 .left), e) (refl, (refl, (refl, short)))
 
 returns-4 : tie.Need-returns-4
 returns-4 c =

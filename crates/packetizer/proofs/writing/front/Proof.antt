@@ -16,10 +16,10 @@ add-t11 c = omega (arith, c .before .flag .ensures, bit-lt (c .before .before .b
 
 returns : tie.Need-returns
 returns c =
-    let a = c .before .before .before .before .before .args in
+    let a = c .before .before .before .before .before .before .before .args in
     let h = a .head in
     let fits : HeadFits (contentOf h) = record { marker = bit-lt (h .marker); number = omega arith; timestamp = omega arith; source = omega arith } in
-    rw (c .before .before .flag .ensures) (front-packed h (a .count) (a .length) fits (omega arith) (omega arith) (omega arith) (omega arith))
+    rw (c .before .before .before .before .flag .ensures) (front-packed h (a .count) (a .size .0) fits (omega arith) (omega arith) (omega arith) (omega arith))
 
 pub front-spec : {M : Type 1} → statement M
 front-spec =

@@ -13,19 +13,19 @@ use Rattle.rtp.proofs.check.head_at.Tie as tie
 small : (c : tie.After-quad-at) → c .before .before .pair-at .result * 65536 + c .before .pair-at2 .result < 4294967296
 small c =
     let a = c .before .before .before .before .before .before .args in
-    omega (arith, c .before .before .pair-at .ensures, bitsAt-lt (a .octets .now) (8 * a .header) 16, c .before .pair-at2 .ensures, bitsAt-lt (a .octets .now) 16 16)
+    omega (arith, c .before .before .pair-at .ensures, bitsAt-lt (a .octets .now) (8 * a .header .0) 16, c .before .pair-at2 .ensures, bitsAt-lt (a .octets .now) 16 16)
 
-mul-t12 : tie.Need-mul-t12
-mul-t12 c = omega (arith, small c)
+mul-t13 : tie.Need-mul-t13
+mul-t13 c = omega (arith, small c)
 
-add-t13 : tie.Need-add-t13
-add-t13 c = omega (arith, small c)
+add-t14 : tie.Need-add-t14
+add-t14 c = omega (arith, small c)
 
-cast-t14 : tie.Need-cast-t14
-cast-t14 c = omega (arith, small c)
+cast-t15 : tie.Need-cast-t15
+cast-t15 c = omega (arith, small c)
 
-cast-t23 : tie.Need-cast-t23
-cast-t23 c = omega (arith, c .wide2 .ensures, c .before .shared-slice-known3 .given (c .before .before .before .before .before .before .before .before .before .args .header + 5))
+cast-t24 : tie.Need-cast-t24
+cast-t24 c = omega (arith, c .wide2 .ensures, c .before .shared-slice-known3 .given (c .before .before .before .before .before .before .before .before .before .args .header .0 + 5))
 
 returns : tie.Need-returns
 unfolding packetRead
@@ -44,12 +44,12 @@ returns c =
       c .wide2 .ensures,
       type-at s o l,
       marker-at s o l,
-      f-at s o (a .header) (p .0) (p .2),
-      extended-at s o (a .header) (p .0) (p .2),
+      f-at s o (a .header .0) (p .0) (p .2),
+      extended-at s o (a .header .0) (p .0) (p .2),
     )
 
 pub head-at-spec : {M : Type 1} → statement M
 head-at-spec =
     tie.close
     (tie.spec (λ c. search needs) (λ c κs. search needs) (λ c κs. search needs) (λ c κs. search needs) (λ c κs. search needs) (λ c. search needs)
-    mul-t12 add-t13 cast-t14 (λ c κs. search needs) (λ c. search needs) (λ c. search needs) (λ c κs. search needs) cast-t23 returns)
+    mul-t13 add-t14 cast-t15 (λ c κs. search needs) (λ c. search needs) (λ c. search needs) (λ c κs. search needs) cast-t24 returns)

@@ -41,25 +41,25 @@ returns-3 c =
 returns-4 : tie.Need-returns-4
 unfolding headerChecks
 returns-4 c =
-    let s = c .before .before .before .before .before .before .before .before .before .args .octets .now in
-    let h1 = le-leb (length s) maxPacket (c .before .before .before .before .before .before .before .if1 .left) in
-    let h2 = le-leb headerLeast (length s) (c .before .before .before .before .before .before .if2 .left) in
-    let v : bitsAt s 0 2 ≡ c .before .before .before .before .wide .result / 64 = version-at s (λ j. c .before .before .before .before .before .before .before .before .shared-slice-known .given j .fits) (c .before .before .before .before .before .before .if2 .left) ∙ ap (λ (x : ℕ). x / 64) (sym (c .before .before .before .before .wide .ensures)) in
-    let h3 = ap (λ (x : ℕ). eqb x 2) v ∙ eq-eqb _ 2 (c .before .before .before .if3 .left) in
-    let h4 = size-over s (c .before .before .header-size .result) (c .before .before .header-size .ensures) (c .before .if4 .taken) in
+    let s = c .before .before .before .before .before .before .before .before .before .before .args .octets .now in
+    let h1 = le-leb (length s) maxPacket (c .before .before .before .before .before .before .before .before .if1 .left) in
+    let h2 = le-leb headerLeast (length s) (c .before .before .before .before .before .before .before .if2 .left) in
+    let v : bitsAt s 0 2 ≡ c .before .before .before .before .before .wide .result / 64 = version-at s (λ j. c .before .before .before .before .before .before .before .before .before .shared-slice-known .given j .fits) (c .before .before .before .before .before .before .before .if2 .left) ∙ ap (λ (x : ℕ). x / 64) (sym (c .before .before .before .before .before .wide .ensures)) in
+    let h3 = ap (λ (x : ℕ). eqb x 2) v ∙ eq-eqb _ 2 (c .before .before .before .before .if3 .left) in
+    let h4 = size-over s (c .before .before .before .header-size .result .0) (c .before .before .before .header-size .ensures) (c .before .if4 .taken) in
     rw (c .refuse4 .ensures, h1, h2, h3, h4)
 
 returns-5 : tie.Need-returns-5
 unfolding headerChecks
 returns-5 c =
-    let s = c .before .before .before .before .before .before .before .before .args .octets .now in
-    let h1 = le-leb (length s) maxPacket (c .before .before .before .before .before .before .if1 .left) in
-    let h2 = le-leb headerLeast (length s) (c .before .before .before .before .before .if2 .left) in
-    let v : bitsAt s 0 2 ≡ c .before .before .before .wide .result / 64 = version-at s (λ j. c .before .before .before .before .before .before .before .shared-slice-known .given j .fits) (c .before .before .before .before .before .if2 .left) ∙ ap (λ (x : ℕ). x / 64) (sym (c .before .before .before .wide .ensures)) in
-    let h3 = ap (λ (x : ℕ). eqb x 2) v ∙ eq-eqb _ 2 (c .before .before .if3 .left) in
-    let z = size-within s (c .before .header-size .result) (c .before .header-size .ensures) (c .if4 .left) in
+    let s = c .before .before .before .before .before .before .before .before .before .args .octets .now in
+    let h1 = le-leb (length s) maxPacket (c .before .before .before .before .before .before .before .if1 .left) in
+    let h2 = le-leb headerLeast (length s) (c .before .before .before .before .before .before .if2 .left) in
+    let v : bitsAt s 0 2 ≡ c .before .before .before .before .wide .result / 64 = version-at s (λ j. c .before .before .before .before .before .before .before .before .shared-slice-known .given j .fits) (c .before .before .before .before .before .before .if2 .left) ∙ ap (λ (x : ℕ). x / 64) (sym (c .before .before .before .before .wide .ensures)) in
+    let h3 = ap (λ (x : ℕ). eqb x 2) v ∙ eq-eqb _ 2 (c .before .before .before .if3 .left) in
+    let z = size-within s (c .before .before .header-size .result .0) (c .before .before .header-size .ensures) (c .if4 .left) in
     let h4 = le-leb (headerSize s) (length s) (subst (λ (x : ℕ). x ≤ length s) z (c .if4 .left)) in
-    rw (h1, h2, h3, h4) (ap stage.Passed z)
+    rw (h1, h2, h3, h4) (ap (λ (x : ℕ). stage.Passed (record { 0 = x })) z)
 
 pub check-header-spec : {M : Type 1} → statement M
 check-header-spec =

@@ -22,11 +22,11 @@ returns-2 c =
     let e = c .before .before .wide .ensures in
     rw e (size-cut (c .before .before .before .before .before .args .octets .now) (λ j. c .before .before .before .before .shared-slice-known .given j .fits) (c .before .before .before .before .before .pre) (rw e at (c .before .if1 .left)) (rw e at (c .if2 .taken)))
 
-mul-result : tie.Need-mul-result
-mul-result c = omega (arith, small c)
+mul-t10 : tie.Need-mul-t10
+mul-t10 c = omega (arith, small c)
 
-add-result-3 : tie.Need-add-result-3
-add-result-3 c = omega (arith, small c)
+add-t11 : tie.Need-add-t11
+add-t11 c = omega (arith, small c)
 
 returns-3 : tie.Need-returns-3
 returns-3 c =
@@ -36,5 +36,5 @@ returns-3 c =
 pub header-size-spec : {M : Type 1} → statement M
 header-size-spec =
     tie.close
-    (tie.spec (λ c. search needs) (λ c κs. search needs) (λ c. search needs) (λ c. search needs) returns (λ c. search needs) (λ c. search needs)
-    returns-2 (λ c. search needs) (λ c. search needs) (λ c κs. search needs) mul-result add-result-3 returns-3)
+    (tie.spec (λ c. search needs) (λ c κs. search needs) (λ c. search needs) (λ c. search needs) returns (λ c. search needs) returns-2
+    (λ c. search needs) (λ c κs. search needs) mul-t10 add-t11 returns-3)

@@ -1,24 +1,23 @@
 -- `padding_count` is the last octet where P is set, and 0 otherwise.
--- By the place of P in the first octet.
+-- P is 0 or 1, so the product is at most the last octet.
 use borrow.Author.Needs.{needs}
-use Prim.Native.Nat.{_-_, _/_, _%_}
+use Prim.Native.Nat.{_-_}
 use native.Mathlib.Omega.{arith}
 use lib.ListN.{length}
-use Rattle.rtp.proofs.HeaderFields.{padding-at, flag-times}
+use Rattle.wire.proofs.BitLaws.{bitsAt-lt}
+use Rattle.rtp.proofs.HeaderFields.{flag-times}
 use Rattle.rtp.proofs.stage.padding_count.Statement.{statement}
 use Rattle.rtp.proofs.stage.padding_count.Tie as tie
 
-mul-result : tie.Need-mul-result
-mul-result c =
-    let s = c .before .before .before .before .before .args .octets .now in
-    omega (arith, flag-times (c .before .before .wide .result / 32 % 2) (c .wide2 .result) (omega arith), c .before .shared-slice-known3 .given (length s - 1))
+mul-t7 : tie.Need-mul-t7
+mul-t7 c =
+    let s = c .before .before .before .before .args .octets .now in
+    omega (arith, flag-times (c .before .before .padding-flag .result) (c .wide .result) (omega (arith, c .before .before .padding-flag .ensures, bitsAt-lt s 2 1)), c .before .shared-slice-known2 .given (length s - 1))
 
 returns : tie.Need-returns
-returns c =
-    let s = c .before .before .before .before .before .args .octets .now in
-    rw (c .before .before .wide .ensures, c .wide2 .ensures, padding-at s (λ j. c .before .before .before .before .shared-slice-known .given j .fits) (c .before .before .before .before .before .pre))
+returns c = rw (c .before .before .padding-flag .ensures, c .wide .ensures)
 
 pub padding-count-spec : {M : Type 1} → statement M
 padding-count-spec =
     tie.close
-    (tie.spec (λ c. search needs) (λ c. search needs) (λ c κs. search needs) (λ c. search needs) (λ c κs. search needs) mul-result returns)
+    (tie.spec (λ c. search needs) (λ c κs. search needs) (λ c. search needs) (λ c κs. search needs) mul-t7 returns)

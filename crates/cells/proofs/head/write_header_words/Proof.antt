@@ -1,0 +1,82 @@
+-- `write_header_words` stores DID, SDID and Data_Count as header words, and tells their sum.
+-- By the table's entries, which are the header words of the numbers.
+use borrow.Author.Needs.{needs}
+use mathlib.Core.Path.{_≡_, ap, sym, _∙_, subst}
+use mathlib.Core.List.{List, [], _∷_}
+use Prim.Native.Nat.{ℕ, _^_, _<_}
+use native.Mathlib.Omega.{arith}
+use lib.ListN.{getD}
+use Rattle.wire.specs.Bits.{Below, bits, row, fieldBits, splice}
+use Rattle.wire.specs.Words.{wordBits, headerNumbers, sumLow}
+use Rattle.wire.specs.Layout.{rfc8331}
+use Rattle.wire.specs.Anc.{didAt}
+use Rattle.wire.specs.Cells.{cellCount, cellRecord}
+use Rattle.wire.proofs.WordLaws.{header-lt}
+use Rattle.record.proofs.FrontLaws.{length-words}
+use Rattle.cells.specs.Packet.{headWords}
+use Rattle.cells.proofs.PacketBits.{entries-are}
+use Rattle.cells.proofs.head.write_header_words.Statement.{statement}
+use Rattle.cells.proofs.head.write_header_words.Tie as tie
+
+-- the numbers are those of header words
+small : (c : tie.Start)
+    → let l = c .args .cells .now in
+    (getD l 5 0 < headerNumbers) × (getD l 6 0 < headerNumbers) × (cellCount l < headerNumbers)
+unfolding cellRecord
+small c =
+    let f = c .pre .0 .1 in
+    (f .did, f .sdid, omega (arith, length-words (c .args .cells .now) (c .pre .1 .0), f .count))
+
+cast-did : tie.Need-cast-did
+cast-did c = omega (arith, small (c .before .before .before))
+
+cast-sdid : tie.Need-cast-sdid
+cast-sdid c = omega (arith, small (c .before .before .before .before))
+
+mul-t12 : tie.Need-mul-t12
+mul-t12 c = omega (arith, small (c .before .before .before .before .before))
+
+element-copy-out-t9 : tie.Need-element-copy-out-t9
+element-copy-out-t9 c = omega (arith, small (c .before .before .before .before .before))
+
+mul-t15 : tie.Need-mul-t15
+mul-t15 c = omega (arith, small (c .before .before .before .before .before .before))
+
+element-copy-out-t18 : tie.Need-element-copy-out-t18
+element-copy-out-t18 c = omega (arith, small (c .before .before .before .before .before .before))
+
+element-copy-out-t22 : tie.Need-element-copy-out-t22
+element-copy-out-t22 c = omega (arith, small (c .before .before .before .before .before .before .before))
+
+head-is : (c : tie.Start)
+    → let l = c .args .cells .now in
+    let table = c .args .table .now in
+    getD table (getD l 5 0) 0 ∷ getD table (getD l 6 0) 0 ∷ getD table (cellCount l) 0 ∷ [] ≡ headWords (cellRecord l)
+unfolding cellRecord
+head-is c =
+    let l = c .args .cells .now in
+    let table = c .args .table .now in
+    ap (λ (n : ℕ). getD table (getD l 5 0) 0 ∷ getD table (getD l 6 0) 0 ∷ getD table n 0 ∷ []) (sym (length-words l (c .pre .1 .0)))
+    ∙ entries-are table (cellRecord l) (c .pre .0 .0) (c .pre .0 .1)
+
+write-singly-requires : tie.Need-write-singly-requires
+write-singly-requires c κs =
+    let s = c .before .before .before .before .before .before .before .before .before .before in
+    let f = s .pre .0 .1 in
+    (omega arith, subst (Below (2 ^ wordBits)) (sym (head-is s)) (header-lt _ (f .did), (header-lt _ (f .sdid), (header-lt _ (f .count), tt))))
+
+returns : tie.Need-returns
+returns c =
+    let w = c .before .before .before .before in
+    let s = w .before .before .before .before .before .before .before .before .before .before .before in
+    let o = s .args .octets .now in (
+      c .sum-cells .ensures ∙ ap sumLow (head-is s),
+      w .write-singly .ensures ∙ ap (λ (ws : List ℕ). splice (bits o) (didAt rfc8331) (fieldBits (row wordBits ws))) (head-is s),
+    )
+
+pub write-header-words-spec : {M : Type 1} → statement M
+write-header-words-spec =
+    tie.close
+    (tie.spec (λ c. search needs) cast-did (λ c. search needs) cast-sdid (λ c. search needs) (λ c. search needs) mul-t12 element-copy-out-t9 mul-t15
+    element-copy-out-t18 (λ c. search needs) element-copy-out-t22 (λ c. search needs) write-singly-requires (λ c. search needs)
+    (λ c κs. search needs) (λ c. search needs) returns)

@@ -1,0 +1,43 @@
+-- 01's records A and B in one list, as headers: a plain line, and the special values.
+-- By computation.
+use mathlib.Core.Path.{_≡_, refl}
+use mathlib.Core.Bool.{true, false}
+use mathlib.Core.List.{[], _∷_}
+use Rattle.wire.specs.Cells.{listOf, cellRecord, headInRange, cellChecks}
+use Rattle.wire.specs.Result.{accepted, refuse}
+use Rattle.wire.proofs.Examples.{a, b}
+use Rattle.record.specs.declared.location.Line.the-variants as line
+use Rattle.record.specs.declared.location.Offset.the-variants as offset
+use Rattle.record.specs.declared.header.Header.{Header}
+use Rattle.record.specs.Location.{lineOf, offsetOf}
+use Rattle.record.specs.Header.{headerAt}
+
+abbrev aHeader : Header
+aHeader =
+    record {
+      c = false;
+      location = record { line = line.Number 9; offset = offset.Number 0 };
+      s = false;
+      stream = 0;
+      did = 0x41;
+      sdid = 0x05;
+      words = record { 0 = 0 };
+    }
+
+abbrev bHeader : Header
+bHeader =
+    record {
+      c = true;
+      location = record { line = line.Unspecified; offset = offset.Unspecified };
+      s = true;
+      stream = 3;
+      did = 0x61;
+      sdid = 0x02;
+      words = record { 0 = 2 };
+    }
+
+-- A starts at cell 0 and B at cell 8; none starts at 9, nor behind the last cell
+pub headers : (headerAt (listOf (a ∷ b ∷ [])) 0 ≡ accepted aHeader) × (headerAt (listOf (a ∷ b ∷ [])) 8 ≡ accepted bHeader)
+    × (headerAt (listOf (a ∷ b ∷ [])) 9 ≡ refuse 20 0) × (headerAt (listOf (a ∷ b ∷ [])) 99 ≡ refuse 20 0)
+unfolding lineOf offsetOf cellRecord headInRange cellChecks headerAt
+headers = (refl, refl, refl, refl)

@@ -1,0 +1,26 @@
+-- What the answers say in the papers' terms: the refusal, or what was found.
+use mathlib.Core.List.{List}
+use Prim.Native.Nat.{ℕ}
+use lib.ListN.{length}
+use Rattle.wire.specs.Result.{Result, refused, accepted, judge}
+use Rattle.wire.specs.Anc.{Record}
+use Rattle.wire.specs.Cells.{cellChecks, cellRecord}
+use Rattle.record.specs.declared.check.Front.{Front}
+use Rattle.record.specs.declared.check.Front.the-variants as front
+use Rattle.record.specs.declared.header.Header.{Header}
+use Rattle.record.specs.declared.header.Found.{Found}
+use Rattle.record.specs.declared.header.Found.the-variants as found
+
+-- a record, by its n; or 20: "list malformed", the same for all of its cases
+abbrev pub frontFrom : Result Record → Front
+frontFrom (refused x) = front.Malformed
+frontFrom (accepted r) = front.Record (record { 0 = length (r .words) })
+
+-- the record at the front of the cells
+abbrev pub frontOf : List ℕ → Front
+frontOf l = frontFrom (judge 0 (cellChecks l) (accepted (cellRecord l)))
+
+-- a header, or the refusal
+abbrev pub foundOf : Result Header → Found
+foundOf (refused x) = found.Refused x
+foundOf (accepted h) = found.Header h

@@ -1,0 +1,70 @@
+// The record at the front of cells, checked (01, refusal 20).
+ghost use mathlib.Core.Path.{_≡_};
+ghost use Prim.Native.Nat.{_^_, _≤_};
+ghost use lib.ListN.{length};
+ghost use Rattle.wire.specs.Cells.{allBelow, headCells, headInRange};
+ghost use Rattle.wire.specs.Words.{wordBits};
+ghost use Rattle.record.specs.Answers.{frontOf};
+use crate::header::Header;
+use wire::count::WordCount;
+use wire::layout::FLAG_NUMBERS;
+use wire::layout::HEADER_NUMBERS;
+use wire::layout::LINE_NUMBERS;
+use wire::layout::OFFSET_NUMBERS;
+use wire::layout::STREAM_NUMBERS;
+use wire::layout::WORD_NUMBERS;
+
+// What the record at the front of a list is.
+pub enum Front {
+    Record(WordCount),
+    Malformed,
+}
+
+// Each cell before the words fits its field.
+fn head_in_range(cells: &[u16]) -> bool
+    requires { ⌜ headCells ≤ length (now cells) ⌝ }
+    ensures { λ r. ⌜ r ≡ headInRange (now (cells .entry)) ⌝ }
+{
+    (cells[0] < FLAG_NUMBERS)
+        & (cells[1] < LINE_NUMBERS)
+        & (cells[2] < OFFSET_NUMBERS)
+        & (cells[3] < FLAG_NUMBERS)
+        & (cells[4] < STREAM_NUMBERS)
+        & (cells[5] < HEADER_NUMBERS)
+        & (cells[6] < HEADER_NUMBERS)
+        & (cells[Header::COUNT_CELL] < HEADER_NUMBERS)
+}
+
+// Each word fits ten bits. It looks at all of them, so that the compiler looks at eight at once.
+fn words_in_range(words: &[u16]) -> bool
+    ensures { λ r. ⌜ r ≡ allBelow (2 ^ wordBits) (now (words .entry)) ⌝ }
+{
+    let mut fit = true;
+    let mut k: usize = 0;
+    while k < words.len() {
+        fit = fit & (words[k] < WORD_NUMBERS);
+        k += 1;
+    }
+    fit
+}
+
+// The record at the front of the cells.
+pub fn check_record(cells: &[u16]) -> Front
+    ensures { λ r. ⌜ r ≡ frontOf (now (cells .entry)) ⌝ }
+{
+    if cells.len() < Header::CELLS {
+        return Front::Malformed;
+    }
+    if !head_in_range(cells) {
+        return Front::Malformed;
+    }
+    let n = cells[Header::COUNT_CELL] as usize;
+    let end = Header::CELLS + n;
+    if cells.len() < end {
+        return Front::Malformed;
+    }
+    if !words_in_range(&cells[Header::CELLS..end]) {
+        return Front::Malformed;
+    }
+    Front::Record(WordCount(n as u8))
+}

@@ -1,0 +1,38 @@
+-- What the entry point `read` returns and leaves, and what that says of a packet (demand 2: "the records are the ones they define").
+use mathlib.Core.Path.{_≡_}
+use mathlib.Core.List.{List}
+use Prim.Native.Nat.{ℕ, _+_, _*_, _≤_}
+use lib.ListN.{length}
+use Rattle.wire.specs.Bits.{bit}
+use Rattle.wire.specs.Layout.{rfc8331}
+use Rattle.wire.specs.Cells.{listOf}
+use Rattle.wire.specs.Packet.{Packet, WellFormedPacket, packetOctets, readInto}
+use Rattle.rtp.specs.declared.packet.Summary.{Summary}
+use Rattle.rtp.specs.declared.packet.Read.{Read}
+use Rattle.rtp.specs.Answers.{readOf, cellsAfter}
+
+-- what `read` returns for these octets and this lent list
+abbrev pub readReturns : (octets cells : List ℕ) → Read
+readReturns s cells = readOf (readInto rfc8331 s (length cells))
+
+-- what the lent list then holds
+abbrev pub readLeaves : (octets cells : List ℕ) → List ℕ
+readLeaves s cells = cellsAfter (readInto rfc8331 s (length cells)) cells
+
+-- what is returned is the packet's own, value by value
+pub record Says (k : Packet) (m : Summary) : Type 0 where
+  pub source : m .head .source ≡ k .source
+  pub type : m .head .«payload_type» ≡ k .type
+  pub marker : bit (m .head .marker) ≡ k .marker
+  pub number : m .head .number .0 ≡ k .extended * 65536 + k .sequence
+  pub timestamp : m .head .timestamp .0 ≡ k .timestamp
+  pub f : m .head .f ≡ k .f
+  pub records : m .records ≡ length (k .records)
+  pub cells : m .cells ≡ length (listOf (k .records))
+
+-- the octets are those of a well-formed packet that says this, and its records fit the lent list
+pub record Holds (octets cells : List ℕ) (k : Packet) (m : Summary) : Type 0 where
+  pub formed : WellFormedPacket rfc8331 k
+  pub octets-are : octets ≡ packetOctets rfc8331 k
+  pub says : Says k m
+  pub fits : length (listOf (k .records)) ≤ length cells
