@@ -1,11 +1,15 @@
 // Packets checked, without writing anything (01, "Order of reading").
 ghost use mathlib.Core.Path.{_≡_};
-ghost use Prim.Native.Nat.{_≤_};
+ghost use mathlib.Core.List.{_++_};
+ghost use Prim.Native.Nat.{_+_, _*_, _<_, _^_, _≤_};
 ghost use lib.ListN.{length};
-ghost use Rattle.wire.specs.Anc.{alignmentOk, ancSize, checksumOk, dataCount, headersOk, readAnc, readRun};
-ghost use Rattle.wire.specs.Layout.{leastSize, rfc8331};
-ghost use Rattle.wire.specs.Words.{HeaderTable, isHeaderWord};
+ghost use Rattle.wire.specs.Anc.{ancSize, areHeaderWords, dataCount, readAnc, readRun};
+ghost use Rattle.wire.specs.Bits.{rowAt};
+ghost use Rattle.wire.specs.Layout.{rfc8331};
+ghost use Rattle.wire.specs.Words.{HeaderTable, isHeaderWord, sumLow, wordBits};
+ghost use Rattle.words.specs.Word.{WordsFit};
 ghost use Rattle.anc.specs.Answers.{runOf, runRefusal, verdictOf};
+ghost use Rattle.anc.specs.Tests.{checksumAt, readAncContent, zeroBits};
 use record::header::Header;
 use rows::sum::sum_octets;
 use wire::count::OctetCount;
@@ -15,7 +19,6 @@ use wire::layout::DID_AT;
 use wire::layout::FIXED_BITS;
 use wire::layout::HEADER_NUMBERS;
 use wire::layout::LEAST_SIZE;
-use wire::layout::SDID_AT;
 use wire::layout::WORD_BITS;
 use wire::layout::WORDS_AT;
 use wire::refusal::Refusal;
@@ -46,37 +49,48 @@ fn is_header_word(w: u16, table: &[u16; 256]) -> bool
     w == table[x]
 }
 
-// DID, SDID and Data_Count.
-fn header_words_ok(octets: &[u8], table: &[u16; 256]) -> bool
-    requires { ⌜ HeaderTable (now table) × (leastSize rfc8331 ≤ length (now octets)) ⌝ }
-    ensures { λ r. ⌜ r ≡ headersOk rfc8331 (now (octets .entry)) ⌝ }
+// The three words from the bit `at` on: DID, SDID and Data_Count.
+fn header_words_ok(octets: &[u8], at: usize, table: &[u16; 256]) -> bool
+    requires { ⌜ HeaderTable (now table) × WordsFit (now octets) at 3 ⌝ }
+    ensures { λ r. ⌜ r ≡ areHeaderWords (rowAt wordBits (now (octets .entry)) at 3) ⌝ }
 {
-    if !is_header_word(fetch(octets, DID_AT), table) {
+    if !is_header_word(fetch(octets, at), table) {
         return false;
     }
-    if !is_header_word(fetch(octets, SDID_AT), table) {
+    if !is_header_word(fetch(octets, at + WORD_BITS), table) {
         return false;
     }
-    is_header_word(fetch(octets, DATA_COUNT_AT), table)
+    is_header_word(fetch(octets, at + 2 * WORD_BITS), table)
 }
 
-fn checksum_ok(octets: &[u8], words: WordCount) -> bool
-    requires { ⌜ (dataCount rfc8331 (now octets) ≡ words .0) × (ancSize rfc8331 (words .0) ≤ length (now octets)) ⌝ }
-    ensures { λ r. ⌜ r ≡ checksumOk rfc8331 (now (octets .entry)) ⌝ }
+// The sum of the low nine bits of the three words from the bit `did` on and of `n` from the bit `words` on: one row where these stand right
+// behind those.
+fn sum_with_header(octets: &[u8], did: usize, words: usize, n: usize) -> u32
+    requires { ⌜ WordsFit (now octets) did 3 × WordsFit (now octets) words n ⌝ }
+    ensures { λ r. ⌜ r ≡ sumLow (rowAt wordBits (now (octets .entry)) did 3 ++ rowAt wordBits (now (octets .entry)) words n) ⌝ }
 {
-    let n = words.0 as usize;
-    let sum = sum_octets(octets, DID_AT, 3 + n);
-    fetch(octets, WORDS_AT + WORD_BITS * n) == checksum_word(sum)
+    if words == did + 3 * WORD_BITS {
+        return sum_octets(octets, did, 3 + n);
+    }
+    sum_octets(octets, did, 3) + sum_octets(octets, words, n)
 }
 
-// The alignment bits stand last in the packet's last four octets.
-fn alignment_ok(octets: &[u8], words: WordCount) -> bool
-    requires { ⌜ (dataCount rfc8331 (now octets) ≡ words .0) × (ancSize rfc8331 (words .0) ≤ length (now octets)) ⌝ }
-    ensures { λ r. ⌜ r ≡ alignmentOk rfc8331 (now (octets .entry)) ⌝ }
+// The word behind the `n` from the bit `words` on, over these and the three from the bit `did` on.
+fn checksum_ok(octets: &[u8], did: usize, words: usize, n: usize) -> bool
+    requires { ⌜ WordsFit (now octets) did 3 × WordsFit (now octets) words (n + 1) ⌝ }
+    ensures { λ r. ⌜ r ≡ checksumAt (now (octets .entry)) did words n ⌝ }
 {
-    let size = packet_size(words);
-    let n = words.0 as usize;
-    let unit: u32 = 1 << (8 * size.0 - (FIXED_BITS + WORD_BITS * n));
+    let sum = sum_with_header(octets, did, words, n);
+    fetch(octets, words + WORD_BITS * n) == checksum_word(sum)
+}
+
+// The bits behind the first `body` are zero. They stand last in the last four of the `size` octets.
+fn alignment_ok(octets: &[u8], body: usize, size: OctetCount) -> bool
+    requires { ⌜ (4 ≤ size .0) × (size .0 ≤ length (now octets)) × (8 * size .0 < 2 ^ 64) ⌝ }
+    requires { ⌜ (body ≤ 8 * size .0) × (8 * size .0 < body + 32) ⌝ }
+    ensures { λ r. ⌜ r ≡ zeroBits (now (octets .entry)) body (8 * size .0) ⌝ }
+{
+    let unit: u32 = 1 << (8 * size.0 - body);
     quad_at(octets, size.0 - 4) % unit == 0
 }
 
@@ -106,7 +120,22 @@ impl Verdict {
     }
 }
 
-// The packet at the front of the octets, the run's packet `index`.
+// 11 and 12 of the packet at the front of the octets, which is all there.
+fn check_content(octets: &[u8], words: WordCount, size: OctetCount, index: usize) -> Verdict
+    requires { ⌜ (dataCount rfc8331 (now octets) ≡ words .0) × (size .0 ≡ ancSize rfc8331 (words .0)) × (size .0 ≤ length (now octets)) ⌝ }
+    ensures { λ r. ⌜ r ≡ verdictOf (readAncContent index (now (octets .entry))) ⌝ }
+{
+    let n = words.0 as usize;
+    if !checksum_ok(octets, DID_AT, WORDS_AT, n) {
+        return Verdict::refuse(Refusal::CHECKSUM_WRONG, index);
+    }
+    if !alignment_ok(octets, FIXED_BITS + WORD_BITS * n, size) {
+        return Verdict::refuse(Refusal::ALIGNMENT_BIT_SET, index);
+    }
+    Verdict::Accepted(words)
+}
+
+// The packet at the front of the octets, the run's packet `index`: 9, 10, 9, and its content.
 fn check_packet(octets: &[u8], index: usize, table: &[u16; 256]) -> Verdict
     requires { ⌜ HeaderTable (now table) ⌝ }
     ensures { λ r. ⌜ r ≡ verdictOf (readAnc rfc8331 index (now (octets .entry))) ⌝ }
@@ -114,7 +143,7 @@ fn check_packet(octets: &[u8], index: usize, table: &[u16; 256]) -> Verdict
     if octets.len() < LEAST_SIZE {
         return Verdict::refuse(Refusal::ANC_CUT, index);
     }
-    if !header_words_ok(octets, table) {
+    if !header_words_ok(octets, DID_AT, table) {
         return Verdict::refuse(Refusal::HEADER_WORD_MALFORMED, index);
     }
     let words = WordCount((fetch(octets, DATA_COUNT_AT) % HEADER_NUMBERS) as u8);
@@ -122,13 +151,7 @@ fn check_packet(octets: &[u8], index: usize, table: &[u16; 256]) -> Verdict
     if octets.len() < size.0 {
         return Verdict::refuse(Refusal::ANC_CUT, index);
     }
-    if !checksum_ok(octets, words) {
-        return Verdict::refuse(Refusal::CHECKSUM_WRONG, index);
-    }
-    if !alignment_ok(octets, words) {
-        return Verdict::refuse(Refusal::ALIGNMENT_BIT_SET, index);
-    }
-    Verdict::Accepted(words)
+    check_content(octets, words, size, index)
 }
 
 // `count` packets at the front of the octets.

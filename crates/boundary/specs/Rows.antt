@@ -14,11 +14,11 @@ use Rattle.rtp.specs.declared.packet.Read.{Read}
 use Rattle.rtp.specs.declared.packet.Read.the-variants as read
 use Rattle.wire.specs.declared.written.Written.{Written}
 use Rattle.wire.specs.declared.written.Written.the-variants as written
-use Rattle.depacketizer.specs.declared.state.Answer.{Answer}
-use Rattle.depacketizer.specs.declared.state.Answer.the-variants as answer
-use Rattle.depacketizer.specs.declared.state.Field.{Field}
-use Rattle.fmtp.specs.declared.read.Reading.{Reading}
-use Rattle.fmtp.specs.declared.read.Reading.the-variants as reading
+use Rattle.stream.specs.declared.state.Answer.{Answer}
+use Rattle.stream.specs.declared.state.Answer.the-variants as answer
+use Rattle.stream.specs.declared.state.Field.{Field}
+use Rattle.fmtp.specs.declared.Reading.{Reading}
+use Rattle.fmtp.specs.declared.Reading.the-variants as reading
 use Rattle.fieldfile.specs.declared.field.Summary.{Summary as FieldSummary}
 use Rattle.fieldfile.specs.declared.field.FieldRead.{FieldRead}
 use Rattle.fieldfile.specs.declared.field.FieldRead.the-variants as fieldRead
@@ -26,10 +26,6 @@ use Rattle.fieldfile.specs.declared.field.FieldRead.the-variants as fieldRead
 -- numbers that an answer needs
 abbrev pub answerSize : ℕ
 answerSize = 8
-
--- numbers that a state needs
-abbrev pub stateSize : ℕ
-stateSize = 12
 
 -- the number that refuses a shorter row
 abbrev pub rowTooShort : ℕ

@@ -5,18 +5,18 @@ ghost use lib.ListN.{length};
 ghost use Rattle.wire.specs.Bits.{overwrite};
 ghost use Rattle.boundary.specs.Rows.{answerSize, arrivalReply, codeOr0, fieldReply, fieldRow, hasCode, kindReply, packetReply, parametersReply, parametersRow, sizeReply, summaryRow, wholeRow, writtenReply};
 use crate::row::ACCEPTED;
-use crate::row::flag;
-use crate::row::put;
 use crate::row::refuse;
-use depacketizer::state::Answer;
-use depacketizer::state::Field;
 use fieldfile::field::FieldRead;
 use fieldfile::field::Summary as FieldSummary;
-use fmtp::read::Reading;
+use fmtp::Reading;
 use rtp::packet::Read;
 use rtp::packet::Summary;
 use sdp::parameters::Parameters;
 use sdp::parameters::Vpid;
+use state_row::row::flag;
+use state_row::row::put;
+use stream::state::Answer;
+use stream::state::Field;
 use wire::written::Written;
 
 // What became of an arrival, as the first number of its answer.

@@ -1,4 +1,3 @@
-// What the C boundary passes as rows of numbers: what a call returns, and a depacketizer's state.
+// What a call of the C boundary returns, as a row of numbers.
 pub mod answer;
 pub mod row;
-pub mod state;

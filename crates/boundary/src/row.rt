@@ -1,25 +1,14 @@
-// Rows of numbers that a caller lends for what a call returns. What writes to one asks that it is long enough.
+// A refusal in the row that a caller lends for what a call returns. It asks that the row is long enough.
 ghost use mathlib.Core.Path.{_≡_};
 ghost use Prim.Native.Nat.{_≤_};
 ghost use lib.ListN.{length};
-ghost use Rattle.wire.specs.Bits.{bit, overwrite};
+ghost use Rattle.wire.specs.Bits.{overwrite};
 ghost use Rattle.boundary.specs.Rows.{answerSize, refusedReply};
+use state_row::row::put;
 use wire::refusal::Refusal;
 
 // The number of a call that is accepted.
 pub const ACCEPTED: u8 = 0;
-
-// Writes all values to the first numbers of a row.
-pub fn put(values: &[u64], row: &mut [u64])
-    requires { ⌜ length (now values) ≤ length (now row) ⌝ }
-    ensures { λ r. ⌜ now (row .exit) ≡ overwrite (now (values .entry)) (now (row .entry)) ⌝ }
-{
-    let mut k: usize = 0;
-    while k < values.len() {
-        row[k] = values[k];
-        k += 1;
-    }
-}
 
 // Gives a refusal: its index is the row's first number.
 pub fn refuse(refusal: Refusal, answer: &mut [u64]) -> u8
@@ -30,11 +19,4 @@ pub fn refuse(refusal: Refusal, answer: &mut [u64]) -> u8
     let values = [refusal.index as u64];
     put(&values, answer);
     refusal.number
-}
-
-// 1 for true and 0 for false.
-pub fn flag(b: bool) -> u64
-    ensures { λ r. ⌜ r ≡ bit b ⌝ }
-{
-    if b { 1 } else { 0 }
 }

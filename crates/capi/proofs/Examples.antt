@@ -3,10 +3,10 @@
 use mathlib.Core.Path.{_≡_, refl}
 use mathlib.Core.List.{[], _∷_}
 use lib.ListN.{replicate}
-use Rattle.depacketizer.specs.Step.{openState}
+use Rattle.stream.specs.Step.{openState}
 use Rattle.sdp.specs.declared.parameters.Vpid.the-variants as vpid
-use Rattle.boundary.specs.declared.state.Restored.the-variants as restored
-use Rattle.boundary.specs.State.{isState, stateIn}
+use Rattle.state_row.specs.declared.state.Restored.the-variants as restored
+use Rattle.state_row.specs.State.{isState, stateIn}
 use Rattle.capi.specs.Calls.{arrive, openNumbers, openReply, readReply, vpidOf}
 
 -- an answer of seven numbers, and a state of eleven

@@ -6,16 +6,17 @@ use mathlib.Core.List.{List, []}
 use Prim.Native.Nat.{ℕ, _≤_}
 use lib.ListN.{length}
 use Rattle.wire.specs.Bits.{overwrite}
-use Rattle.depacketizer.specs.declared.state.Answer.{Answer}
-use Rattle.depacketizer.specs.declared.state.Answer.the-variants as answer
-use Rattle.depacketizer.specs.Step.{Step, step}
-use Rattle.depacketizer.proofs.StepLaws.{refused-keeps}
-use Rattle.boundary.specs.declared.state.Restored.the-variants as restored
-use Rattle.boundary.specs.Rows.{arrivalReply, rowReply, stateSize}
-use Rattle.boundary.specs.State.{isState, numbersOf, stateAt, stateIn}
+use Rattle.stream.specs.declared.state.Answer.{Answer}
+use Rattle.stream.specs.declared.state.Answer.the-variants as answer
+use Rattle.stream.specs.Step.{Step, step}
+use Rattle.stream.proofs.StepLaws.{refused-keeps}
+use Rattle.state_row.specs.declared.state.Restored.the-variants as restored
+use Rattle.boundary.specs.Rows.{arrivalReply, rowReply}
+use Rattle.state_row.specs.State.{stateSize}
+use Rattle.state_row.specs.State.{isState, numbersOf, stateAt, stateIn}
 use Rattle.capi.specs.Calls.{Arrived, arrive, arrivedAt, rowsFit}
 use Rattle.capi.proofs.RowLaws.{rows-long}
-use Rattle.boundary.proofs.StateLaws.{row-again}
+use Rattle.state_row.proofs.StateLaws.{row-again}
 
 module _ (state octets store given : List ℕ) where
   -- what an arrival that is refused by a number other than 32 leaves alone

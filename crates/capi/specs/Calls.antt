@@ -14,19 +14,21 @@ use Rattle.rtp.specs.Answers as rtp
 use Rattle.packetizer.specs.Answers as packetizer
 use Rattle.depacketizer.specs.declared.state.Opened.{Opened}
 use Rattle.depacketizer.specs.declared.state.Opened.the-variants as opened
-use Rattle.depacketizer.specs.Step.{Step, step, openOf}
+use Rattle.depacketizer.specs.Answers.{openedOf}
+use Rattle.stream.specs.Step.{Step, step, openOf}
 use Rattle.sdp.specs.declared.parameters.Vpid.{Vpid}
 use Rattle.sdp.specs.declared.parameters.Vpid.the-variants as vpid
 use Rattle.sdp.specs.Text.{maxCode}
 use Rattle.sdp.specs.Reading as reading
 use Rattle.sdp.specs.Writing.{writeText}
 use Rattle.fmtp.specs.Answers as fmtp
-use Rattle.fieldfile.specs.File as file
+use Rattle.anf.specs.File as file
 use Rattle.fieldfile.specs.Answers as field
-use Rattle.boundary.specs.declared.state.Restored.{Restored}
-use Rattle.boundary.specs.declared.state.Restored.the-variants as restored
-use Rattle.boundary.specs.Rows.{Reply, refusedReply, acceptedReply, rowReply, packetReply, writtenReply, arrivalReply, parametersReply, fieldReply, given, answerSize, stateSize}
-use Rattle.boundary.specs.State.{numbersOf, stateIn}
+use Rattle.state_row.specs.declared.state.Restored.{Restored}
+use Rattle.state_row.specs.declared.state.Restored.the-variants as restored
+use Rattle.boundary.specs.Rows.{Reply, refusedReply, acceptedReply, rowReply, packetReply, writtenReply, arrivalReply, parametersReply, fieldReply, given, answerSize}
+use Rattle.state_row.specs.State.{stateSize}
+use Rattle.state_row.specs.State.{numbersOf, stateIn}
 
 -- `jibhotran_read`: its reply
 abbrev pub readReply : (octets cells answer : List ℕ) → Reply
@@ -67,29 +69,29 @@ givenBoth state answer x y = cond (rowsFit (length state) (length answer)) x y
 -- opened: nothing in the answer
 abbrev pub openedReply : Opened → Reply
 openedReply (opened.Refused x) = refusedReply x
-openedReply (opened.Open s) = acceptedReply []
+openedReply (opened.Open d) = acceptedReply []
 
 -- opened: the numbers of the state
 abbrev pub openedNumbers : Opened → List ℕ
 openedNumbers (opened.Refused x) = []
-openedNumbers (opened.Open s) = numbersOf s
+openedNumbers (opened.Open d) = numbersOf (d .state)
 
 -- opened: the state in the row, where another stood before
 abbrev pub openedIn : Opened → Restored → Restored
 openedIn (opened.Refused x) old = old
-openedIn (opened.Open s) old = restored.State s
+openedIn (opened.Open d) old = restored.State (d .state)
 
 -- `jibhotran_open`: its reply
 abbrev pub openReply : (source type : ℕ) → (state answer : List ℕ) → Reply
-openReply source type state answer = givenBoth state answer (openedReply (openOf source type)) rowReply
+openReply source type state answer = givenBoth state answer (openedReply (openedOf (openOf source type))) rowReply
 
 -- the numbers that it writes to the state's row
 abbrev pub openNumbers : (source type : ℕ) → (state answer : List ℕ) → List ℕ
-openNumbers source type state answer = givenBoth state answer (openedNumbers (openOf source type)) []
+openNumbers source type state answer = givenBoth state answer (openedNumbers (openedOf (openOf source type))) []
 
 -- the state that then stands in the row
 abbrev pub stateOpened : (source type : ℕ) → (state answer : List ℕ) → Restored
-stateOpened source type state answer = givenBoth state answer (openedIn (openOf source type) (stateIn state)) (stateIn state)
+stateOpened source type state answer = givenBoth state answer (openedIn (openedOf (openOf source type)) (stateIn state)) (stateIn state)
 
 -- what an arrival gives: the reply, the numbers that it writes to the state's row, and the store
 pub record Arrived : Type 0 where

@@ -2,8 +2,8 @@
 //
 // A call returns 0 or a refusal's number; what it returns beside that goes to the caller's row of numbers, `answer`.
 // The crate `boundary` has the rows; the modules here have the calls.
+pub mod arrival;
 pub mod file;
 mod length;
 pub mod packet;
 pub mod parameters;
-pub mod stream;

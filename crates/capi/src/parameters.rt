@@ -20,7 +20,7 @@ pub extern "C" fn jibhotran_sdp_read(text: &[u8], pairs: &mut [u8], answer: &mut
     if answer.len() < ANSWER_SIZE {
         return ROW_TOO_SHORT;
     }
-    let reading = fmtp::read::read(text, pairs);
+    let reading = fmtp::read(text, pairs);
     reply_reading(reading, answer)
 }
 
@@ -50,7 +50,7 @@ pub extern "C" fn jibhotran_sdp_write(
     if answer.len() < ANSWER_SIZE {
         return ROW_TOO_SHORT;
     }
-    let written = fmtp::write::write(pairs, vpid_of(vpid), out);
+    let written = fmtp_writer::write(pairs, vpid_of(vpid), out);
     reply_written(written, answer)
 }
 

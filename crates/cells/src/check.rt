@@ -1,5 +1,7 @@
 // A list checked and measured, without writing anything (01, refusal 20).
 ghost use mathlib.Core.Path.{_≡_};
+ghost use Prim.Native.Nat.{_+_};
+ghost use lib.Dec.{leb};
 ghost use Rattle.wire.specs.Cells.{readList};
 ghost use Rattle.cells.specs.Answers.{listRefusal, listedOf};
 use record::check::Front;
@@ -17,6 +19,13 @@ pub enum Listed {
 }
 
 impl Listed {
+    // A refusal of the whole list.
+    pub fn refuse(number: u8) -> Listed
+        ensures { λ r. ⌜ r ≡ Listed.Refused (record { number = number; index = 0 }) ⌝ }
+    {
+        Listed::Refused(Refusal { number, index: 0 })
+    }
+
     // The refusal of a list.
     pub fn refusal(self) -> Refusal
         ensures { λ r. ⌜ r ≡ listRefusal self ⌝ }
@@ -60,4 +69,14 @@ pub fn check_list(cells: &[u16]) -> Listed
         count += 1;
     }
     Listed::Records { count, octets }
+}
+
+// So many octets behind `front` others are at most `most`.
+pub fn fits_behind(front: usize, octets: OctetCount, most: usize) -> bool
+    ensures { λ r. ⌜ r ≡ leb (front + octets .0) most ⌝ }
+{
+    if most < front {
+        return false;
+    }
+    octets.0 <= most - front
 }

@@ -1,23 +1,19 @@
--- What lets an arrival pass, and what then is done: one step, from what was found of the arrival.
+-- What lets an arrival pass, and where its packet stands, from what was found of it.
 -- By cases on the tests, in their order.
 use mathlib.Core.Path.{_≡_, refl, ap, _∙_}
 use mathlib.Core.Bool.{Bool, true, false, cond}
 use mathlib.Core.List.{List, [], _∷_}
 use Prim.Native.Nat.{ℕ}
 use native.Mathlib.Omega.{arith}
-use lib.ListN.{length}
 use Rattle.wire.specs.declared.refusal.Refusal.{Refusal}
 use Rattle.wire.specs.Layout.{rfc8331}
 use Rattle.wire.specs.Result.{Result, refused, accepted, refuse, Checks, judge}
 use Rattle.wire.specs.Packet.{Content, readContent}
-use Rattle.wire.proofs.ResultLaws.{then-accepts, judge-accepts}
-use Rattle.rtp.specs.Answers.{headOf}
 use Rattle.depacketizer.specs.declared.admit.Stage.{Stage}
 use Rattle.depacketizer.specs.declared.admit.Stage.the-variants as stage
-use Rattle.depacketizer.specs.declared.state.Depacketizer.{Depacketizer as State}
-use Rattle.depacketizer.specs.declared.state.Answer.the-variants as answer
+use Rattle.stream.specs.declared.state.State.{State}
 use Rattle.depacketizer.specs.declared.distance.Freshness.the-variants as freshness
-use Rattle.depacketizer.specs.Step.{Class, late, next, gap, classify, distance, lost, gathered, step, sound, openedChecks, admission, admit, admittedStep, packetStep, classStep, freshStep, lateStep}
+use Rattle.stream.specs.Step.{Class, late, next, gap, classify, distance, lost, gathered, sound, openedChecks, admission, admit, packetStep, classStep, freshStep, lateStep}
 use Rattle.depacketizer.specs.Answers.{stageOf, freshnessOf}
 
 -- what follows a stage: a refusal goes straight out
@@ -52,30 +48,12 @@ module _ (st : State) (room : ℕ) (s : List ℕ) where
     pub unread : (x : Refusal) → readContent rfc8331 s ≡ refused x → admission st room s ≡ refused x
     unread x r = told stage.Passed e ∙ rw r
 
-    pub read : (k : Content) (y : Stage) → readContent rfc8331 s ≡ accepted k → stageOf (openedChecks (st .source) (st .«payload_type») (headOf k)) ≡ y
+    pub read : (k : Content) (y : Stage) → readContent rfc8331 s ≡ accepted k → stageOf (openedChecks (st .source) (st .«payload_type») (k .source) (k .type)) ≡ y
         → admission st room s ≡ passing y refused (accepted k)
     read k y r a =
         told stage.Passed e
         ∙ rw r
-        (judge-stage (openedChecks (st .source) (st .«payload_type») (headOf k)) (accepted k) ∙ ap (λ (z : Stage). passing z refused (accepted k)) a)
-
-  -- what an admitted packet has passed
-  pub passed : (k : Content) → admission st room s ≡ accepted k → (sound st room ≡ true) × (readContent rfc8331 s ≡ accepted k)
-  passed k h =
-      let p = judge-accepts 0 ((sound st room, 35) ∷ []) (admit (st .source) (st .«payload_type») s) k h in
-      let a = then-accepts (readContent rfc8331 s) _ k (p .1) in
-      let b = judge-accepts 0 (openedChecks (st .source) (st .«payload_type») (headOf (a .0))) (accepted (a .0)) k (a .2) in
-      (p .0 .0, a .1 ∙ b .1)
-
--- the step of what is refused, and of what is admitted
-module _ (st : State) (s store : List ℕ) where
-  pub step-refused : (x : Refusal) → admission st (length store) s ≡ refused x → step st s store ≡ record { answer = answer.Refused x; state = st; store = store }
-  unfolding step
-  step-refused x h = ap (λ (r : Result Content). admittedStep st r store) h
-
-  pub step-admitted : (k : Content) → admission st (length store) s ≡ accepted k → step st s store ≡ packetStep (st .heard) st k store
-  unfolding step
-  step-admitted k h = ap (λ (r : Result Content). admittedStep st r store) h
+        (judge-stage (openedChecks (st .source) (st .«payload_type») (k .source) (k .type)) (accepted k) ∙ ap (λ (z : Stage). passing z refused (accepted k)) a)
 
 -- where a packet stands, late or fresh
 module _ (st : State) (k : Content) (store : List ℕ) where

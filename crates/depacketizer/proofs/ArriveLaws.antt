@@ -10,50 +10,51 @@ use Rattle.wire.specs.Bits.{splice}
 use Rattle.wire.specs.Result.{accepted}
 use Rattle.wire.specs.Cells.{listOf}
 use Rattle.wire.specs.Packet.{Content}
-use Rattle.rtp.specs.Answers.{checkedOf, summaryOf}
+use Rattle.rtp.specs.Answers.{checkedOf}
 use Rattle.rtp.specs.declared.packet.Checked.{Checked}
 use Rattle.rtp.specs.declared.packet.Checked.the-variants as checked
 use Rattle.rtp.proofs.ReadLaws.{refused-is}
-use Rattle.depacketizer.specs.declared.state.Answer.the-variants as answer
-use Rattle.depacketizer.specs.declared.state.Depacketizer.{Depacketizer as State}
+use Rattle.stream.specs.declared.state.State.{State}
 use Rattle.depacketizer.specs.declared.decide.Decision.{Decision}
 use Rattle.depacketizer.specs.declared.distance.Freshness.the-variants as freshness
-use Rattle.depacketizer.specs.Step.{Gathered, lost, gathered, gatheredCells, Gather, follow, decisionOf, after, appended, classify, distance, admission, step}
-use Rattle.depacketizer.specs.Answers.{freshnessOf}
-use Rattle.depacketizer.proofs.AdmitLaws.{passed, step-refused, step-admitted, packet-fresh}
-use Rattle.depacketizer.proofs.DecideLaws.{follow-room, sound-is, appended-at}
+use Rattle.stream.specs.Step.{Gathered, lost, gathered, gatheredCells, Gather, carried, follow, appended, classify, distance, admission, step}
+use Rattle.depacketizer.specs.Answers.{freshnessOf, decisionOf, afterOf}
+use Rattle.stream.proofs.FitLaws.{follow-room}
+use Rattle.stream.proofs.StepLaws.{unchanged, passed, step-refused, step-admitted}
+use Rattle.depacketizer.proofs.AdmitLaws.{packet-fresh}
+use Rattle.depacketizer.proofs.DecideLaws.{sound-is, appended-at}
 
 -- the step of an arrival that the check before it refused
 pub refused-step : (st : State) (s store : List ℕ) (x : Refusal) (r : Checked) → r ≡ checkedOf s (admission st (length store) s) → r ≡ checked.Refused x
-    → step st s store ≡ record { answer = answer.Refused x; state = st; store = store }
+    → step st s store ≡ unchanged st store x
 refused-step st s store x r a t = step-refused st s store x (refused-is s (admission st (length store) s) x (sym a ∙ t))
 
 module _ (st : State) (s store : List ℕ) (k : Content) (h : admission st (length store) s ≡ accepted k) (m : ℕ) (n : Bool)
     (p : freshnessOf (st .heard) (classify (distance (st .last .0) (k .number))) ≡ freshness.Fresh m n) (d : Decision)
-    (e : d ≡ decisionOf (follow (cond n (gathered st) lost) (summaryOf k) (length store))) where
+    (e : d ≡ decisionOf (follow (cond n (gathered st) lost) (carried k) (length store))) where
   abbrev found : Gathered
   found = cond n (gathered st) lost
 
   abbrev x : Gather
-  x = follow found (summaryOf k) (length store)
+  x = follow found (carried k) (length store)
 
   -- where its cells are appended, if they are
   at : x .append ≡ true → gatheredCells found ≡ st .cells
-  at = appended-at st (length store) n (summaryOf k) (sound-is st (length store) (passed st (length store) s k h .0))
+  at = appended-at st (length store) n (carried k) (sound-is st (length store) (passed st (length store) s k h .0))
 
   same-store : (b : Bool) → x .append ≡ b → appended b found k store ≡ cond b (splice store (st .cells) (listOf (k .records))) store
   same-store true t = ap (λ (c : ℕ). splice store c (listOf (k .records))) (at t)
   same-store false t = refl
 
   pub fresh-step : step st s store
-      ≡ record { answer = d .answer; state = after st (k .number) d m; store = cond (d .append) (splice store (st .cells) (listOf (k .records))) store }
+      ≡ record { answer = d .answer; state = afterOf st (k .number) d m; store = cond (d .append) (splice store (st .cells) (listOf (k .records))) store }
   fresh-step =
       step-admitted st s store k h ∙ packet-fresh st k store m n (st .heard) p
-      ∙ (λ i. record { answer = x .answer; state = after st (k .number) (decisionOf x) m; store = same-store (x .append) refl i })
-      ∙ λ i. record { answer = sym e i .answer; state = after st (k .number) (sym e i) m; store = cond (sym e i .append) (splice store (st .cells) (listOf (k .records))) store }
+      ∙ (λ i. record { answer = x .answer; state = afterOf st (k .number) (decisionOf x) m; store = same-store (x .append) refl i })
+      ∙ λ i. record { answer = sym e i .answer; state = afterOf st (k .number) (sym e i) m; store = cond (sym e i .append) (splice store (st .cells) (listOf (k .records))) store }
 
   -- appended cells have room behind those that the state has
   pub fresh-room : d .append ≡ true → st .cells + length (listOf (k .records)) ≤ length store
   fresh-room t =
       let a : x .append ≡ true = ap (λ (y : Decision). y .append) (sym e) ∙ t in
-      subst (λ (c : ℕ). c + length (listOf (k .records)) ≤ length store) (at a) (follow-room found (summaryOf k) (length store) a)
+      subst (λ (c : ℕ). c + length (listOf (k .records)) ≤ length store) (at a) (follow-room found (carried k) (length store) a)

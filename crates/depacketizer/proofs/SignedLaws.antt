@@ -10,7 +10,7 @@ use mir.Val.{toZ, ofZ, SFits}
 use mir.Syntax.{w32, w64}
 use mir.Facts.{toZ-ofZ}
 use borrow.Author.Tests.{lt-ltb, le-ltb, lt-leb}
-use Rattle.depacketizer.specs.Step.{distance, signed, classify, late, next, gap}
+use Rattle.stream.specs.Step.{distance, signed, classify, late, next, gap}
 
 -- the wrapped difference is the distance
 pub distance-of : (d last number : ℕ) → d < 2 ^ 32 → last < 2 ^ 32 → (d + last) % 2 ^ 32 ≡ number → distance last number ≡ signed d

@@ -1,14 +1,20 @@
--- What the code returns: a stage, from checks; late or fresh, from a class; an arrival, from a step.
+-- What the code returns: a stage, from checks; late or fresh, from a class; a decision, from what is gathered; an arrival, from a step.
 use mathlib.Core.Bool.{Bool, true, false, cond}
 use mathlib.Core.List.{[], _∷_}
+use Prim.Native.Nat.{ℕ}
 use Rattle.wire.specs.declared.refusal.Refusal.{Refusal}
-use Rattle.wire.specs.Result.{noRefusal, Checks}
+use Rattle.wire.specs.Result.{Result, refused, accepted, noRefusal, Checks}
+use Rattle.rtp.specs.declared.packet.Summary.{Summary}
+use Rattle.stream.specs.declared.state.State.{State}
+use Rattle.stream.specs.Step.{Class, late, next, gap, phaseOf, timestampOf, fOf, gatheredRecords, gatheredCells, Carried, Gather, Step, afterWith}
 use Rattle.depacketizer.specs.declared.admit.Stage.{Stage}
 use Rattle.depacketizer.specs.declared.admit.Stage.the-variants as stage
+use Rattle.depacketizer.specs.declared.decide.Decision.{Decision}
 use Rattle.depacketizer.specs.declared.distance.Freshness.{Freshness}
 use Rattle.depacketizer.specs.declared.distance.Freshness.the-variants as freshness
 use Rattle.depacketizer.specs.declared.state.Arrival.{Arrival}
-use Rattle.depacketizer.specs.Step.{Step, Class, late, next, gap}
+use Rattle.depacketizer.specs.declared.state.Opened.{Opened}
+use Rattle.depacketizer.specs.declared.state.Opened.the-variants as opened
 
 -- "An arrival passes 35, then 1 to 13, then 30, 31, 32": the first check that fails refuses it
 abbrev pub stageOf : Checks → Stage
@@ -27,6 +33,39 @@ freshnessOf true late = freshness.Late
 freshnessOf true next = freshness.Fresh 0 true
 freshnessOf true (gap n) = freshness.Fresh n false
 
+-- what a packet with this summary brings to a field
+abbrev pub carriedBy : Summary → Carried
+carriedBy s =
+    record {
+      marked = s .head .marker;
+      timestamp = s .head .timestamp .0;
+      f = s .head .f;
+      records = s .records;
+      cells = s .cells;
+    }
+
+-- what a fresh packet does, with what is then gathered flat, as a state has it
+abbrev pub decisionOf : Gather → Decision
+decisionOf x =
+    record {
+      answer = x .answer;
+      phase = phaseOf (x .gathered);
+      timestamp = record { 0 = timestampOf (x .gathered) };
+      f = fOf (x .gathered);
+      records = gatheredRecords (x .gathered);
+      cells = gatheredCells (x .gathered);
+      append = x .append;
+    }
+
+-- the state after a fresh packet, from what was decided
+abbrev pub afterOf : State → (number : ℕ) → Decision → (missing : ℕ) → State
+afterOf st number d missing = afterWith st number (d .phase) (d .timestamp .0) (d .f) (d .records) (d .cells) missing
+
 -- what `arrive` returns of a step
 abbrev pub arrivalOf : Step → Arrival
-arrivalOf x = record { state = x .state; answer = x .answer }
+arrivalOf x = record { state = record { state = x .state }; answer = x .answer }
+
+-- what `open` returns of a state just opened, or of the refusal
+abbrev pub openedOf : Result State → Opened
+openedOf (refused x) = opened.Refused x
+openedOf (accepted st) = opened.Open (record { state = st })

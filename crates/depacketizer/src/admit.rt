@@ -3,17 +3,17 @@ ghost use mathlib.Core.Path.{_≡_};
 ghost use mathlib.Core.List.{[], _∷_};
 ghost use Rattle.rtp.specs.Answers.{checkedOf};
 ghost use Rattle.depacketizer.specs.Answers.{stageOf, stageRefusal};
-ghost use Rattle.depacketizer.specs.Step as step;
+ghost use Rattle.stream.specs.Step as step;
 use crate::decide::fits;
-use crate::state::Depacketizer;
-use crate::state::Phase;
 use rtp::check::check;
 use rtp::packet::Checked;
 use rtp::packet::Head;
+use stream::state::Phase;
+use stream::state::State;
 use wire::refusal::Refusal;
 
 // 35: more than a field or the store can have, something gathered where not filling, or more than lost before a first arrival.
-fn is_sound(state: Depacketizer, room: usize) -> bool
+fn is_sound(state: State, room: usize) -> bool
     ensures { λ r. ⌜ r ≡ step.sound state room ⌝ }
 {
     let empty = (state.records == 0) & (state.cells == 0);
@@ -60,7 +60,7 @@ fn require(holds: bool, number: u8) -> Stage
 
 // 30, 31: a packet of the opened source and payload type.
 fn check_opened(source: u32, payload_type: u8, head: Head) -> Stage
-    ensures { λ r. ⌜ r ≡ stageOf (step.openedChecks source «payload_type» head) ⌝ }
+    ensures { λ r. ⌜ r ≡ stageOf (step.openedChecks source «payload_type» (head .source) (head .«payload_type»)) ⌝ }
 {
     let stage = require(head.source == source, Refusal::SOURCE_OTHER);
     let Stage::Passed = stage else {
@@ -70,7 +70,7 @@ fn check_opened(source: u32, payload_type: u8, head: Head) -> Stage
 }
 
 // 35, then 1 to 13, then 30, 31.
-pub(crate) fn admit(state: Depacketizer, room: usize, octets: &[u8]) -> Checked
+pub(crate) fn admit(state: State, room: usize, octets: &[u8]) -> Checked
     ensures { λ r. ⌜ r ≡ checkedOf (now (octets .entry)) (step.admission state room (now (octets .entry))) ⌝ }
 {
     let stage = require(is_sound(state, room), Refusal::STATE_UNSOUND);

@@ -3,12 +3,13 @@ ghost use mathlib.Core.Path.{_≡_};
 ghost use mathlib.Core.Bool.{cond};
 ghost use Prim.Native.Nat.{_≤_};
 ghost use Rattle.wire.specs.Writing.{maxFieldCells, maxFieldRecords};
-ghost use Rattle.depacketizer.specs.Step as step;
-use crate::state::Answer;
-use crate::state::Depacketizer;
-use crate::state::Field;
-use crate::state::Phase;
+ghost use Rattle.stream.specs.Step as step;
+ghost use Rattle.depacketizer.specs.Answers.{carriedBy, decisionOf};
 use rtp::packet::Summary;
+use stream::state::Answer;
+use stream::state::Field;
+use stream::state::Phase;
+use stream::state::State;
 use wire::limit::MAX_FIELD_CELLS;
 use wire::limit::MAX_FIELD_RECORDS;
 use wire::number::Timestamp;
@@ -26,7 +27,7 @@ pub struct Decision {
 
 // After a marked packet the next one starts a field; after any other that is not held none can.
 fn dropped(answer: Answer, marker: bool) -> Decision
-    ensures { λ r. ⌜ r ≡ step.decisionOf (step.dropped answer marker) ⌝ }
+    ensures { λ r. ⌜ r ≡ decisionOf (step.dropped answer marker) ⌝ }
 {
     if marker {
         Decision {
@@ -53,7 +54,7 @@ fn dropped(answer: Answer, marker: bool) -> Decision
 
 // The field is whole with a marked packet, and held with any other.
 fn taken(summary: Summary, records: usize, cells: usize) -> Decision
-    ensures { λ r. ⌜ r ≡ step.decisionOf (step.taken summary records cells) ⌝ }
+    ensures { λ r. ⌜ r ≡ decisionOf (step.taken (carriedBy summary) records cells) ⌝ }
 {
     let head = summary.head;
     let timestamp = head.timestamp;
@@ -96,7 +97,7 @@ pub(crate) fn fits(records: usize, cells: usize, room: usize) -> bool
 // A packet joins so many records in so many cells.
 fn join(records: usize, cells: usize, summary: Summary, room: usize) -> Decision
     requires { ⌜ (records ≤ maxFieldRecords) × (cells ≤ maxFieldCells) ⌝ }
-    ensures { λ r. ⌜ r ≡ step.decisionOf (step.join records cells summary room) ⌝ }
+    ensures { λ r. ⌜ r ≡ decisionOf (step.join records cells (carriedBy summary) room) ⌝ }
 {
     let head = summary.head;
     if summary.cells > MAX_FIELD_CELLS {
@@ -111,9 +112,9 @@ fn join(records: usize, cells: usize, summary: Summary, room: usize) -> Decision
 }
 
 // A packet that follows the last fresh one.
-fn follow(state: Depacketizer, summary: Summary, room: usize) -> Decision
+fn follow(state: State, summary: Summary, room: usize) -> Decision
     requires { ⌜ (state .records ≤ maxFieldRecords) × (state .cells ≤ maxFieldCells) ⌝ }
-    ensures { λ r. ⌜ r ≡ step.decisionOf (step.follow (step.gathered state) summary room) ⌝ }
+    ensures { λ r. ⌜ r ≡ decisionOf (step.follow (step.gathered state) (carriedBy summary) room) ⌝ }
 {
     let head = summary.head;
     let phase = state.phase;
@@ -133,9 +134,9 @@ fn follow(state: Depacketizer, summary: Summary, room: usize) -> Decision
 }
 
 // `next` where the packet follows the last fresh one; else there is a gap before it, and what was gathered is dropped.
-pub(crate) fn decide(state: Depacketizer, next: bool, summary: Summary, room: usize) -> Decision
+pub(crate) fn decide(state: State, next: bool, summary: Summary, room: usize) -> Decision
     requires { ⌜ (state .records ≤ maxFieldRecords) × (state .cells ≤ maxFieldCells) ⌝ }
-    ensures { λ r. ⌜ r ≡ step.decisionOf (step.follow (cond next (step.gathered state) step.lost) summary room) ⌝ }
+    ensures { λ r. ⌜ r ≡ decisionOf (step.follow (cond next (step.gathered state) step.lost) (carriedBy summary) room) ⌝ }
 {
     if next {
         return follow(state, summary, room);

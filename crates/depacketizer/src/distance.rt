@@ -2,7 +2,7 @@
 ghost use mathlib.Core.Path.{_≡_};
 ghost use Prim.Native.Nat.{ℕ};
 ghost use Rattle.depacketizer.specs.Answers.{freshnessOf};
-ghost use Rattle.depacketizer.specs.Step as step;
+ghost use Rattle.stream.specs.Step as step;
 use wire::number::PacketNumber;
 
 // Where a packet stands: late, or fresh with so many missing before it; `next` where it follows the last fresh one.

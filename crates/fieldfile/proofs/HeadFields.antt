@@ -10,7 +10,7 @@ use Rattle.wire.specs.Bits.{toBits, num, octets, fieldBits, bitsAt, Below, pack
 use Rattle.wire.proofs.BitLaws.{Reads, packed}
 use Rattle.wire.proofs.Window.{window, below-all, below-each}
 use Rattle.wire.proofs.FieldLaws.{within-octet, four-octets-at}
-use Rattle.fieldfile.specs.File.{nameBits, nameSize, timestampBits, fileFBits, countBits, fieldHeaderSize, fileHead, fieldHeaderFields, fileFField, countField}
+use Rattle.anf.specs.File.{nameBits, nameSize, timestampBits, fileFBits, countBits, fieldHeaderSize, fileHead, fieldHeaderFields, fileFField, countField}
 
 -- the first five octets
 pub head-packed : 0x41 ∷ 0x4E ∷ 0x46 ∷ 0 ∷ 1 ∷ [] ≡ fileHead

@@ -1,9 +1,3 @@
-pub mod Examples
 pub mod HeadFields
-pub mod StageLaws
-pub mod FrontLaws
 pub mod ReadLaws
 pub mod WriteLaws
-pub mod FileLaws
-pub mod CutFile
-pub mod WholeFile

@@ -23,19 +23,20 @@ use Rattle.wire.proofs.ResultLaws.{Passed, judge-accepts, judge-passes, then-ac
 use Rattle.wire.proofs.AncLaws.{run-iff, length-run}
 use Rattle.anc.specs.Answers.{runOf, runCells}
 use Rattle.anc.specs.declared.check.Run.the-variants as run
-use Rattle.fieldfile.specs.File.{FieldContent, timestampBits, fileFBits, countBits, fileHeadSize, fieldHeaderSize, fieldSize, timestampField, fileFField, countField, fieldRead, fieldHeaderChecks, limitChecks, readFront, fileChecks, offsetChecks, readField, readInto}
-use Rattle.fieldfile.specs.Answers.{stageOf, summaryOf, readOf, cellsAfter}
+use Rattle.stage.specs.Answers.{stageOf}
+use Rattle.stage.specs.declared.Stage.the-variants as stage
+use Rattle.stage.proofs.StageLaws.{stage-refused}
+use Rattle.anf.specs.File.{FieldContent, timestampBits, fileFBits, countBits, fileHeadSize, fieldHeaderSize, fieldSize, timestampField, fileFField, countField, fieldRead, fieldHeaderChecks, limitChecks, readFront, fileChecks, offsetChecks, readField, readInto}
+use Rattle.fieldfile.specs.Answers.{summaryOf, readOf, cellsAfter}
 use Rattle.fieldfile.specs.declared.field.Summary.{Summary}
 use Rattle.fieldfile.specs.declared.field.FieldRead.the-variants as read
-use Rattle.fieldfile.specs.declared.stage.Stage.the-variants as stage
-use Rattle.fieldfile.proofs.StageLaws.{stage-refused}
-use Rattle.fieldfile.proofs.FrontLaws.{Answer, answer-iff, header-there}
+use Rattle.anf.proofs.FrontLaws.{Answer, answer-iff, header-there}
 
 -- the field at the front of octets
 module _ (s : List ℕ) where
-  pub refused-header : (x : Refusal) → stageOf (fieldHeaderChecks s) ≡ stage.Refused x → readFront s ≡ refused x
+  pub refused-header : (x : Refusal) → stageOf (judge 0 (fieldHeaderChecks s) (accepted fieldHeaderSize)) ≡ stage.Refused x → readFront s ≡ refused x
   unfolding readFront
-  refused-header x h = stage-refused (fieldHeaderChecks s) x _ h
+  refused-header x h = stage-refused (fieldHeaderChecks s) fieldHeaderSize x _ h
 
   module _ (ph : Passed (fieldHeaderChecks s)) where
     abbrev ran : Result (List Record × List ℕ)
@@ -109,13 +110,13 @@ module _ (s : List ℕ) where
 
 -- the field at an offset
 module _ (s : List ℕ) (at : ℕ) where
-  pub refused-file : (x : Refusal) → stageOf (fileChecks s) ≡ stage.Refused x → readField s at ≡ refused x
+  pub refused-file : (x : Refusal) → stageOf (judge 0 (fileChecks s) (accepted fieldHeaderSize)) ≡ stage.Refused x → readField s at ≡ refused x
   unfolding readField
-  refused-file x h = stage-refused (fileChecks s) x _ h
+  refused-file x h = stage-refused (fileChecks s) fieldHeaderSize x _ h
 
-  pub refused-offset : (x : Refusal) → Passed (fileChecks s) → stageOf (offsetChecks s at) ≡ stage.Refused x → readField s at ≡ refused x
+  pub refused-offset : (x : Refusal) → Passed (fileChecks s) → stageOf (judge 0 (offsetChecks s at) (accepted at)) ≡ stage.Refused x → readField s at ≡ refused x
   unfolding readField
-  refused-offset x p h = judge-passes 0 (fileChecks s) _ p ∙ stage-refused (offsetChecks s at) x _ h
+  refused-offset x p h = judge-passes 0 (fileChecks s) _ p ∙ stage-refused (offsetChecks s at) at x _ h
 
   -- an offset that passes is within the file
   pub offset-there : Passed (offsetChecks s at) → at ≤ length s

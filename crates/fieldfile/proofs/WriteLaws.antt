@@ -1,107 +1,71 @@
 -- A field measured and written: what each of the writer's checks decides, and the octets of one that fits.
 -- By the writer's checks in their order, and the size of a field.
-use mathlib.Core.Path.{_≡_, refl, ap, sym, _∙_, subst}
-use mathlib.Core.Bool.{true, false}
+use mathlib.Core.Path.{_≡_, refl, ap, sym, _∙_}
+use mathlib.Core.Bool.{true, false, _&&_}
 use mathlib.Core.List.{List, [], _∷_, _++_}
-use Prim.Native.Nat.{ℕ, _+_, _-_, _*_, _<_, _≤_, zero-le}
+use Prim.Native.Nat.{ℕ, _+_, _-_, zero-le}
 use native.Mathlib.Omega.{arith}
-use borrow.Author.Tests.{le-leb, lt-leb, leb-true}
 use lib.Dec.{leb}
 use lib.ListN.{length, take, drop}
 use Rattle.wire.specs.declared.refusal.Refusal.{Refusal}
+use Rattle.wire.specs.declared.count.OctetCount.{OctetCount}
 use Rattle.wire.specs.Bits.{pack, overwrite, splice}
 use Rattle.wire.specs.Layout.{rfc8331}
-use Rattle.wire.specs.Result.{Result, refused, accepted, refuse}
+use Rattle.wire.specs.Result.{Result, refused, accepted, refuse, Checks}
 use Rattle.wire.specs.Anc.{Record, runOctets, runSize}
 use Rattle.wire.specs.Cells.{readList}
 use Rattle.wire.specs.Writing.{maxFieldRecords, maxFieldCells}
 use Rattle.wire.proofs.BitLaws.{length-pack}
 use Rattle.wire.proofs.ListLaws.{splice-append, part-written}
-use Rattle.wire.proofs.ResultLaws.{judge-accepts, then-accepts, accepted-inj, and-true}
-use Rattle.wire.proofs.AncLaws.{length-run}
-use Rattle.wire.proofs.CellLaws.{list-iff}
-use Rattle.wire.proofs.Demand2.{run-cells}
+use Rattle.wire.proofs.WritingLaws.{head-fails, list-fails, limit-fails, all-pass}
 use Rattle.wire.specs.Written.{octetsAfter, writtenOf}
-use Rattle.cells.specs.Answers.{listOctets}
-use Rattle.fieldfile.specs.File.{fieldHeaderSize, fieldHeaderFields, fieldOctets, fieldSize, fileFOk, roomChecks, recordsToWrite, writeField}
 use Rattle.wire.specs.declared.written.Written.the-variants as written
-use Rattle.fieldfile.proofs.FrontLaws.{length-field}
-
--- a field within its limits is small
-pub small : (cells : List ℕ) (rs : List Record) → readList cells ≡ accepted rs → length cells ≤ maxFieldCells → 2 * runSize rfc8331 rs ≤ 3 * maxFieldCells
-small cells rs e l =
-    omega (arith, run-cells rfc8331 rs, length-run rfc8331 rs, ap length (list-iff cells rs .0 e .1))
+use Rattle.anf.specs.File.{fieldHeaderSize, fieldHeaderFields, fieldOctets, fieldSize, fileFOk, withinLimits, roomChecks, fieldRecords, writeField}
+use Rattle.anf.proofs.FrontLaws.{length-field}
+use Rattle.anf.proofs.WritesLaws.{writes}
+use Rattle.cells.specs.Answers.{listedOf, listOctets}
+use Rattle.cells.specs.declared.check.Listed.the-variants as listed
+use Rattle.cells.proofs.ListedLaws.{Taken, taken, listed-refused}
 
 module _ (f : ℕ) (cells : List ℕ) (room : ℕ) where
-  pub refused-f : fileFOk f ≡ false → recordsToWrite f cells room ≡ refuse 53 0
-  unfolding recordsToWrite
-  refused-f e = rw e
+  abbrev head : Checks
+  head = (fileFOk f, 53) ∷ []
+
+  abbrev limits : List Record → Checks
+  limits rs = roomChecks rs (length cells) room
+
+  pub refused-f : fileFOk f ≡ false → fieldRecords f cells room ≡ refuse 53 0
+  refused-f e = head-fails head limits cells 0 tt e
 
   module _ (ok : fileFOk f ≡ true) where
-    pub refused-list : (x : Refusal) → readList cells ≡ refused x → recordsToWrite f cells room ≡ refused x
-    unfolding recordsToWrite
-    refused-list x e = rw (ok, e)
+    pub refused-list : (x : Refusal) → listedOf (readList cells) ≡ listed.Refused x → fieldRecords f cells room ≡ refused x
+    refused-list x e = list-fails head limits cells (ok, tt) x (listed-refused (readList cells) x e)
 
-    module _ (rs : List Record) (reads : readList cells ≡ accepted rs) where
-      pub over-records : maxFieldRecords < length rs → recordsToWrite f cells room ≡ refuse 21 0
-      unfolding recordsToWrite
-      over-records l =
-          let a : leb (length rs) maxFieldRecords ≡ false = lt-leb (length rs) maxFieldRecords l in
-          rw (ok, reads, a)
+    module _ (n : ℕ) (o : OctetCount) (e : listedOf (readList cells) ≡ listed.Records n o) where
+      -- 21 and 23 as the code tests them: by the number of records, and by the octets of their ANC data packets
+      abbrev list : Taken (readList cells) n o
+      list = taken (readList cells) n o e
 
-      module _ (few : length rs ≤ maxFieldRecords) where
-        abbrev a : leb (length rs) maxFieldRecords ≡ true
-        a = le-leb (length rs) maxFieldRecords few
+      within : withinLimits n (length cells) ≡ withinLimits (length (list .rs)) (length cells)
+      within = ap (λ (x : ℕ). withinLimits x (length cells)) (sym (list .count))
 
-        pub over-cells : maxFieldCells < length cells → recordsToWrite f cells room ≡ refuse 21 0
-        unfolding recordsToWrite
-        over-cells l =
-            let b : leb (length cells) maxFieldCells ≡ false = lt-leb (length cells) maxFieldCells l in
-            rw (ok, reads, a, b)
+      at-most : leb (fieldHeaderSize + o .0) room ≡ leb (fieldSize (list .rs)) room
+      at-most = ap (λ (x : ℕ). leb (fieldHeaderSize + x) room) (sym (list .size))
 
-        module _ (short : length cells ≤ maxFieldCells) where
-          abbrev b : leb (length cells) maxFieldCells ≡ true
-          b = le-leb (length cells) maxFieldCells short
+      pub over-limit : withinLimits n (length cells) ≡ false → fieldRecords f cells room ≡ refuse 21 0
+      over-limit a = limit-fails head limits cells (ok, tt) (list .rs) (list .reads) 0 tt (sym within ∙ a)
 
-          pub no-room : room < fieldSize rs → recordsToWrite f cells room ≡ refuse 23 0
-          unfolding recordsToWrite
-          no-room l =
-              let d : leb (fieldSize rs) room ≡ false = lt-leb (fieldSize rs) room l in
-              rw (ok, reads, a, b, d)
+      module _ (a : withinLimits n (length cells) ≡ true) where
+        pub no-room : leb (fieldHeaderSize + o .0) room ≡ false → fieldRecords f cells room ≡ refuse 23 0
+        no-room b = limit-fails head limits cells (ok, tt) (list .rs) (list .reads) 1 (sym within ∙ a, tt) (sym at-most ∙ b)
 
-          pub all-fit : fieldSize rs ≤ room → recordsToWrite f cells room ≡ accepted rs
-          unfolding recordsToWrite
-          all-fit l =
-              let d : leb (fieldSize rs) room ≡ true = le-leb (fieldSize rs) room l in
-              rw (ok, reads, a, b, d)
-
-  -- the records that are written are the list's, within the limits
-  pub record Writes (rs : List Record) : Type 0 where
-    pub f-ok : fileFOk f ≡ true
-    pub reads : readList cells ≡ accepted rs
-    pub few : length rs ≤ maxFieldRecords
-    pub short : length cells ≤ maxFieldCells
-    pub enough : fieldSize rs ≤ room
-
-  pub writes : (rs : List Record) → recordsToWrite f cells room ≡ accepted rs → Writes rs
-  unfolding recordsToWrite
-  writes rs e =
-      let h = judge-accepts 0 ((fileFOk f, 53) ∷ []) _ rs e in
-      let r = then-accepts (readList cells) _ rs (h .1) in
-      let l = judge-accepts 0 (roomChecks (r .0) (length cells) room) (accepted (r .0)) rs (r .2) in
-      let same : r .0 ≡ rs = accepted-inj (l .1) in
-      let w = and-true (leb (length (r .0)) maxFieldRecords) (leb (length cells) maxFieldCells) (l .0 .0) in
-      subst Writes same
-      record {
-        f-ok = h .0 .0;
-        reads = r .1;
-        few = leb-true (length (r .0)) maxFieldRecords (w .0);
-        short = leb-true (length cells) maxFieldCells (w .1);
-        enough = leb-true (fieldSize (r .0)) room (l .0 .1 .0);
-      }
+        pub all-fit : leb (fieldHeaderSize + o .0) room ≡ true → listedOf (fieldRecords f cells room) ≡ listed.Records n o
+        all-fit b =
+            ap listedOf (all-pass head limits cells (ok, tt) (list .rs) (list .reads) (sym within ∙ a, (sym at-most ∙ b, tt)))
+            ∙ λ i. listed.Records (list .count i) (record { 0 = list .size i })
 
 -- a field that fits: its header written, and its run behind it, it is written whole
-module _ (ts f : ℕ) (cells : List ℕ) (room : ℕ) (rs : List Record) (e : recordsToWrite f cells room ≡ accepted rs) where
+module _ (ts f : ℕ) (cells : List ℕ) (room : ℕ) (rs : List Record) (e : fieldRecords f cells room ≡ accepted rs) where
   abbrev whole : List ℕ
   whole = fieldOctets (record { timestamp = ts; f = f; records = rs })
 

@@ -1,28 +1,14 @@
 -- What the answers say in the papers' terms: the refusal, or what was found.
-use mathlib.Core.Bool.{cond}
-use mathlib.Core.List.{List, [], _∷_}
+use mathlib.Core.List.{List}
 use Prim.Native.Nat.{ℕ}
 use lib.ListN.{length}
-use Rattle.wire.specs.declared.refusal.Refusal.{Refusal}
 use Rattle.wire.specs.Bits.{overwrite}
-use Rattle.wire.specs.Result.{Result, refused, accepted, noRefusal, Checks}
+use Rattle.wire.specs.Result.{Result, refused, accepted}
 use Rattle.wire.specs.Cells.{listOf}
-use Rattle.fieldfile.specs.File.{FieldContent}
+use Rattle.anf.specs.File.{FieldContent}
 use Rattle.fieldfile.specs.declared.field.Summary.{Summary}
 use Rattle.fieldfile.specs.declared.field.FieldRead.{FieldRead}
 use Rattle.fieldfile.specs.declared.field.FieldRead.the-variants as read
-use Rattle.fieldfile.specs.declared.stage.Stage.{Stage}
-use Rattle.fieldfile.specs.declared.stage.Stage.the-variants as stage
-
--- a stage before the ANC data packets: the first check that fails gives its number, "otherwise 0" as index
-abbrev pub stageOf : Checks → Stage
-stageOf [] = stage.Passed
-stageOf (t ∷ ts) = cond (t .0) (stageOf ts) (stage.Refused (record { number = t .1; index = 0 }))
-
--- the refusal that a stage gave
-abbrev pub stageRefusal : Stage → Refusal
-stageRefusal (stage.Refused x) = x
-stageRefusal stage.Passed = noRefusal
 
 -- a field read (01, "Field file"): what it says, and "the offset after the field"
 abbrev pub summaryOf : FieldContent × ℕ → Summary

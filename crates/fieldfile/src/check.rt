@@ -4,35 +4,35 @@ ghost use Prim.Native.Nat.{_+_, _<_, _^_};
 ghost use lib.ListN.{length};
 ghost use Rattle.wire.specs.Result.{_then_, accepted};
 ghost use Rattle.fieldfile.specs.Answers.{readOf};
-ghost use Rattle.fieldfile.specs.File.{fieldSize, readField, readFront};
+ghost use Rattle.anf.specs.File.{fieldHeaderSize, fieldSize, readField, readFront};
 use crate::field::FieldRead;
 use crate::field::Summary;
-use crate::format::COUNT_AT;
-use crate::format::F_AT;
-use crate::format::HEADER_SIZE;
-use crate::stage::Stage;
-use crate::stage::check_file;
-use crate::stage::check_header;
-use crate::stage::check_offset;
+use crate::stages::check_file;
+use crate::stages::check_header;
+use crate::stages::check_offset;
 use anc::check::Run;
 use anc::check::check_run;
+use anf::format::COUNT_AT;
+use anf::format::F_AT;
+use stage::Stage;
 use wire::count::OctetCount;
 use wire::limit::MAX_FIELD_CELLS;
 use wire::number::Timestamp;
 use wire::refusal::Refusal;
 use words::octet::quad_at;
 
-// 52, 53, 9 to 12, 21, of the field at the front of the octets, which stand at `at` of their file.
-fn check_front(octets: &[u8], at: OctetCount) -> FieldRead
-    requires { ⌜ at .0 + length (now octets) < 2 ^ 64 ⌝ }
+// 52, 53, 9 to 12, 21, of the field at the front of the octets, which stand at `at` of their file; a field's header has `header` octets there.
+fn check_front(octets: &[u8], at: OctetCount, header: OctetCount) -> FieldRead
+    requires { ⌜ (at .0 + length (now octets) < 2 ^ 64) × (header .0 ≡ fieldHeaderSize) ⌝ }
     ensures { λ r. ⌜ r ≡ readOf (readFront (now (octets .entry)) then λ k. accepted (k, at .0 + fieldSize (k .records))) ⌝ }
 {
-    let stage = check_header(octets);
-    let Stage::Passed = stage else {
+    let stage = check_header(octets, header);
+    let Stage::Passed(header) = stage else {
         return FieldRead::Refused(stage.refusal());
     };
     let count = octets[COUNT_AT];
-    let run = check_run(&octets[HEADER_SIZE..], count);
+    let size = header.0;
+    let run = check_run(&octets[size..], count);
     let Run::Accepted {
         octets: used,
         cells,
@@ -52,7 +52,7 @@ fn check_front(octets: &[u8], at: OctetCount) -> FieldRead
         f: octets[F_AT],
         records: count,
         cells,
-        next: OctetCount(at.0 + (HEADER_SIZE + used.0)),
+        next: OctetCount(at.0 + (size + used.0)),
     })
 }
 
@@ -61,13 +61,13 @@ pub fn check(file: &[u8], at: OctetCount) -> FieldRead
     ensures { λ r. ⌜ r ≡ readOf (readField (now (file .entry)) (at .0)) ⌝ }
 {
     let stage = check_file(file);
-    let Stage::Passed = stage else {
+    let Stage::Passed(header) = stage else {
         return FieldRead::Refused(stage.refusal());
     };
     let stage = check_offset(file, at);
-    let Stage::Passed = stage else {
+    let Stage::Passed(from) = stage else {
         return FieldRead::Refused(stage.refusal());
     };
-    let from = at.0;
-    check_front(&file[from..], at)
+    let start = from.0;
+    check_front(&file[start..], from, header)
 }

@@ -5,22 +5,20 @@ ghost use mathlib.Core.Path.{_≡_};
 ghost use lib.ListN.{length};
 ghost use Rattle.wire.specs.Written.{octetsAfter, writtenOf};
 ghost use Rattle.fieldfile.specs.Answers.{cellsAfter, readOf};
-ghost use Rattle.fieldfile.specs.File.{readInto, writeField, writeHead};
+ghost use Rattle.anf.specs.File.{readInto, writeField, writeHead};
 
 pub mod check;
 pub mod field;
-pub mod format;
-pub mod stage;
+pub mod stages;
 pub mod writing;
 
 use anc::read::read_run;
+use anf::format::HEAD_SIZE;
+use anf::format::HEADER_SIZE;
 use cells::check::Listed;
 use cells::write::write_run;
 use check::check;
 use field::FieldRead;
-use format::HEAD;
-use format::HEAD_SIZE;
-use format::HEADER_SIZE;
 use wire::count::OctetCount;
 use wire::number::Timestamp;
 use wire::refusal::Refusal;
@@ -28,6 +26,9 @@ use wire::written::Written;
 use words::octet::copy;
 use writing::measure;
 use writing::write_header;
+
+// `ANF` and the version.
+const HEAD: [u8; HEAD_SIZE] = [0x41, 0x4E, 0x46, 0, 1];
 
 // Writes `ANF` and the version to the first octets of `out`.
 pub fn begin(out: &mut [u8]) -> Written

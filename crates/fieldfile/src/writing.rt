@@ -4,42 +4,43 @@ ghost use Prim.Native.Nat.{_≤_};
 ghost use lib.ListN.{length};
 ghost use Rattle.cells.specs.Answers.{listedOf};
 ghost use Rattle.wire.specs.Bits.{overwrite, pack};
-ghost use Rattle.fieldfile.specs.File.{fieldHeaderSize, fieldHeaderFields, recordsToWrite};
-use crate::format::HEADER_SIZE;
-use crate::stage::f_ok;
+ghost use Rattle.anf.specs.File.{fieldHeaderFields, fieldHeaderSize, fieldRecords, withinLimits};
+use crate::stages::f_ok;
+use anf::format::HEADER_SIZE;
 use cells::check::Listed;
 use cells::check::check_list;
+use cells::check::fits_behind;
 use wire::limit::MAX_FIELD_CELLS;
 use wire::limit::MAX_FIELD_RECORDS;
 use wire::number::Timestamp;
 use wire::refusal::Refusal;
 use words::octet::copy;
 
-fn refuse(number: u8) -> Listed
-    ensures { λ r. ⌜ r ≡ Listed.Refused (record { number = number; index = 0 }) ⌝ }
+// 21.
+fn within_limits(records: usize, cells: usize) -> bool
+    ensures { λ r. ⌜ r ≡ withinLimits records cells ⌝ }
 {
-    Listed::Refused(Refusal { number, index: 0 })
+    (records <= MAX_FIELD_RECORDS) & (cells <= MAX_FIELD_CELLS)
 }
 
 // 53, 20, 21, 23: the records, and the octets of their ANC data packets.
 pub(crate) fn measure(f: u8, cells: &[u16], room: usize) -> Listed
-    ensures { λ r. ⌜ r ≡ listedOf (recordsToWrite f (now (cells .entry)) room) ⌝ }
+    ensures { λ r. ⌜ r ≡ listedOf (fieldRecords f (now (cells .entry)) room) ⌝ }
 {
     if !f_ok(f) {
-        return refuse(Refusal::FILE_F_INVALID);
+        return Listed::refuse(Refusal::FILE_F_INVALID);
     }
     let listed = check_list(cells);
     let Listed::Records { count, octets } = listed else {
         return listed;
     };
-    if count > MAX_FIELD_RECORDS {
-        return refuse(Refusal::OVER_LIMIT);
+    let within = within_limits(count, cells.len());
+    let enough = fits_behind(HEADER_SIZE, octets, room);
+    if !within {
+        return Listed::refuse(Refusal::OVER_LIMIT);
     }
-    if cells.len() > MAX_FIELD_CELLS {
-        return refuse(Refusal::OVER_LIMIT);
-    }
-    if room < HEADER_SIZE + octets.0 {
-        return refuse(Refusal::ROOM_TOO_SMALL);
+    if !enough {
+        return Listed::refuse(Refusal::ROOM_TOO_SMALL);
     }
     listed
 }

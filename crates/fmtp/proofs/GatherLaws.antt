@@ -13,8 +13,8 @@ use Rattle.wire.proofs.ListLaws.{part-all}
 use Rattle.sdp.specs.declared.parameters.Parameters.{Parameters}
 use Rattle.sdp.specs.Reading.{next, add, gather}
 use Rattle.sdp.proofs.CutLaws.{left, left-next, next-shorter}
-use Rattle.fmtp.specs.declared.read.Reading.the-variants as reading
-use Rattle.fmtp.specs.declared.read.Step.{Step}
+use Rattle.fmtp.specs.declared.Reading.the-variants as reading
+use Rattle.fmtp.specs.declared.Step.{Step}
 use Rattle.fmtp.specs.Answers.{readingOf, Stepped}
 
 pub reading-accepted : (v : Result Parameters) (q : Parameters) → readingOf v ≡ reading.Accepted q → v ≡ accepted q

@@ -1,4 +1,2 @@
-pub mod LeftLaws
 pub mod GatherLaws
 pub mod StoreLaws
-pub mod TextLaws

@@ -9,9 +9,9 @@ use Rattle.wire.specs.Bits.{splice}
 use Rattle.sdp.specs.Grammar.{pairsOf}
 use Rattle.sdp.proofs.CutLaws.{left}
 use Rattle.sdp.proofs.GatherIff.{pairs-cons}
-use Rattle.fmtp.specs.declared.read.Step.{Step}
+use Rattle.fmtp.specs.declared.Step.{Step}
 use Rattle.fmtp.specs.Answers.{itemPairs, Stepped}
-use Rattle.fmtp.proofs.LeftLaws.{Left, left-as, left-room, left-next}
+use Rattle.text.proofs.LeftLaws.{Left, left-as, left-room, left-next}
 use Rattle.fmtp.proofs.GatherLaws.{Behind, left-step}
 
 -- what is left of a text to be written, from the item at its front on

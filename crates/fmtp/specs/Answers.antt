@@ -1,20 +1,17 @@
--- What the answers say in the definitions' terms: the refusal, or what was read or written.
+-- What the answers say in the definitions' terms: the refusal, or what was read.
 use mathlib.Core.Path.{_≡_}
-use mathlib.Core.Bool.{cond}
 use mathlib.Core.List.{List, [], _∷_}
 use Prim.Native.Nat.{ℕ, _/_, _≤_}
-use lib.Dec.{ltb, eqb}
+use lib.Dec.{ltb}
 use lib.ListN.{length, drop}
 use Rattle.wire.specs.Result.{Result, refused, accepted}
 use Rattle.sdp.specs.declared.item.Item.{Item}
 use Rattle.sdp.specs.declared.parameters.Parameters.{Parameters}
 use Rattle.sdp.specs.Grammar.{Content, pairsOf}
-use Rattle.sdp.specs.Text.{semicolon}
-use Rattle.sdp.specs.Writing.{joined, separated}
 use Rattle.sdp.specs.Reading.{itemOf, front, next}
-use Rattle.fmtp.specs.declared.read.Reading.{Reading}
-use Rattle.fmtp.specs.declared.read.Reading.the-variants as reading
-use Rattle.fmtp.specs.declared.read.Step.{Step}
+use Rattle.fmtp.specs.declared.Reading.{Reading}
+use Rattle.fmtp.specs.declared.Reading.the-variants as reading
+use Rattle.fmtp.specs.declared.Step.{Step}
 
 -- "the answer is their count and the VPID_Code or none", from the items, ..
 abbrev pub readingOf : Result Parameters → Reading
@@ -41,11 +38,3 @@ pub record Stepped (s : List ℕ) (r : Step) : Type 0 where
   pub more : r .more ≡ ltb (length (front s)) (length s)
   pub inside : r .used ≤ length s
   pub rest : drop (r .used) s ≡ next s
-
--- the `;` behind so many octets of a text: none at its start
-abbrev pub separator : ℕ → List ℕ
-separator to = cond (eqb to 0) [] (semicolon ∷ [])
-
--- items behind so many octets of a text
-abbrev pub following : ℕ → List (List ℕ) → List ℕ
-following to ts = cond (eqb to 0) (joined ts) (separated ts)

@@ -1,14 +1,13 @@
--- The pieces of a line: words one behind the other, and the cells of a field.
+-- The cells of a field, and their lines.
 -- Each by the definition that it is about.
 use mathlib.Core.Path.{_≡_, refl, ap, sym, _∙_}
 use mathlib.Core.Bool.{Bool, true, false}
-use mathlib.Core.List.{List, [], _∷_, _++_, append-assoc, append-nil}
-use Prim.Native.Nat.{ℕ, zero, suc, _+_, _<_, min}
-use native.Mathlib.Nat.{suc-add}
+use mathlib.Core.List.{List, []}
+use Prim.Native.Nat.{ℕ, min}
 use native.Mathlib.Omega.{arith}
 use borrow.Author.Tests.{leb-true, leb-false}
 use lib.Dec.{leb}
-use lib.ListN.{length, take, getD}
+use lib.ListN.{length, take}
 use lib.Seq.{take-all, take-length}
 use Rattle.wire.specs.declared.count.OctetCount.{OctetCount}
 use Rattle.wire.specs.declared.refusal.Refusal.{Refusal}
@@ -17,16 +16,7 @@ use Rattle.wire.specs.Cells.{readList}
 use Rattle.wire.specs.Result.{Result, refused, accepted, IsAccepted}
 use Rattle.cells.specs.declared.check.Listed.the-variants as listed
 use Rattle.cells.specs.Answers.{listedOf}
-use Rattle.lines.specs.Lines.{wordText, wordsText, listText}
-
--- one word more
-pub words-next : (k : ℕ) (ws : List ℕ) → k < length ws → wordsText (take k ws) ++ wordText (getD ws k 0) ≡ wordsText (take (k + 1) ws)
-words-next zero [] h = absurd (omega arith)
-words-next zero (w ∷ ws) h = sym (append-nil (wordText w))
-words-next (suc k) [] h = absurd (omega arith)
-words-next (suc k) (w ∷ ws) h =
-    rw (suc-add k 1)
-    (append-assoc (wordText w) (wordsText (take k ws)) (wordText (getD ws k 0)) ∙ ap (λ (x : List ℕ). wordText w ++ x) (words-next k ws (omega arith)))
+use Rattle.record_lines.specs.Records.{listText}
 
 -- the field's cells, where the store has fewer
 take-least : (n m : ℕ) (s : List ℕ) → m ≡ min n (length s) → take m s ≡ take n s

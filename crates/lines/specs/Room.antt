@@ -2,10 +2,7 @@
 use mathlib.Core.Bool.{Bool}
 use Prim.Native.Nat.{ℕ, _+_, _*_}
 use lib.Dec.{leb}
-
--- the lines of a field's records: for each of their cells
-abbrev pub cellRoom : ℕ
-cellRoom = 20
+use Rattle.record_lines.specs.Records.{cellRoom}
 
 -- a line of anything else
 abbrev pub lineRoom : ℕ

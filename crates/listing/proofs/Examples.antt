@@ -10,9 +10,10 @@ use Rattle.wire.specs.Anc.{ancSize, ancRecord, headersOk, checksumOk, alignment
 use Rattle.wire.specs.Packet.{packetRead, headerChecks, paddingChecks, payloadChecks, readRecords, readPacket, readContent}
 use Rattle.wire.specs.Cells.{cellRecord, headInRange, cellChecks, recordsFrom}
 use Rattle.wire.proofs.PacketExamples.{frame7Octets, frame8Octets, frame10Octets}
-use Rattle.depacketizer.specs.Step.{step}
+use Rattle.stream.specs.Step.{step}
 use Rattle.text.specs.Text.{ascii, decimal, decimalIn, digits, hex}
-use Rattle.lines.specs.Lines.{lineText, locationText, dataText, wholeText, refusedText, countsText}
+use Rattle.lines.specs.Lines.{wholeText, refusedText, countsText}
+use Rattle.record_lines.specs.Records.{lineText, locationText, dataText}
 use Rattle.listing.specs.Session.{turn, cutText, remaining, listing}
 
 abbrev store : List ℕ

@@ -10,7 +10,7 @@ use lib.Dec.{leb}
 use lib.ListN.{length, take, drop, length-drop, length-append}
 use lib.Seq.{take-append-le, drop-append-le}
 use Rattle.listing.specs.declared.session.Session.{Session}
-use Rattle.listing.specs.Frames.{Front, end, cut, frame, framed, front, Frames, more, onward, framesIn, frames}
+use Rattle.frames.specs.Frames.{Front, end, cut, frame, framed, front, Frames, more, onward, framesIn, frames}
 use Rattle.listing.specs.Session.{turn, run, remaining, endText, isBroken}
 
 -- a frame's packet and what is behind it

@@ -12,17 +12,19 @@ use Rattle.wire.specs.Layout.{rfc8331}
 use Rattle.wire.specs.Result.{Result, refused, accepted}
 use Rattle.wire.specs.Packet.{Content, readContent}
 use Rattle.rtp.specs.Answers.{checkedOf}
-use Rattle.depacketizer.specs.declared.state.Depacketizer.{Depacketizer as State}
+use Rattle.depacketizer.specs.declared.state.Depacketizer.{Depacketizer}
 use Rattle.depacketizer.specs.declared.state.Opened.{Opened}
 use Rattle.depacketizer.specs.declared.state.Opened.the-variants as opened
-use Rattle.depacketizer.specs.Step.{step}
+use Rattle.stream.specs.Step.{step}
 use Rattle.lines.specs.Lines.{refusedText}
-use Rattle.lines.specs.Room.{lineRoom, cellRoom}
+use Rattle.lines.specs.Room.{lineRoom}
+use Rattle.record_lines.specs.Records.{cellRoom}
 use Rattle.listing.specs.declared.session.Session.{Session}
 use Rattle.listing.specs.declared.session.Session.the-variants as session
-use Rattle.listing.specs.Frames.{Front, end, cut, frame}
+use Rattle.frames.specs.Frames.{Front, end, cut, frame}
 use Rattle.listing.specs.Session.{isBroken, numberOf, entered, turn, turnBy, arrived}
-use Rattle.listing.specs.Answers.{checkedNumber, enteredBy, frontOf, isCut}
+use Rattle.listing.specs.Answers.{checkedNumber, enteredBy}
+use Rattle.frames.specs.Answers.{frontOf, isCut}
 
 pub number-is : (s : List ℕ) (k : Result Content) → checkedNumber (checkedOf s k) ≡ numberOf k
 number-is s (refused x) = refl
@@ -31,7 +33,7 @@ number-is s (accepted k) = refl
 entered-is : (v : Session) (s : List ℕ) (k : Result Content) → enteredBy v (checkedOf s k) ≡ entered v k
 entered-is session.Waiting s (refused x) = refl
 entered-is session.Waiting s (accepted k) = refl
-entered-is (session.Open st) s k = refl
+entered-is (session.Open d) s k = refl
 
 module _ (v : Session) (octets store : List ℕ) (o : Opened) (entry : o ≡ enteredBy v (checkedOf octets (readContent rfc8331 octets))) where
   abbrev content : Result Content
@@ -46,8 +48,8 @@ module _ (v : Session) (octets store : List ℕ) (o : Opened) (entry : o ≡ ent
   turn-refused x e = by (opened.Refused x) e
 
   -- one that is open
-  pub turn-arrived : (st : State) → o ≡ opened.Open st → turn v octets store ≡ arrived (numberOf content) (step st octets store)
-  turn-arrived st e = by (opened.Open st) e
+  pub turn-arrived : (d : Depacketizer) → o ≡ opened.Open d → turn v octets store ≡ arrived (numberOf content) (step (d .state) octets store)
+  turn-arrived d e = by (opened.Open d) e
 
 -- a frame is broken exactly where the code says that it is cut
 pub cut-is : (f : Front) → isCut (frontOf f) ≡ isBroken f

@@ -10,29 +10,16 @@ use Rattle.rtp.specs.declared.packet.Checked.{Checked}
 use Rattle.rtp.specs.declared.packet.Checked.the-variants as checked
 use Rattle.depacketizer.specs.declared.state.Opened.{Opened}
 use Rattle.depacketizer.specs.declared.state.Opened.the-variants as opened
-use Rattle.depacketizer.specs.Step.{openOf}
-use Rattle.listing.specs.declared.frame.Front.{Front as FrontFound}
-use Rattle.listing.specs.declared.frame.Front.the-variants as found
+use Rattle.depacketizer.specs.Answers.{openedOf}
+use Rattle.stream.specs.Step.{openOf}
 use Rattle.listing.specs.declared.session.Session.{Session}
 use Rattle.listing.specs.declared.session.Session.the-variants as session
 use Rattle.listing.specs.declared.session.Listed.{Listed}
 use Rattle.listing.specs.declared.session.Listed.the-variants as listed
 use Rattle.listing.specs.declared.session.Text.{Text}
 use Rattle.listing.specs.declared.session.Text.the-variants as text
-use Rattle.listing.specs.Frames.{Front, end, cut, frame, lengthSize, maxFrame}
+use Rattle.frames.specs.Frames.{Front, end, cut, frame, lengthSize, maxFrame}
 use Rattle.listing.specs.Session.{turn}
-
--- what stands at the front
-abbrev pub frontOf : Front → FrontFound
-frontOf end = found.End
-frontOf cut = found.Cut
-frontOf (frame p rest) = found.Packet (length p)
-
--- whether the code found a frame that is broken off
-abbrev pub isCut : FrontFound → Bool
-isCut found.End = false
-isCut found.Cut = true
-isCut (found.Packet n) = false
 
 -- the number of a packet that was checked, for its line
 abbrev pub checkedNumber : Checked → ℕ
@@ -42,17 +29,17 @@ checkedNumber (checked.Packet o) = o .summary .head .number .0
 -- "The first packet that passes 1 to 13 opens the keeper."
 abbrev pub checkedOpening : Checked → Opened
 checkedOpening (checked.Refused x) = opened.Refused x
-checkedOpening (checked.Packet o) = openOf (o .summary .head .source) (o .summary .head .«payload_type»)
+checkedOpening (checked.Packet o) = openedOf (openOf (o .summary .head .source) (o .summary .head .«payload_type»))
 
 -- the depacketizer that a packet arrives at
 abbrev pub enteredBy : Session → Checked → Opened
 enteredBy session.Waiting k = checkedOpening k
-enteredBy (session.Open st) k = opened.Open st
+enteredBy (session.Open d) k = opened.Open d
 
 -- why none was opened
 abbrev pub openedRefusal : Opened → Refusal
 openedRefusal (opened.Refused x) = x
-openedRefusal (opened.Open st) = noRefusal
+openedRefusal (opened.Open d) = noRefusal
 
 -- 23: "lent octets too few"
 abbrev pub roomTooSmall : Refusal

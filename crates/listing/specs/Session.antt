@@ -7,11 +7,12 @@ use Rattle.wire.specs.Result.{Result, refused, accepted}
 use Rattle.wire.specs.Packet.{Content, readContent}
 use Rattle.depacketizer.specs.declared.state.Opened.{Opened}
 use Rattle.depacketizer.specs.declared.state.Opened.the-variants as opened
-use Rattle.depacketizer.specs.Step.{Step, step, openOf}
+use Rattle.depacketizer.specs.Answers.{openedOf}
+use Rattle.stream.specs.Step.{Step, step, openOf}
 use Rattle.text.specs.Text.{ascii}
 use Rattle.listing.specs.declared.session.Session.{Session}
 use Rattle.listing.specs.declared.session.Session.the-variants as session
-use Rattle.listing.specs.Frames.{Frames, Front, end, cut, frame, frames}
+use Rattle.frames.specs.Frames.{Frames, Front, end, cut, frame, frames}
 use Rattle.lines.specs.Lines.{answerText, refusedText, countsText}
 
 -- the number of a packet, for its line
@@ -22,12 +23,12 @@ numberOf (accepted k) = k .number
 -- "The first packet that passes 1 to 13 opens the keeper." (A payload type has seven bits, so opening is not refused.)
 abbrev pub opening : Result Content → Opened
 opening (refused x) = opened.Refused x
-opening (accepted k) = openOf (k .source) (k .type)
+opening (accepted k) = openedOf (openOf (k .source) (k .type))
 
 -- the depacketizer that a packet arrives at: the one that is open, or else the one that it opens
 abbrev pub entered : Session → Result Content → Opened
 entered session.Waiting k = opening k
-entered (session.Open st) k = opened.Open st
+entered (session.Open d) k = opened.Open d
 
 -- What one packet does: the session then, the store, and the text that is printed.
 pub record Turn : Type 0 where
@@ -37,12 +38,12 @@ pub record Turn : Type 0 where
 
 -- a packet of number `n` arrived: the depacketizer's next state, the store, and the text of its answer
 abbrev pub arrived : ℕ → Step → Turn
-arrived n x = record { session = session.Open (x .state); store = x .store; text = answerText n (x .answer) (x .store) }
+arrived n x = record { session = session.Open (record { state = x .state }); store = x .store; text = answerText n (x .answer) (x .store) }
 
 -- by the depacketizer: a packet that opens none is refused, and changes nothing
 abbrev pub turnBy : Session → ℕ → List ℕ → List ℕ → Opened → Turn
 turnBy s n octets store (opened.Refused x) = record { session = s; store = store; text = refusedText x }
-turnBy s n octets store (opened.Open st) = arrived n (step st octets store)
+turnBy s n octets store (opened.Open d) = arrived n (step (d .state) octets store)
 
 -- one packet: the first that passes 1 to 13 opens; every later one arrives
 unfoldable pub turn : Session → List ℕ → List ℕ → Turn
@@ -65,7 +66,7 @@ run s store (p ∷ ps) = printedThen (turn s p store .text) (run (turn s p store
 -- "Without a keeper the counts are 0."
 abbrev pub countsOf : Session → List ℕ
 countsOf session.Waiting = countsText 0 0 0
-countsOf (session.Open st) = countsText (st .fresh) (st .late) (st .missing)
+countsOf (session.Open d) = countsText (d .state .fresh) (d .state .late) (d .state .missing)
 
 -- "`cut` for a broken last frame, before the counts"
 unfoldable pub cutText : Bool → List ℕ

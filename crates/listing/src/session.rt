@@ -8,18 +8,20 @@ ghost use Rattle.wire.specs.Layout.{rfc8331};
 ghost use Rattle.wire.specs.Packet.{readContent};
 ghost use Rattle.rtp.specs.Answers.{checkedOf};
 ghost use Rattle.text.specs.Put.{Put};
-ghost use Rattle.listing.specs.Answers.{ListedFits, TextFits, checkedNumber, checkedOpening, enteredBy, isCut, listedOf, openedRefusal, outAfter, storeAfter, textAfter, textOf};
-ghost use Rattle.listing.specs.Frames.{front};
-ghost use Rattle.lines.specs.Room.{cellRoom, countsRoom, lineRoom, roomy};
+ghost use Rattle.listing.specs.Answers.{ListedFits, TextFits, checkedNumber, checkedOpening, enteredBy, listedOf, openedRefusal, outAfter, storeAfter, textAfter, textOf};
+ghost use Rattle.frames.specs.Answers.{isCut};
+ghost use Rattle.frames.specs.Frames.{front};
+ghost use Rattle.lines.specs.Room.{countsRoom, lineRoom, roomy};
+ghost use Rattle.record_lines.specs.Records.{cellRoom};
 ghost use Rattle.listing.specs.Session as listing;
-use crate::frame::Front;
-use crate::frame::LENGTH_SIZE;
-use crate::frame::frame_at;
 use depacketizer::state::Depacketizer;
 use depacketizer::state::Opened;
-use lines::line::put_answer;
-use lines::line::put_counts;
-use lines::line::put_refused;
+use frames::Front;
+use frames::LENGTH_SIZE;
+use frames::frame_at;
+use lines::put_answer;
+use lines::put_counts;
+use lines::put_refused;
 use rtp::check::check;
 use rtp::packet::Checked;
 use text::put;
@@ -130,10 +132,10 @@ fn list_packet(session: Session, octets: &[u8], store: &mut [u16], out: &mut [u8
     };
     let arrival = depacketizer.arrive(octets, store);
     let answer = arrival.answer;
-    let state = arrival.state;
+    let next = arrival.state;
     let length = put_answer(out, number, answer, store);
     Reply {
-        session: Session::Open(state),
+        session: Session::Open(next),
         length,
     }
 }
@@ -212,7 +214,10 @@ fn put_counts_of(out: &mut [u8], at: usize, session: Session) -> usize
 {
     match session {
         Session::Waiting => put_counts(out, at, 0, 0, 0),
-        Session::Open(state) => put_counts(out, at, state.fresh, state.late, state.missing),
+        Session::Open(depacketizer) => {
+            let state = depacketizer.state;
+            put_counts(out, at, state.fresh, state.late, state.missing)
+        }
     }
 }
 

@@ -1,7 +1,7 @@
 // A packet measured and its headers written (01, "Writing").
 ghost use mathlib.Core.Bool.{_&&_};
 ghost use mathlib.Core.Path.{_≡_};
-ghost use Prim.Native.Nat.{_+_, _<_, _≤_, _^_};
+ghost use Prim.Native.Nat.{_<_, _≤_, _^_};
 ghost use lib.Dec.{leb};
 ghost use lib.ListN.{length};
 ghost use Rattle.wire.specs.Bits.{overwrite, pack};
@@ -12,6 +12,7 @@ ghost use Rattle.packetizer.specs.Answers.{contentOf};
 ghost use Rattle.packetizer.specs.Front.{frontFields, frontSize};
 use cells::check::Listed;
 use cells::check::check_list;
+use cells::check::fits_behind;
 use rtp::packet::Head;
 use wire::count::OctetCount;
 use wire::layout::FRONT_SIZE;
@@ -22,12 +23,6 @@ use wire::limit::MAX_TYPE;
 use wire::refusal::Refusal;
 use words::octet::copy;
 use words::octet::flag;
-
-fn refuse(number: u8) -> Listed
-    ensures { λ r. ⌜ r ≡ Listed.Refused (record { number = number; index = 0 }) ⌝ }
-{
-    Listed::Refused(Refusal { number, index: 0 })
-}
 
 // 24.
 fn head_ok(head: Head) -> bool
@@ -43,38 +38,28 @@ fn within_limits(records: usize, cells: usize) -> bool
     (records <= MAX_RECORDS) & (cells <= MAX_CELLS)
 }
 
-// 22, 23: a packet with so many octets of ANC data packets has at most `most` octets.
-fn packet_fits(octets: OctetCount, most: usize) -> bool
-    ensures { λ r. ⌜ r ≡ leb (frontSize + octets .0) most ⌝ }
-{
-    if most < FRONT_SIZE {
-        return false;
-    }
-    octets.0 <= most - FRONT_SIZE
-}
-
 // 24, 20, 21, 22, 23: the records, and the octets of their ANC data packets.
 pub(crate) fn measure(head: Head, cells: &[u16], room: usize) -> Listed
     ensures { λ r. ⌜ r ≡ listedOf (packetRecords rfc8331 (contentOf head) (now (cells .entry)) room) ⌝ }
 {
     if !head_ok(head) {
-        return refuse(Refusal::HEAD_INVALID);
+        return Listed::refuse(Refusal::HEAD_INVALID);
     }
     let listed = check_list(cells);
     let Listed::Records { count, octets } = listed else {
         return listed;
     };
     let within = within_limits(count, cells.len());
-    let short = packet_fits(octets, MAX_PACKET);
-    let enough = packet_fits(octets, room);
+    let short = fits_behind(FRONT_SIZE, octets, MAX_PACKET);
+    let enough = fits_behind(FRONT_SIZE, octets, room);
     if !within {
-        return refuse(Refusal::OVER_LIMIT);
+        return Listed::refuse(Refusal::OVER_LIMIT);
     }
     if !short {
-        return refuse(Refusal::PACKET_TOO_LONG);
+        return Listed::refuse(Refusal::PACKET_TOO_LONG);
     }
     if !enough {
-        return refuse(Refusal::ROOM_TOO_SMALL);
+        return Listed::refuse(Refusal::ROOM_TOO_SMALL);
     }
     listed
 }

@@ -1,7 +1,7 @@
 -- A packet read stage by stage: the first stage that refuses decides, and where all pass the records are read.
 -- By the nesting of the stages' checks in the definition of the reader.
 use mathlib.Core.Path.{_≡_, refl, ap, sym, _∙_}
-use mathlib.Core.Bool.{Bool, true, false, cond}
+use mathlib.Core.Bool.{true, false}
 use mathlib.Core.List.{List, [], _∷_}
 use Prim.Native.Nat.{ℕ, _+_, _<_, _≤_}
 use native.Mathlib.Omega.{arith}
@@ -13,7 +13,7 @@ use Rattle.wire.specs.declared.refusal.Refusal.{Refusal}
 use Rattle.wire.specs.declared.count.OctetCount.{OctetCount}
 use Rattle.wire.specs.Bits.{Below}
 use Rattle.wire.specs.Layout.{rfc8331, payloadHeaderSize}
-use Rattle.wire.specs.Result.{Result, refused, accepted, refuse, Checks, judge, _then_}
+use Rattle.wire.specs.Result.{Result, refused, accepted, refuse, judge, _then_}
 use Rattle.wire.specs.Anc.{Record, readRun, runOctets, runSize}
 use Rattle.wire.specs.Cells.{listOf}
 use Rattle.wire.specs.Packet.{content, packetRead, headerLeast, headerSize, payloadSize, lengthField, ancCount, runAt, headerChecks, paddingChecks, payloadChecks, readRecords, readPacket, readContent}
@@ -23,30 +23,11 @@ use Rattle.wire.proofs.AncLaws.{run-iff, length-run}
 use Rattle.wire.proofs.PacketLaws.{Sizes, sizes}
 use Rattle.anc.specs.Answers.{runOf}
 use Rattle.anc.specs.declared.check.Run.the-variants as run
-use Rattle.rtp.specs.Answers.{stageOf, frontChecked, checkedOf, headAt}
+use Rattle.stage.specs.Answers.{stageOf}
+use Rattle.stage.specs.declared.Stage.the-variants as stage
+use Rattle.stage.proofs.StageLaws.{stage-refused}
+use Rattle.rtp.specs.Answers.{frontChecked, checkedOf, headAt}
 use Rattle.rtp.specs.declared.packet.Checked.the-variants as checked
-use Rattle.rtp.specs.declared.stage.Stage.the-variants as stage
-
--- a stage that passed: its checks hold, and it found what it should
-pub stage-passed : (ts : Checks) (v : ℕ) (n : OctetCount) → stageOf (judge 0 ts (accepted v)) ≡ stage.Passed n → Passed ts × (v ≡ n .0)
-stage-passed ts v n h = go (judge 0 ts (accepted v)) refl h
-  where
-    go : (r : Result ℕ) → judge 0 ts (accepted v) ≡ r → stageOf r ≡ stage.Passed n → Passed ts × (v ≡ n .0)
-    go (refused x) e h = let z : _≡_ {A = ℕ} 0 1 = cc in absurd (omega arith)
-    go (accepted m) e h =
-        let p = judge-accepts 0 ts (accepted v) m e in
-        let k : record { 0 = m } ≡ n = cc in
-        (p .0, accepted-inj (p .1) ∙ ap (λ (y : OctetCount). y .0) k)
-
--- a stage that refused decides, whatever would follow
-pub stage-refused : {A : Type 0} (ts : Checks) (v : ℕ) (x : Refusal) (r : Result A) → stageOf (judge 0 ts (accepted v)) ≡ stage.Refused x → judge 0 ts r ≡ refused x
-stage-refused [] v x r h = let z : _≡_ {A = ℕ} 0 1 = cc in absurd (omega arith)
-stage-refused (t ∷ ts) v x r h = go (t .0) (stage-refused ts v x r) h
-  where
-    go : (b : Bool) → (stageOf (judge 0 ts (accepted v)) ≡ stage.Refused x → judge 0 ts r ≡ refused x)
-        → stageOf (cond b (judge 0 ts (accepted v)) (refuse (t .1) 0)) ≡ stage.Refused x → cond b (judge 0 ts r) (refuse (t .1) 0) ≡ refused x
-    go true ih h = ih h
-    go false ih h = let e : record { number = t .1; index = 0 } ≡ x = cc in ap refused e
 
 module _ (s : List ℕ) where
   pub refused-header : (x : Refusal) → stageOf (judge 0 (headerChecks s) (accepted (headerSize s))) ≡ stage.Refused x → readContent rfc8331 s ≡ refused x

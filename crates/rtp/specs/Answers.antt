@@ -16,8 +16,6 @@ use Rattle.rtp.specs.declared.packet.Read.{Read}
 use Rattle.rtp.specs.declared.packet.Read.the-variants as read
 use Rattle.rtp.specs.declared.packet.Checked.{Checked}
 use Rattle.rtp.specs.declared.packet.Checked.the-variants as checked
-use Rattle.rtp.specs.declared.stage.Stage.{Stage}
-use Rattle.rtp.specs.declared.stage.Stage.the-variants as stage
 
 -- "source, type, M, packet number, timestamp, F": the six values beside a packet's records
 abbrev pub headOf : Content → Head
@@ -38,16 +36,6 @@ summaryOf k = record { head = headOf k; records = length (k .records); cells = l
 -- the six values that stand in octets, where the header's fields put them
 abbrev pub headAt : List ℕ → Head
 headAt s = headOf (content (packetRead rfc8331 [] s))
-
--- "1, 2 (under 12 octets), 3, 2 (rest)", "4, 5" or "6, 7, 8": the stage's refusal, or the octets that it found
-abbrev pub stageOf : Result ℕ → Stage
-stageOf (refused x) = stage.Refused x
-stageOf (accepted n) = stage.Passed (record { 0 = n })
-
--- "A refusal returns its number and an index": the one that a stage gave
-abbrev pub stageRefusal : Stage → Refusal
-stageRefusal (stage.Refused x) = x
-stageRefusal (stage.Passed n) = noRefusal
 
 -- the three stages one after the other, 1 to 8: the octets of the header with its sources and extension, and those of the ANC data packets
 abbrev pub frontChecked : List ℕ → Result (ℕ × ℕ)

@@ -6,7 +6,7 @@ ghost use Rattle.rtp.specs.Entry.{readLeaves, readReturns};
 
 pub mod check;
 pub mod packet;
-pub mod stage;
+pub mod stages;
 
 use check::check;
 use check::read_records;

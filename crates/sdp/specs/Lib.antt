@@ -2,4 +2,3 @@ pub mod Text
 pub mod Grammar
 pub mod Reading
 pub mod Writing
-pub mod Answers

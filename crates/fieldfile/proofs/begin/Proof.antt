@@ -7,7 +7,7 @@ use Prim.Native.Nat.{ℕ}
 use borrow.Author.Tests.{le-leb, lt-leb}
 use lib.ListN.{length}
 use Rattle.wire.specs.Bits.{overwrite}
-use Rattle.fieldfile.specs.File.{fileHeadSize}
+use Rattle.anf.specs.File.{fileHeadSize}
 use Rattle.wire.specs.declared.written.Written.the-variants as written
 use Rattle.fieldfile.proofs.HeadFields.{head-packed}
 use Rattle.fieldfile.proofs.begin.Statement.{statement}

@@ -7,7 +7,7 @@ use native.Mathlib.Omega.{arith}
 use lib.ListN.{length}
 use Rattle.wire.specs.Result.{Result}
 use Rattle.wire.proofs.Window.{below-all}
-use Rattle.fieldfile.specs.File.{FieldContent}
+use Rattle.anf.specs.File.{FieldContent}
 use Rattle.fieldfile.specs.Answers.{readOf, cellsAfter}
 use Rattle.fieldfile.proofs.ReadLaws.{into-refused, into-short, into-fits, RunTold, run-told}
 use Rattle.fieldfile.proofs.read_field.Statement.{statement}

@@ -9,20 +9,21 @@ use Rattle.wire.specs.Layout.{rfc8331}
 use Rattle.wire.specs.Result.{IsAccepted}
 use Rattle.wire.proofs.AncLaws.{length-run}
 use Rattle.cells.specs.Answers.{listOctets, listRefusal}
-use Rattle.fieldfile.specs.File.{fieldHeaderSize, recordsToWrite}
+use Rattle.anf.specs.File.{fieldHeaderSize, fieldRecords}
 use Rattle.wire.specs.declared.written.Written.the-variants as written
 use Rattle.cells.proofs.ListedLaws.{Taken, taken, listed-refused}
-use Rattle.fieldfile.proofs.WriteLaws.{small, Writes, writes, written-whole, written-length}
+use Rattle.anf.proofs.WritesLaws.{small, Writes, writes}
+use Rattle.fieldfile.proofs.WriteLaws.{written-whole, written-length}
 use Rattle.fieldfile.proofs.write_field.Statement.{statement}
 use Rattle.fieldfile.proofs.write_field.Tie as tie
 
 -- the field was measured and fits
 found : (c : tie.After-known-told)
     → let a = c .before .before .before .before .before .before .args in let n = c .before .listed .given .0 in
-    Taken (recordsToWrite (a .f) (a .cells .now) (length (a .out .now))) (n .0) (n .1 .0)
+    Taken (fieldRecords (a .f) (a .cells .now) (length (a .out .now))) (n .0) (n .1 .0)
 found c =
     let a = c .before .before .before .before .before .before .args in
-    taken (recordsToWrite (a .f) (a .cells .now) (length (a .out .now))) _ _ (sym (c .before .before .before .measure .ensures) ∙ c .before .listed .given .1)
+    taken (fieldRecords (a .f) (a .cells .now) (length (a .out .now))) _ _ (sym (c .before .before .before .measure .ensures) ∙ c .before .listed .given .1)
 
 fits : (c : tie.After-known-told) → let a = c .before .before .before .before .before .before .args in Writes (a .f) (a .cells .now) (length (a .out .now)) (found c .rs)
 fits c = let a = c .before .before .before .before .before .before .args in writes (a .f) (a .cells .now) (length (a .out .now)) (found c .rs) (found c .reads)
@@ -37,7 +38,7 @@ returns : tie.Need-returns
 returns c =
     let a = c .before .before .before .before .before .before .args in
     let t = c .before .enum-told .given in
-    let e = listed-refused (recordsToWrite (a .f) (a .cells .now) (length (a .out .now))) _ (sym (c .before .before .before .measure .ensures) ∙ t .1) in
+    let e = listed-refused (fieldRecords (a .f) (a .cells .now) (length (a .out .now))) _ (sym (c .before .before .before .measure .ensures) ∙ t .1) in
     (rw e (ap written.Refused (c .refusal .ensures ∙ ap listRefusal (t .1))), rw e)
 
 cast-write-header : tie.Need-cast-write-header

@@ -10,10 +10,10 @@ use Prim.Native.Nat.{ℕ, _+_, _<_, _≤_}
 use native.Mathlib.Nat.{le-refl}
 use lib.ListN.{length}
 use Rattle.lines.specs.Room.{lineRoom}
-use Rattle.fieldlist.specs.declared.Run.{Run}
-use Rattle.fieldlist.specs.Turns.{Passed, maxTurns, started, turned, turnsOf}
-use Rattle.fieldlist.proofs.PrintedLaws.{bounds, run-begins, run-whole}
-use Rattle.fieldlist.proofs.TurnLaws.{fewer, one-more, still-enough, still-open, room-for-line}
+use Rattle.turns.specs.declared.Run.{Run}
+use Rattle.turns.specs.Turns.{Passed, maxTurns, started, turned, turnsOf}
+use Rattle.turns.proofs.PrintedLaws.{bounds, run-begins, run-whole}
+use Rattle.turns.proofs.TurnLaws.{fewer, one-more, still-enough, still-open, room-for-line}
 use Rattle.fieldlist.proofs.list.Statement.{statement}
 use Rattle.fieldlist.proofs.list.Tie as tie
 

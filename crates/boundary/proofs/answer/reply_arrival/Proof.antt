@@ -3,7 +3,7 @@
 use borrow.Author.Needs.{needs}
 use mathlib.Core.Path.{ap, sym, _∙_}
 use Rattle.wire.specs.Bits.{overwrite}
-use Rattle.depacketizer.specs.declared.state.Answer.{Answer}
+use Rattle.stream.specs.declared.state.Answer.{Answer}
 use Rattle.boundary.specs.Rows.{arrivalReply}
 use Rattle.boundary.proofs.answer.reply_arrival.Statement.{statement}
 use Rattle.boundary.proofs.answer.reply_arrival.Tie as tie

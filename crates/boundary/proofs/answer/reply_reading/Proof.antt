@@ -2,7 +2,7 @@
 -- By the answer.
 use borrow.Author.Needs.{needs}
 use mathlib.Core.Path.{ap, sym, _∙_}
-use Rattle.fmtp.specs.declared.read.Reading.{Reading}
+use Rattle.fmtp.specs.declared.Reading.{Reading}
 use Rattle.wire.specs.Bits.{overwrite}
 use Rattle.boundary.specs.Rows.{parametersReply}
 use Rattle.boundary.proofs.answer.reply_reading.Statement.{statement}

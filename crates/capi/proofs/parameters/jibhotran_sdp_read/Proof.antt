@@ -5,7 +5,7 @@ use mathlib.Core.Path.{ap, _∙_}
 use borrow.Author.Tests.{le-leb, lt-leb}
 use lib.ListN.{length}
 use Rattle.wire.specs.Bits.{overwrite}
-use Rattle.fmtp.specs.declared.read.Reading.{Reading}
+use Rattle.fmtp.specs.declared.Reading.{Reading}
 use Rattle.boundary.specs.Rows.{answerSize, parametersReply}
 use Rattle.capi.proofs.parameters.jibhotran_sdp_read.Statement.{statement}
 use Rattle.capi.proofs.parameters.jibhotran_sdp_read.Tie as tie

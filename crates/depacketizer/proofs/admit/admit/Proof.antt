@@ -6,12 +6,11 @@ use mathlib.Core.Bool.{Bool}
 use mathlib.Core.List.{[], _∷_}
 use Rattle.wire.specs.Layout.{rfc8331}
 use Rattle.wire.specs.Packet.{readContent}
-use Rattle.rtp.specs.Answers.{headOf}
 use Rattle.rtp.specs.declared.packet.Outline.{Outline}
 use Rattle.rtp.specs.declared.packet.Checked.the-variants as checked
 use Rattle.rtp.proofs.ReadLaws.{refused-is, Found, found}
 use Rattle.depacketizer.specs.declared.admit.Stage.the-variants as stage
-use Rattle.depacketizer.specs.Step.{sound, openedChecks}
+use Rattle.stream.specs.Step.{sound, openedChecks}
 use Rattle.depacketizer.specs.Answers.{stageOf, stageRefusal}
 use Rattle.depacketizer.proofs.AdmitLaws.{told, unread, read}
 use Rattle.depacketizer.proofs.admit.admit.Statement.{statement}
@@ -29,10 +28,10 @@ says c = found _ _ _ (sym (c .before .before .before .check .ensures) ∙ c .bef
 
 -- the stage of 30 and 31
 second : (c : tie.After-check-opened) → let a = c .before .before .before .before .before .before .before .before .before .before .before .args in
-    stageOf (openedChecks (a .state .source) (a .state .«payload_type») (headOf (says (c .before .before) .says))) ≡ c .check-opened .result
+    stageOf (openedChecks (a .state .source) (a .state .«payload_type») (says (c .before .before) .says .source) (says (c .before .before) .says .type)) ≡ c .check-opened .result
 second c =
     let a = c .before .before .before .before .before .before .before .before .before .before .before .args in
-    ap (λ (y : Outline). stageOf (openedChecks (a .state .source) (a .state .«payload_type») (y .summary .head))) (says (c .before .before) .outline) ∙ sym (c .check-opened .ensures)
+    ap (λ (y : Outline). stageOf (openedChecks (a .state .source) (a .state .«payload_type») (y .summary .head .source) (y .summary .head .«payload_type»))) (says (c .before .before) .outline) ∙ sym (c .check-opened .ensures)
 
 returns : tie.Need-returns
 returns c =

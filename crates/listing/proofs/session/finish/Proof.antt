@@ -7,12 +7,12 @@ use native.Mathlib.Nat.{zero-add}
 use native.Mathlib.Omega.{arith}
 use lib.ListN.{length}
 use Rattle.text.proofs.PutLaws.{both, same}
-use Rattle.listing.specs.Frames.{front}
+use Rattle.frames.specs.Frames.{front}
 use Rattle.listing.specs.Session.{cutText}
-use Rattle.listing.specs.Answers.{isCut}
+use Rattle.frames.specs.Answers.{isCut}
 use Rattle.lines.specs.Room.{lineRoom}
 use Rattle.listing.specs.declared.session.Text.the-variants as text
-use Rattle.listing.specs.declared.frame.Front.{Front as FrontFound}
+use Rattle.frames.specs.declared.Front.{Front as FrontFound}
 use Rattle.listing.proofs.TurnLaws.{cut-is}
 use Rattle.listing.proofs.session.finish.Statement.{statement}
 use Rattle.listing.proofs.session.finish.Tie as tie

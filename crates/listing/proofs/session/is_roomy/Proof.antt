@@ -3,7 +3,8 @@
 use borrow.Author.Tests.{lt-leb}
 use Prim.Native.Nat.{_+_, _*_}
 use native.Mathlib.Omega.{arith}
-use Rattle.lines.specs.Room.{lineRoom, cellRoom}
+use Rattle.lines.specs.Room.{lineRoom}
+use Rattle.record_lines.specs.Records.{cellRoom}
 use Rattle.listing.proofs.TurnLaws.{divided}
 use Rattle.listing.proofs.session.is_roomy.Statement.{statement}
 use Rattle.listing.proofs.session.is_roomy.Tie as tie

@@ -10,11 +10,12 @@ use native.Mathlib.Omega.{arith}
 use lib.ListN.{length, take, drop, length-drop}
 use lib.Seq.{length-take-le}
 use Rattle.text.proofs.PutLaws.{same}
-use Rattle.listing.specs.Frames.{front}
-use Rattle.lines.specs.Room.{lineRoom, cellRoom}
+use Rattle.frames.specs.Frames.{front}
+use Rattle.lines.specs.Room.{lineRoom}
+use Rattle.record_lines.specs.Records.{cellRoom}
 use Rattle.listing.specs.Session.{turn}
 use Rattle.listing.specs.declared.session.Listed.the-variants as listed
-use Rattle.listing.proofs.FrameLaws.{FrameAt, frame-found, end-found, cut-found, end-short, cut-short}
+use Rattle.frames.proofs.FrameLaws.{FrameAt, frame-found, end-found, cut-found, end-short, cut-short}
 use Rattle.listing.proofs.session.list_frame.Statement.{statement}
 use Rattle.listing.proofs.session.list_frame.Tie as tie
 

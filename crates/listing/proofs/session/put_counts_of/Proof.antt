@@ -11,7 +11,7 @@ returns : tie.Need-returns
 returns c = same (sym (ap countsOf (c .before .before .before .before .enum-told .given .1))) (c .before .before .put-counts .ensures)
 
 returns-2 : tie.Need-returns-2
-returns-2 c = same (sym (ap countsOf (c .before .before .before .before .before .session .given .1))) (c .before .before .put-counts2 .ensures)
+returns-2 c = same (sym (ap countsOf (c .before .before .before .before .before .before .session .given .1))) (c .before .before .put-counts2 .ensures)
 
 pub put-counts-of-spec : {M : Type 1} → statement M
 put-counts-of-spec =

@@ -36,21 +36,21 @@ returns-3 c =
 returns-4 : tie.Need-returns-4
 returns-4 c =
     let a = sym (c .before .before .before .before .before .within-limits .ensures) ∙ not-false _ (c .before .before .if2 .left) in
-    let b = sym (c .before .before .before .before .packet-fits .ensures) ∙ not-true _ (c .before .if3 .taken) in
+    let b = sym (c .before .before .before .before .fits-behind .ensures) ∙ not-true _ (c .before .if3 .taken) in
     c .refuse3 .ensures ∙ sym (ap listedOf (too-long (c .before .before .before .before .before .before .before .before .before .before .before .before .before .args .head) (c .before .before .before .before .before .before .before .before .before .before .before .before .before .args .cells .now) (c .before .before .before .before .before .before .before .before .before .before .before .before .before .args .room) (head-passed (c .before .before .before .before .before .before .before .before .before .before)) _ _ (list-passed (c .before .before .before .before .before .before)) a b))
 
 returns-5 : tie.Need-returns-5
 returns-5 c =
     let a = sym (c .before .before .before .before .before .before .within-limits .ensures) ∙ not-false _ (c .before .before .before .if2 .left) in
-    let b = sym (c .before .before .before .before .before .packet-fits .ensures) ∙ not-false _ (c .before .before .if3 .left) in
-    let d = sym (c .before .before .before .before .packet-fits2 .ensures) ∙ not-true _ (c .before .if4 .taken) in
+    let b = sym (c .before .before .before .before .before .fits-behind .ensures) ∙ not-false _ (c .before .before .if3 .left) in
+    let d = sym (c .before .before .before .before .fits-behind2 .ensures) ∙ not-true _ (c .before .if4 .taken) in
     c .refuse4 .ensures ∙ sym (ap listedOf (no-room (c .before .before .before .before .before .before .before .before .before .before .before .before .before .before .args .head) (c .before .before .before .before .before .before .before .before .before .before .before .before .before .before .args .cells .now) (c .before .before .before .before .before .before .before .before .before .before .before .before .before .before .args .room) (head-passed (c .before .before .before .before .before .before .before .before .before .before .before)) _ _ (list-passed (c .before .before .before .before .before .before .before)) a b d))
 
 returns-6 : tie.Need-returns-6
 returns-6 c =
     let a = sym (c .before .before .before .before .before .within-limits .ensures) ∙ not-false _ (c .before .before .if2 .left) in
-    let b = sym (c .before .before .before .before .packet-fits .ensures) ∙ not-false _ (c .before .if3 .left) in
-    let d = sym (c .before .before .before .packet-fits2 .ensures) ∙ not-false _ (c .if4 .left) in
+    let b = sym (c .before .before .before .before .fits-behind .ensures) ∙ not-false _ (c .before .if3 .left) in
+    let d = sym (c .before .before .before .fits-behind2 .ensures) ∙ not-false _ (c .if4 .left) in
     sym (all-fit (c .before .before .before .before .before .before .before .before .before .before .before .before .before .args .head) (c .before .before .before .before .before .before .before .before .before .before .before .before .before .args .cells .now) (c .before .before .before .before .before .before .before .before .before .before .before .before .before .args .room) (head-passed (c .before .before .before .before .before .before .before .before .before .before)) _ _ (list-passed (c .before .before .before .before .before .before)) a b d)
 
 pub measure-spec : {M : Type 1} → statement M

@@ -1,8 +1,7 @@
 -- `check` tells what a packet says and where its ANC data packets stand, or gives the refusal.
 -- Stage by stage: what each stage told is carried to the next.
 use borrow.Author.Needs.{needs}
-use mathlib.Core.Path.{_≡_, ap, ap₂, sym, _∙_, subst}
-use mathlib.Core.List.{List}
+use mathlib.Core.Path.{_≡_, ap, sym, _∙_, subst}
 use Prim.Native.Nat.{ℕ, _≤_}
 use native.Mathlib.Omega.{arith}
 use lib.ListN.{length}
@@ -10,9 +9,10 @@ use Rattle.wire.specs.Layout.{rfc8331}
 use Rattle.wire.specs.Packet.{headerSize, payloadSize, lengthField, headerChecks, paddingChecks, payloadChecks}
 use Rattle.wire.proofs.ResultLaws.{Passed}
 use Rattle.wire.proofs.PacketLaws.{header-sizes, padding-sizes}
-use Rattle.rtp.specs.Answers.{stageRefusal}
+use Rattle.stage.specs.Answers.{stageRefusal}
+use Rattle.stage.proofs.StageLaws.{stage-passed}
 use Rattle.rtp.specs.declared.packet.Checked.the-variants as checked
-use Rattle.rtp.proofs.StageLaws.{stage-passed, refused-header, refused-padding, refused-payload, front-passed}
+use Rattle.rtp.proofs.StageLaws.{refused-header, refused-padding, refused-payload, front-passed}
 use Rattle.rtp.proofs.check.check.Statement.{statement}
 use Rattle.rtp.proofs.check.check.Tie as tie
 

@@ -19,12 +19,13 @@ use Rattle.rtp.specs.declared.packet.Outline.{Outline}
 use Rattle.rtp.specs.declared.packet.Summary.{Summary}
 use Rattle.rtp.specs.declared.packet.Checked.the-variants as checked
 use Rattle.rtp.proofs.ReadLaws.{Found, found}
-use Rattle.depacketizer.specs.declared.state.Answer.the-variants as answer
-use Rattle.depacketizer.specs.declared.state.Depacketizer.{Depacketizer as State}
+use Rattle.stream.specs.declared.state.Answer.the-variants as answer
+use Rattle.stream.specs.declared.state.State.{State}
 use Rattle.depacketizer.specs.declared.distance.Freshness.the-variants as freshness
-use Rattle.depacketizer.specs.Step.{Step, step, gathered, lost, follow, decisionOf, after, sound, admission, classify, distance}
-use Rattle.depacketizer.specs.Answers.{freshnessOf, arrivalOf}
-use Rattle.depacketizer.proofs.AdmitLaws.{passed, step-admitted, packet-late}
+use Rattle.stream.specs.Step.{Step, step, gathered, lost, carried, follow, sound, admission, classify, distance}
+use Rattle.depacketizer.specs.Answers.{freshnessOf, carriedBy, decisionOf, afterOf, arrivalOf}
+use Rattle.stream.proofs.StepLaws.{passed, step-admitted}
+use Rattle.depacketizer.proofs.AdmitLaws.{packet-late}
 use Rattle.depacketizer.proofs.DecideLaws.{Sound, sound-is}
 use Rattle.depacketizer.proofs.ArriveLaws.{refused-step, fresh-step, fresh-room}
 use Rattle.depacketizer.proofs.state.Depacketizer.arrive.Statement.{statement}
@@ -35,7 +36,8 @@ kept true l at x h = length-splice l at x (h refl)
 kept false l at x h = refl
 
 -- what the admitted packet says
-says : (c : tie.After-known-told) → Found (c .before .before .before .before .before .before .args .octets .now) (admission (c .before .before .before .before .before .before .args .self) (length (c .before .before .before .before .before .before .args .store .now)) (c .before .before .before .before .before .before .args .octets .now)) (c .before .admitted .given .0 .0)
+says : (c : tie.After-known-told) → let a = c .before .before .before .before .before .before .before .args in
+    Found (a .octets .now) (admission (a .self .state) (length (a .store .now)) (a .octets .now)) (c .before .admitted .given .0 .0)
 says c = found _ _ _ (sym (c .before .before .before .admit .ensures) ∙ c .before .admitted .given .1)
 
 said : (c : tie.After-known-told) → summaryOf (says c .says) ≡ c .before .admitted .given .0 .0 .summary
@@ -45,92 +47,97 @@ number-is : (c : tie.After-known-told) → c .before .admitted .given .0 .0 .sum
 number-is c = ap (λ (y : Summary). y .head .number .0) (sym (said c))
 
 -- the state is sound, and the packet is read
-passes : (c : tie.After-known-told) → (sound (c .before .before .before .before .before .before .args .self) (length (c .before .before .before .before .before .before .args .store .now)) ≡ true) × (readContent rfc8331 (c .before .before .before .before .before .before .args .octets .now) ≡ accepted (says c .says))
-passes c = let a = c .before .before .before .before .before .before .args in passed (a .self) (length (a .store .now)) (a .octets .now) (says c .says) (says c .reads)
+passes : (c : tie.After-known-told) → let a = c .before .before .before .before .before .before .before .args in
+    (sound (a .self .state) (length (a .store .now)) ≡ true) × (readContent rfc8331 (a .octets .now) ≡ accepted (says c .says))
+passes c = let a = c .before .before .before .before .before .before .before .args in passed (a .self .state) (length (a .store .now)) (a .octets .now) (says c .says) (says c .reads)
 
-is-sound : (c : tie.After-known-told) → Sound (c .before .before .before .before .before .before .args .self) (length (c .before .before .before .before .before .before .args .store .now))
-is-sound c = let a = c .before .before .before .before .before .before .args in sound-is (a .self) (length (a .store .now)) (passes c .0)
+is-sound : (c : tie.After-known-told) → let a = c .before .before .before .before .before .before .before .args in
+    Sound (a .self .state) (length (a .store .now))
+is-sound c = let a = c .before .before .before .before .before .before .before .args in sound-is (a .self .state) (length (a .store .now)) (passes c .0)
 
 -- where the packet stands
 placed : (c : tie.After-known-told2)
-    → freshnessOf (c .before .before .before .before .before .before .before .before .before .before .before .before .args .self .heard) (classify (distance (c .before .before .before .before .before .before .before .before .before .before .before .before .args .self .last .0) (says (c .before .before .before .before .before .before) .says .number)))
+    → let a = c .before .before .before .before .before .before .before .before .before .before .before .before .before .args in
+    freshnessOf (a .self .state .heard) (classify (distance (a .self .state .last .0) (says (c .before .before .before .before .before .before) .says .number)))
     ≡ freshness.Fresh (c .before .freshness .given .0 .0) (c .before .freshness .given .0 .1 .0)
 placed c =
-    let a = c .before .before .before .before .before .before .before .before .before .before .before .before .args in
-    ap (λ (x : ℕ). freshnessOf (a .self .heard) (classify (distance (a .self .last .0) x))) (sym (number-is (c .before .before .before .before .before .before)))
+    let a = c .before .before .before .before .before .before .before .before .before .before .before .before .before .args in
+    ap (λ (x : ℕ). freshnessOf (a .self .state .heard) (classify (distance (a .self .state .last .0) x))) (sym (number-is (c .before .before .before .before .before .before)))
     ∙ sym (c .before .before .before .classify .ensures) ∙ c .before .freshness .given .1
 
 -- what is decided, of what the packet says
 decided : (c : tie.After-decide)
-    → c .decide .result
-    ≡ decisionOf (follow (cond (c .before .before .freshness .given .0 .1 .0) (gathered (c .before .before .before .before .before .before .before .before .before .before .before .before .before .args .self)) lost) (summaryOf (says (c .before .before .before .before .before .before .before) .says)) (length (c .before .before .before .before .before .before .before .before .before .before .before .before .before .args .store .now)))
+    → let a = c .before .before .before .before .before .before .before .before .before .before .before .before .before .before .args in
+    c .decide .result
+    ≡ decisionOf (follow (cond (c .before .before .freshness .given .0 .1 .0) (gathered (a .self .state)) lost) (carried (says (c .before .before .before .before .before .before .before) .says)) (length (a .store .now)))
 decided c =
-    let a = c .before .before .before .before .before .before .before .before .before .before .before .before .before .args in
+    let a = c .before .before .before .before .before .before .before .before .before .before .before .before .before .before .args in
     c .decide .ensures
-    ∙ ap (λ (x : Summary). decisionOf (follow (cond (c .before .before .freshness .given .0 .1 .0) (gathered (a .self)) lost) x (length (a .store .now)))) (sym (said (c .before .before .before .before .before .before .before)))
+    ∙ ap (λ (x : Summary). decisionOf (follow (cond (c .before .before .freshness .given .0 .1 .0) (gathered (a .self .state)) lost) (carriedBy x) (length (a .store .now)))) (sym (said (c .before .before .before .before .before .before .before)))
 
 -- the whole step
 stepped : (c : tie.After-decide)
-    → let a = c .before .before .before .before .before .before .before .before .before .before .before .before .before .args in
+    → let a = c .before .before .before .before .before .before .before .before .before .before .before .before .before .before .args in
     let k = says (c .before .before .before .before .before .before .before) .says in
-    step (a .self) (a .octets .now) (a .store .now)
+    step (a .self .state) (a .octets .now) (a .store .now)
     ≡ record {
       answer = c .decide .result .answer;
-      state = after (a .self) (k .number) (c .decide .result) (c .before .before .freshness .given .0 .0);
-      store = cond (c .decide .result .append) (splice (a .store .now) (a .self .cells) (listOf (k .records))) (a .store .now);
+      state = afterOf (a .self .state) (k .number) (c .decide .result) (c .before .before .freshness .given .0 .0);
+      store = cond (c .decide .result .append) (splice (a .store .now) (a .self .state .cells) (listOf (k .records))) (a .store .now);
     }
 stepped c =
-    let a = c .before .before .before .before .before .before .before .before .before .before .before .before .before .args in
+    let a = c .before .before .before .before .before .before .before .before .before .before .before .before .before .before .args in
     let f = says (c .before .before .before .before .before .before .before) in
-    fresh-step (a .self) (a .octets .now) (a .store .now) (f .says) (f .reads) (c .before .before .freshness .given .0 .0) (c .before .before .freshness .given .0 .1 .0)
+    fresh-step (a .self .state) (a .octets .now) (a .store .now) (f .says) (f .reads) (c .before .before .freshness .given .0 .0) (c .before .before .freshness .given .0 .1 .0)
     (placed (c .before)) (c .decide .result) (decided c)
 
 -- appended cells have room
-roomy : (c : tie.After-decide) → c .decide .result .append ≡ true
-    → c .before .before .before .before .before .before .before .before .before .before .before .before .before .args .self .cells + length (listOf (says (c .before .before .before .before .before .before .before) .says .records)) ≤ length (c .before .before .before .before .before .before .before .before .before .before .before .before .before .args .store .now)
+roomy : (c : tie.After-decide) → let a = c .before .before .before .before .before .before .before .before .before .before .before .before .before .before .args in
+    c .decide .result .append ≡ true
+    → a .self .state .cells + length (listOf (says (c .before .before .before .before .before .before .before) .says .records)) ≤ length (a .store .now)
 roomy c =
-    let a = c .before .before .before .before .before .before .before .before .before .before .before .before .before .args in
+    let a = c .before .before .before .before .before .before .before .before .before .before .before .before .before .before .args in
     let f = says (c .before .before .before .before .before .before .before) in
-    fresh-room (a .self) (a .octets .now) (a .store .now) (f .says) (f .reads) (c .before .before .freshness .given .0 .0) (c .before .before .freshness .given .0 .1 .0)
+    fresh-room (a .self .state) (a .octets .now) (a .store .now) (f .says) (f .reads) (c .before .before .freshness .given .0 .0) (c .before .before .freshness .given .0 .1 .0)
     (placed (c .before)) (c .decide .result) (decided c)
 
 -- what the store then holds
 written : (c : tie.After-after)
-    → let a = c .before .before .before .before .before .before .before .before .before .before .before .before .before .before .before .args in
-    c .before .if1 .store ≡ cond (c .before .before .decide .result .append) (splice (a .store .now) (a .self .cells) (listOf (says (c .before .before .before .before .before .before .before .before .before) .says .records))) (a .store .now)
+    → let a = c .before .before .before .before .before .before .before .before .before .before .before .before .before .before .before .before .args in
+    c .before .if1 .store ≡ cond (c .before .before .decide .result .append) (splice (a .store .now) (a .self .state .cells) (listOf (says (c .before .before .before .before .before .before .before .before .before) .says .records))) (a .store .now)
 written c =
-    let a = c .before .before .before .before .before .before .before .before .before .before .before .before .before .before .before .args in
+    let a = c .before .before .before .before .before .before .before .before .before .before .before .before .before .before .before .before .args in
     let p = c .before .before .before .before .before .before .before .before .before in
     let x = listOf (says p .says .records) in
     ⊎-elim
     (λ w.
-    w .5 ∙ part-written (a .self .cells) (a .store .now) x _ (w .2 .ensures ∙ ap (λ (r : Result Content). cellsAfter r (take (length (a .store .now) - a .self .cells) (drop (a .self .cells) (a .store .now)))) (passes p .1))
-    ∙ ap (λ (b : Bool). cond b (splice (a .store .now) (a .self .cells) x) (a .store .now)) (sym (w .0 .taken)))
-    (λ w. w .1 ∙ ap (λ (b : Bool). cond b (splice (a .store .now) (a .self .cells) x) (a .store .now)) (sym (w .0 .left)))
+    w .5 ∙ part-written (a .self .state .cells) (a .store .now) x _ (w .2 .ensures ∙ ap (λ (r : Result Content). cellsAfter r (take (length (a .store .now) - a .self .state .cells) (drop (a .self .state .cells) (a .store .now)))) (passes p .1))
+    ∙ ap (λ (b : Bool). cond b (splice (a .store .now) (a .self .state .cells) x) (a .store .now)) (sym (w .0 .taken)))
+    (λ w. w .1 ∙ ap (λ (b : Bool). cond b (splice (a .store .now) (a .self .state .cells) x) (a .store .now)) (sym (w .0 .left)))
     (c .before .if1 .came)
 
-same-size : (c : tie.After-after) → length (c .before .if1 .store) ≡ length (c .before .before .before .before .before .before .before .before .before .before .before .before .before .before .before .args .store .now)
+same-size : (c : tie.After-after) → length (c .before .if1 .store) ≡ length (c .before .before .before .before .before .before .before .before .before .before .before .before .before .before .before .before .args .store .now)
 same-size c =
-    let a = c .before .before .before .before .before .before .before .before .before .before .before .before .before .before .before .args in
+    let a = c .before .before .before .before .before .before .before .before .before .before .before .before .before .before .before .before .args in
     let x = listOf (says (c .before .before .before .before .before .before .before .before .before) .says .records) in
-    ap length (written c) ∙ kept (c .before .before .decide .result .append) (a .store .now) (a .self .cells) x (roomy (c .before .before))
+    ap length (written c) ∙ kept (c .before .before .decide .result .append) (a .store .now) (a .self .state .cells) x (roomy (c .before .before))
 
 returns : tie.Need-returns
 returns c =
-    let a = c .before .before .before .before .before .before .args in
+    let a = c .before .before .before .before .before .before .before .args in
     let t = c .before .enum-told .given in
-    let e = refused-step (a .self) (a .octets .now) (a .store .now) _ _ (c .before .before .before .admit .ensures) (t .1) in
+    let e = refused-step (a .self .state) (a .octets .now) (a .store .now) _ _ (c .before .before .before .admit .ensures) (t .1) in
     rw (c .refusal .ensures, t .1) (ap arrivalOf (sym e), ap (λ (x : Step). x .store) (sym e))
 
 returns-2 : tie.Need-returns-2
 returns-2 c =
-    let a = c .before .before .before .before .before .before .before .before .before .before .before .before .args in
+    let a = c .before .before .before .before .before .before .before .before .before .before .before .before .before .args in
     let p = c .before .before .before .before .before .before in
     let k = says p .says in
-    let e = step-admitted (a .self) (a .octets .now) (a .store .now) k (says p .reads)
-    ∙ packet-late (a .self) k (a .store .now) (a .self .heard)
-    (ap (λ (x : ℕ). freshnessOf (a .self .heard) (classify (distance (a .self .last .0) x))) (sym (number-is p)) ∙ sym (c .before .before .before .classify .ensures) ∙ c .before .enum-told2 .given .1) in
-    (ap (λ (x : State). record { state = x; answer = answer.Refused (record { number = 32; index = 0 }) }) (c .later .ensures) ∙ ap arrivalOf (sym e), ap (λ (x : Step). x .store) (sym e))
+    let e = step-admitted (a .self .state) (a .octets .now) (a .store .now) k (says p .reads)
+    ∙ packet-late (a .self .state) k (a .store .now) (a .self .state .heard)
+    (ap (λ (x : ℕ). freshnessOf (a .self .state .heard) (classify (distance (a .self .state .last .0) x))) (sym (number-is p)) ∙ sym (c .before .before .before .classify .ensures) ∙ c .before .enum-told2 .given .1) in
+    (ap (λ (x : State). record { state = record { state = x }; answer = answer.Refused (record { number = 32; index = 0 }) }) (c .later .ensures) ∙ ap arrivalOf (sym e), ap (λ (x : Step). x .store) (sym e))
 
 decide-requires : tie.Need-decide-requires
 decide-requires c κs = let s = is-sound (c .before .before .before .before .before .before) in (s .fitting .records, s .fitting .cells)
@@ -146,7 +153,7 @@ part-read-records-start c = omega (arith, is-sound (c .before .before .before .b
 
 read-records-requires : tie.Need-read-records-requires
 read-records-requires c κs =
-    let a = c .before .before .before .before .before .before .before .before .before .before .before .before .before .before .before .args in
+    let a = c .before .before .before .before .before .before .before .before .before .before .before .before .before .before .before .before .args in
     let p = c .before .before .before .before .before .before .before .before .before in
     let n = roomy (c .before .before) (c .before .if1 .taken) in
     let e = ap (λ (x : Summary). x .cells) (said p) in
@@ -159,9 +166,9 @@ returns-3 : tie.Need-returns-3
 returns-3 c =
     let p = c .before .before .before .before .before .before .before .before .before in
     let d = c .before .before in
-    let a = c .before .before .before .before .before .before .before .before .before .before .before .before .before .before .before .args in
-    let e = ap (λ (x : ℕ). after (a .self) x (d .decide .result) (d .before .before .freshness .given .0 .0)) (number-is p) in
-    ((λ i. record { state = (c .after .ensures ∙ e) i; answer = d .decide .result .answer }) ∙ ap arrivalOf (sym (stepped d)), written c ∙ ap (λ (x : Step). x .store) (sym (stepped d)))
+    let a = c .before .before .before .before .before .before .before .before .before .before .before .before .before .before .before .before .args in
+    let e = ap (λ (x : ℕ). afterOf (a .self .state) x (d .decide .result) (d .before .before .freshness .given .0 .0)) (number-is p) in
+    ((λ i. record { state = record { state = (c .after .ensures ∙ e) i }; answer = d .decide .result .answer }) ∙ ap arrivalOf (sym (stepped d)), written c ∙ ap (λ (x : Step). x .store) (sym (stepped d)))
 
 pub arrive-spec : {M : Type 1} → statement M
 arrive-spec =

@@ -1,0 +1,6 @@
+pub mod Examples
+pub mod FrontLaws
+pub mod WritesLaws
+pub mod FileLaws
+pub mod CutFile
+pub mod WholeFile

@@ -1,0 +1,89 @@
+// The stages of reading before the ANC data packets (01, "Field file").
+ghost use mathlib.Core.Bool.{_&&_};
+ghost use mathlib.Core.Path.{_≡_};
+ghost use Prim.Native.Nat.{_≤_};
+ghost use lib.Dec.{eqb, leb};
+ghost use lib.ListN.{length};
+ghost use Rattle.wire.specs.Bits.{bitsAt};
+ghost use Rattle.wire.specs.Result.{accepted, judge};
+ghost use Rattle.stage.specs.Answers.{stageOf};
+ghost use Rattle.anf.specs.File.{fieldHeaderChecks, fieldHeaderSize, fileChecks, fileFOk, fileHeadSize, fileName, nameBits, nameSize, offsetChecks};
+use anf::format::F_AT;
+use anf::format::HEAD_SIZE;
+use anf::format::HEADER_SIZE;
+use anf::format::NAME;
+use anf::format::NAME_SIZE;
+use anf::format::VERSION;
+use stage::Stage;
+use wire::count::OctetCount;
+use wire::refusal::Refusal;
+use words::octet::pair_at;
+use words::octet::wide;
+
+// The file starts with `ANF`.
+fn name_ok(file: &[u8]) -> bool
+    requires { ⌜ nameSize ≤ length (now file) ⌝ }
+    ensures { λ r. ⌜ r ≡ eqb (bitsAt (now (file .entry)) 0 nameBits) fileName ⌝ }
+{
+    (wide(file[0]) * 256 + wide(file[1])) * 256 + wide(file[2]) == NAME
+}
+
+// 50, 51: the octets of a field's header in this file.
+pub(crate) fn check_file(file: &[u8]) -> Stage
+    ensures { λ r. ⌜ r ≡ stageOf (judge 0 (fileChecks (now (file .entry))) (accepted fieldHeaderSize)) ⌝ }
+{
+    if file.len() < NAME_SIZE {
+        return Stage::refuse(Refusal::NOT_ANF);
+    }
+    if !name_ok(file) {
+        return Stage::refuse(Refusal::NOT_ANF);
+    }
+    if file.len() < HEAD_SIZE {
+        return Stage::refuse(Refusal::FILE_VERSION_WRONG);
+    }
+    if pair_at(file, NAME_SIZE) != VERSION {
+        return Stage::refuse(Refusal::FILE_VERSION_WRONG);
+    }
+    Stage::Passed(OctetCount(HEADER_SIZE))
+}
+
+// The offset is behind the head, and not past the end.
+fn offset_ok(file: &[u8], at: OctetCount) -> bool
+    ensures { λ r. ⌜ r ≡ leb fileHeadSize (at .0) && leb (at .0) (length (now (file .entry))) ⌝ }
+{
+    (HEAD_SIZE <= at.0) & (at.0 <= file.len())
+}
+
+// 55, 54: the offset, where a field starts.
+pub(crate) fn check_offset(file: &[u8], at: OctetCount) -> Stage
+    ensures { λ r. ⌜ r ≡ stageOf (judge 0 (offsetChecks (now (file .entry)) (at .0)) (accepted (at .0))) ⌝ }
+{
+    if !offset_ok(file, at) {
+        return Stage::refuse(Refusal::OFFSET_INVALID);
+    }
+    if at.0 == file.len() {
+        return Stage::refuse(Refusal::END_OF_FILE);
+    }
+    Stage::Passed(at)
+}
+
+// F is 0, 2 or 3.
+pub(crate) fn f_ok(f: u8) -> bool
+    ensures { λ r. ⌜ r ≡ fileFOk f ⌝ }
+{
+    (f == 0) | ((f == 2) | (f == 3))
+}
+
+// 52, 53, of the field at the front of the octets, whose header has `header` octets.
+pub(crate) fn check_header(octets: &[u8], header: OctetCount) -> Stage
+    requires { ⌜ header .0 ≡ fieldHeaderSize ⌝ }
+    ensures { λ r. ⌜ r ≡ stageOf (judge 0 (fieldHeaderChecks (now (octets .entry))) (accepted fieldHeaderSize)) ⌝ }
+{
+    if octets.len() < header.0 {
+        return Stage::refuse(Refusal::FIELD_HEADER_CUT);
+    }
+    if !f_ok(octets[F_AT]) {
+        return Stage::refuse(Refusal::FILE_F_INVALID);
+    }
+    Stage::Passed(header)
+}

@@ -1,0 +1,3 @@
+// A depacketizer's state as a row of numbers, which the C boundary passes.
+pub mod row;
+pub mod state;

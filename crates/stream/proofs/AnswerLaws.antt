@@ -1,0 +1,92 @@
+-- What an arrival leaves, by its answer: the store and the phase, over every state, packet and store.
+-- By what is gathered, and the tests.
+use mathlib.Core.Path.{_≡_, refl, _∙_, ap, sym}
+use mathlib.Core.Bool.{Bool, true, false, _&&_}
+use mathlib.Core.List.{List}
+use Prim.Native.Nat.{ℕ, _+_}
+use native.Mathlib.Omega.{arith}
+use lib.Dec.{eqb}
+use lib.ListN.{length}
+use borrow.Author.Tests.{eq-eqb, ne-eqb}
+use Rattle.wire.specs.Layout.{rfc8331}
+use Rattle.wire.specs.Result.{accepted}
+use Rattle.wire.specs.Packet.{Content, readContent}
+use Rattle.stream.specs.declared.state.State.{State}
+use Rattle.stream.specs.declared.state.Field.{Field}
+use Rattle.stream.specs.declared.state.Answer.{Answer}
+use Rattle.stream.specs.declared.state.Answer.the-variants as answer
+use Rattle.stream.specs.Step.{Gathered, lost, ready, filling, phaseOf, Gather, Carried, carried, dropped, taken, joinFits, joinIfFits, join, joinIfSame, follow, freshStep, step, wholeIfMarked, fieldWith, appended}
+use Rattle.stream.specs.Laws.{PhaseAfter, appends, StoreAfter}
+use Rattle.stream.proofs.StepLaws.{step-is}
+
+taken-appends : (b : Bool) (x : Field) → appends (wholeIfMarked b x) ≡ true
+taken-appends true x = refl
+taken-appends false x = refl
+
+join-appends : (r c : ℕ) (p : Carried) (room : ℕ) → appends (join r c p room .answer) ≡ join r c p room .append
+join-appends r c p room = go (joinFits r c p room)
+  where
+    go : (b : Bool) → appends (joinIfFits b p (r + p .records) (c + p .cells) .answer) ≡ joinIfFits b p (r + p .records) (c + p .cells) .append
+    go true = taken-appends (p .marked) (fieldWith p (r + p .records) (c + p .cells))
+    go false = refl
+
+-- a fresh packet'p cells are appended with the answers held and whole
+follow-appends : (g : Gathered) (p : Carried) (room : ℕ) → appends (follow g p room .answer) ≡ follow g p room .append
+follow-appends lost p room = refl
+follow-appends ready p room = join-appends 0 0 p room
+follow-appends (filling t f r c) p room = go (eqb t (p .timestamp) && eqb f (p .f))
+  where
+    go : (b : Bool) → appends (joinIfSame b r c p room .answer) ≡ joinIfSame b r c p room .append
+    go true = join-appends r c p room
+    go false = refl
+
+-- "Held and whole append their cells after the gathered ones; other answers write nothing."
+pub store-after : (st : State) (octets store : List ℕ) → StoreAfter store (step st octets store)
+store-after st octets store =
+    step-is st octets store (StoreAfter store) (λ x e. refl) (λ e. refl)
+    (λ k q h g m e. ap (λ (t : Bool). appended t g k store) (sym (follow-appends g (carried k) (length store)) ∙ e))
+
+-- what a fresh packet leaves, marked or not
+record Leaves (marker : Bool) (x : Gather) : Type 0 where
+  marked : marker ≡ true → x .gathered ≡ ready
+  unmarked : marker ≡ false → (x .answer ≡ answer.Held → ⊥) → x .gathered ≡ lost
+
+dropped-leaves : (a : Answer) (m : Bool) → Leaves m (dropped a m)
+dropped-leaves a m = record { marked = λ e. rw e; unmarked = λ e n. rw e }
+
+taken-leaves : (p : Carried) (r c : ℕ) → Leaves (p .marked) (taken p r c)
+taken-leaves p r c = record { marked = λ e. rw e; unmarked = λ e n. absurd (n (rw e)) }
+
+join-leaves : (r c : ℕ) (p : Carried) (room : ℕ) → Leaves (p .marked) (join r c p room)
+join-leaves r c p room = go (joinFits r c p room)
+  where
+    go : (b : Bool) → Leaves (p .marked) (joinIfFits b p (r + p .records) (c + p .cells))
+    go true = taken-leaves p (r + p .records) (c + p .cells)
+    go false = dropped-leaves answer.Overfull (p .marked)
+
+follow-leaves : (g : Gathered) (p : Carried) (room : ℕ) → Leaves (p .marked) (follow g p room)
+follow-leaves lost p room = dropped-leaves answer.Skipped (p .marked)
+follow-leaves ready p room = join-leaves 0 0 p room
+follow-leaves (filling t f r c) p room = go (eqb t (p .timestamp) && eqb f (p .f))
+  where
+    go : (b : Bool) → Leaves (p .marked) (joinIfSame b r c p room)
+    go true = join-leaves r c p room
+    go false = dropped-leaves answer.Mixed (p .marked)
+
+fresh-phase : (st : State) (g : Gathered) (missing : ℕ) (k : Content) (store : List ℕ) → PhaseAfter k (freshStep st g missing k store)
+fresh-phase st g missing k store =
+    let l = follow-leaves g (carried k) (length store) in
+    record {
+      marked = λ f e. ap phaseOf (l .marked (eq-eqb (k .marker) 1 e));
+      unmarked = λ f e n. ap phaseOf (l .unmarked (ne-eqb (k .marker) 1 (omega arith)) n);
+    }
+
+-- "After any marked fresh arrival the keeper is ready; after an unmarked one that isn't held it is lost."
+pub phase-after : (st : State) (octets store : List ℕ) (k : Content) → readContent rfc8331 octets ≡ accepted k
+    → PhaseAfter k (step st octets store)
+phase-after st octets store k e =
+    step-is st octets store (PhaseAfter k) (λ x. record { marked = λ f m. absurd (f x refl); unmarked = λ f m n. absurd (f x refl) })
+    (record { marked = λ f m. absurd (f _ refl); unmarked = λ f m n. absurd (f _ refl) })
+    (λ k′ e′ h g m.
+    let q : k′ ≡ k = cc in
+    rw q (fresh-phase st g m k store))

@@ -1,0 +1,77 @@
+-- A state that 35 lets pass stays one: over every packet and store.
+-- By what is gathered, and the tests: what joined is within the limits and the store.
+use mathlib.Core.Path.{_≡_, refl, _∙_, ap, sym}
+use mathlib.Core.Bool.{Bool, true, false, cond, _&&_}
+use mathlib.Core.List.{List, []}
+use Prim.Native.Nat.{ℕ, _+_}
+use lib.Dec.{eqb}
+use lib.ListN.{length}
+use Rattle.wire.specs.Cells.{listOf}
+use Rattle.wire.specs.Packet.{Content}
+use Rattle.wire.proofs.ListLaws.{length-splice}
+use Rattle.stream.specs.declared.state.State.{State}
+use Rattle.stream.specs.Step.{Gathered, lost, ready, filling, gatheredCells, Carried, carried, joinFits, joinIfFits, join, joinIfSame, follow, appended, sound, admit, Step, step}
+use Rattle.stream.specs.Laws.{Passes35}
+use Rattle.stream.proofs.FitLaws.{gatheredFits, nothing-fits, taken-fits, sound-heard, follow-room}
+use Rattle.stream.proofs.NumberLaws.{admit-numbered}
+use Rattle.stream.proofs.StepLaws.{sound-step, admitted-not-35, step-refused, step-is}
+
+dropped-fits : (b : Bool) (room : ℕ) → gatheredFits (cond b ready lost) room ≡ true
+dropped-fits true room = nothing-fits room
+dropped-fits false room = nothing-fits room
+
+join-fits : (r c : ℕ) (p : Carried) (room : ℕ) → gatheredFits (join r c p room .gathered) room ≡ true
+join-fits r c p room = go (joinFits r c p room) refl
+  where
+    go : (b : Bool) → joinFits r c p room ≡ b → gatheredFits (joinIfFits b p (r + p .records) (c + p .cells) .gathered) room ≡ true
+    go true e = taken-fits (p .marked) (p .timestamp) (p .f) (r + p .records) (c + p .cells) room e
+    go false e = dropped-fits (p .marked) room
+
+follow-fits : (g : Gathered) (p : Carried) (room : ℕ) → gatheredFits (follow g p room .gathered) room ≡ true
+follow-fits lost p room = dropped-fits (p .marked) room
+follow-fits ready p room = join-fits 0 0 p room
+follow-fits (filling t f r c) p room = go (eqb t (p .timestamp) && eqb f (p .f))
+  where
+    go : (b : Bool) → gatheredFits (joinIfSame b r c p room .gathered) room ≡ true
+    go true = join-fits r c p room
+    go false = dropped-fits (p .marked) room
+
+sound-after : (st : State) (octets store : List ℕ) → sound st (length store) ≡ true → sound (step st octets store .state) (length store) ≡ true
+sound-after st octets store e =
+    step-is st octets store (λ (x : Step). sound (x .state) (length store) ≡ true) (λ x. e) e
+    (λ k q h g m.
+    sound-heard (follow g (carried k) (length store) .gathered) (length store) (follow-fits g (carried k) (length store)))
+
+sound-passes : (st : State) (store : List ℕ) → sound st (length store) ≡ true → Passes35 st store
+sound-passes st store h octets x e n =
+    admitted-not-35 st (admit (st .source) (st .«payload_type») octets) store x (admit-numbered (st .source) (st .«payload_type») octets)
+    (sym (ap (λ (z : Step). z .answer) (sound-step st octets store h)) ∙ e)
+    n
+
+passes-sound : (st : State) (store : List ℕ) → Passes35 st store → sound st (length store) ≡ true
+passes-sound st store p = go (sound st (length store)) refl
+  where
+    go : (b : Bool) → sound st (length store) ≡ b → b ≡ true
+    go true e = refl
+    go false e =
+        absurd (p [] (record { number = 35; index = 0 }) (ap (λ (z : Step). z .answer) (step-refused st [] store (record { number = 35; index = 0 }) (rw e))) refl)
+
+appended-length : (t : Bool) (g : Gathered) (k : Content) (store : List ℕ) → follow g (carried k) (length store) .append ≡ t
+    → length (appended t g k store) ≡ length store
+appended-length true g k store e =
+    length-splice store (gatheredCells g) (listOf (k .records)) (follow-room g (carried k) (length store) e)
+appended-length false g k store e = refl
+
+-- a step keeps the store's length
+pub length-after : (st : State) (octets store : List ℕ) → length (step st octets store .store) ≡ length store
+length-after st octets store =
+    step-is st octets store (λ (x : Step). length (x .store) ≡ length store) (λ x. refl) refl
+    (λ k q h g m. appended-length _ g k store refl)
+
+-- from a state that 35 lets pass, a step gives a state that 35 lets pass with the store that the step leaves
+pub passes-after : (st : State) (octets store : List ℕ) → Passes35 st store
+    → Passes35 (step st octets store .state) (step st octets store .store)
+passes-after st octets store p =
+    let z : Step = step st octets store in
+    sound-passes (z .state) (z .store)
+    (ap (λ (n : ℕ). sound (z .state) n) (length-after st octets store) ∙ sound-after st octets store (passes-sound st store p))

@@ -1,0 +1,67 @@
+-- A field is handed out at the fresh arrival of its last packet.
+-- By demand 3 at two first parts of a run: up to an arrival, and with it.
+use mathlib.Core.Path.{_≡_, refl, _∙_, ap, sym}
+use mathlib.Core.Bool.{Bool, true, false, cond, _&&_}
+use mathlib.Core.List.{List, [], _∷_, _++_, append-nil, append-cancel-left, nil≢cons, head-eq-of-cons-eq}
+use Prim.Native.Nat.{ℕ, suc, _+_, _-_, _≤_}
+use native.Mathlib.Omega.{arith}
+use borrow.Author.Tests.{leb-true}
+use Rattle.wire.specs.Cells.{allBelow}
+use Rattle.wire.proofs.ResultLaws.{and-true}
+use Rattle.stream.specs.Stream.{Field, Sent, isLast, sent, Stream, WellFormedStream, Arriving, other, packet, Call, Calls, _before_, Proper, Handed, handedBy, callStep, run, arrived, listedFresh, fresh, elem, asSent, onlyIf}
+use Rattle.stream.specs.Laws.{HandedAt}
+use Rattle.stream.proofs.WalkLaws.{packetAt, unbroken, handedBefore, handed-below, handed-idle}
+use Rattle.stream.proofs.RunInvariant.{top, Invariant}
+use Rattle.stream.proofs.Demand3.{invariant-run}
+
+only-one : (b : Bool) (x : Field) (h : Handed) → onlyIf b x ≡ h ∷ [] → (b ≡ true) × (h ≡ asSent x)
+only-one true x h e = (refl, sym (head-eq-of-cons-eq e))
+only-one false x h e = absurd (nil≢cons e)
+
+module _ (s : Stream) (cs : Calls) (h : Handed) (v : Invariant s [] (arrived cs) (fresh cs) (run s cs)) where
+  abbrev ps : List Sent
+  ps = sent (s .fields)
+
+  abbrev l : List ℕ
+  l = fresh cs
+
+  -- an arrival that is not fresh hands nothing out
+  none-handed : handedBefore ps l (top l) ++ (h ∷ []) ≡ handedBefore ps l (top l) → (a : Arriving) → HandedAt s cs a h
+  none-handed e a = absurd (nil≢cons (sym (append-cancel-left (handedBefore ps l (top l)) (h ∷ []) [] (e ∙ sym (append-nil _)))))
+
+  fresh-handed : (i : ℕ) → allBelow i (arrived cs) ≡ true → handedBefore ps l (top l) ++ (h ∷ []) ≡ handedBefore ps (i ∷ l) (suc i)
+      → HandedAt s cs (packet i) h
+  fresh-handed i b e =
+      let t : top l ≤ i = leb-true (top l) i (sym (v .newer i) ∙ b) in
+      let q : i ≡ (i - top l) + top l = omega arith in
+      let p : handedBefore ps (i ∷ l) i ≡ handedBefore ps l (top l) =
+      handed-below ps l i i (omega arith) ∙ ap (λ (n : ℕ). handedBefore ps l n) q ∙ handed-idle ps l (top l) (i - top l) (v .noneAbove) in
+      let o = only-one (elem i (i ∷ l) && (isLast (packetAt ps i) && unbroken ps (i ∷ l) i)) (packetAt ps i .field) h (sym (append-cancel-left (handedBefore ps l (top l)) (h ∷ []) _ (rw p at e))) in
+      record {
+        index = i;
+        arrives = refl;
+        fresh = b;
+        last = and-true (isLast (packetAt ps i)) (unbroken ps (i ∷ l) i) (and-true (elem i (i ∷ l)) (isLast (packetAt ps i) && unbroken ps (i ∷ l) i) (o .0) .1) .0;
+        field = o .1;
+      }
+
+  arrival-handed : (a : Arriving)
+      → handedBefore ps l (top l) ++ (h ∷ []) ≡ handedBefore ps (listedFresh a (arrived cs) l) (top (listedFresh a (arrived cs) l))
+      → HandedAt s cs a h
+  arrival-handed (other o) e = none-handed e (other o)
+  arrival-handed (packet i) e = go (allBelow i (arrived cs)) refl e
+    where
+      go : (b : Bool) → allBelow i (arrived cs) ≡ b
+          → handedBefore ps l (top l) ++ (h ∷ []) ≡ handedBefore ps (cond b (i ∷ l) l) (top (cond b (i ∷ l) l))
+          → HandedAt s cs (packet i) h
+      go true b e = fresh-handed i b e
+      go false b e = none-handed e (packet i)
+
+-- "A field is handed out by the answer whole to the fresh arrival of its last packet."
+pub handed-at : (s : Stream) → WellFormedStream s → (cs : Calls) (c : Call) → Proper s (cs before c) → (h : Handed)
+    → handedBy (callStep s (run s cs) c .answer) (callStep s (run s cs) c .store) ≡ h ∷ [] → HandedAt s cs (c .arriving) h
+handed-at s w cs c p h e =
+    let v = invariant-run s [] [] cs w (p .0) in
+    let v′ = invariant-run s [] [] (cs before c) w p in
+    arrival-handed s cs h v (c .arriving)
+    (ap (λ (a : List Handed). a ++ (h ∷ [])) (sym (v .handed)) ∙ ap (λ (b : List Handed). run s cs .handed ++ b) (sym e) ∙ v′ .handed)

@@ -1,0 +1,16 @@
+pub mod AnswerLaws
+pub mod CheckLaws
+pub mod Demand3
+pub mod DistanceLaws
+pub mod FitLaws
+pub mod FreshLaws
+pub mod HandedLaws
+pub mod JoinLaws
+pub mod MarkedExamples
+pub mod NumberLaws
+pub mod PlaceLaws
+pub mod RunExamples
+pub mod RunInvariant
+pub mod StepLaws
+pub mod StreamExamples
+pub mod WalkLaws

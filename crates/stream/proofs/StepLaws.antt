@@ -1,0 +1,169 @@
+-- What a step does whatever the state: a refusal keeps the store and the state, but 32 counts one more as late.
+-- By the checks in their order: a fresh packet is never refused.
+use mathlib.Core.Path.{_≡_, refl, _∙_, ap, sym, subst}
+use mathlib.Core.Bool.{Bool, true, false, true≢false, cond, _&&_}
+use mathlib.Core.List.{List, [], _∷_}
+use Prim.Native.Nat.{ℕ, _+_}
+use native.Mathlib.Omega.{arith}
+use lib.Dec.{eqb}
+use lib.ListN.{length}
+use Rattle.wire.specs.declared.refusal.Refusal.{Refusal}
+use Rattle.wire.specs.Result.{Result, refused, accepted, refuse}
+use Rattle.wire.specs.Layout.{rfc8331}
+use Rattle.wire.specs.Packet.{Content, readContent}
+use Rattle.stream.specs.declared.state.State.{State}
+use Rattle.stream.specs.declared.state.Field.{Field}
+use Rattle.stream.specs.declared.state.Answer.{Answer}
+use Rattle.stream.specs.declared.state.Answer.the-variants as answer
+use Rattle.stream.specs.Step.{Gathered, lost, ready, filling, gathered, Carried, wholeIfMarked, fieldWith, joinFits, joinIfFits, join, joinIfSame, follow, carried, Class, late, next, gap, classify, distance, Step, lateStep, freshStep, classStep, packetStep, openedChecks, admit, admission, admittedStep, sound, step}
+use Rattle.wire.proofs.ResultLaws.{Numbered, then-accepts, judge-accepts}
+use Rattle.stream.proofs.NumberLaws.{isAdmission, admit-numbered}
+
+abbrev isRefusal : Answer → Bool
+isRefusal answer.Skipped = false
+isRefusal answer.Held = false
+isRefusal answer.Mixed = false
+isRefusal answer.Overfull = false
+isRefusal (answer.Whole x) = false
+isRefusal (answer.Refused x) = true
+
+taken-answers : (x : Field) (b : Bool) → isRefusal (wholeIfMarked b x) ≡ false
+taken-answers x true = refl
+taken-answers x false = refl
+
+join-answers : (r c : ℕ) (p : Carried) (room : ℕ) → isRefusal (join r c p room .answer) ≡ false
+join-answers r c p room = go (joinFits r c p room)
+  where
+    go : (b : Bool) → isRefusal (joinIfFits b p (r + p .records) (c + p .cells) .answer) ≡ false
+    go true = taken-answers (fieldWith p (r + p .records) (c + p .cells)) (p .marked)
+    go false = refl
+
+-- a fresh packet is not refused
+follow-answers : (g : Gathered) (p : Carried) (room : ℕ) → isRefusal (follow g p room .answer) ≡ false
+follow-answers lost p room = refl
+follow-answers ready p room = join-answers 0 0 p room
+follow-answers (filling t f r c) p room = go (eqb t (p .timestamp) && eqb f (p .f))
+  where
+    go : (b : Bool) → isRefusal (joinIfSame b r c p room .answer) ≡ false
+    go true = join-answers r c p room
+    go false = refl
+
+not-refused : (a : Answer) (x : Refusal) → isRefusal a ≡ false → a ≡ answer.Refused x → ⊥
+not-refused a x h e = true≢false (sym (ap isRefusal e) ∙ h)
+
+class-refuses : (c : Class) (st : State) (k : Content) (store : List ℕ) (x : Refusal) → classStep c st k store .answer ≡ answer.Refused x
+    → classStep c st k store ≡ lateStep st store
+class-refuses late st k store x e = refl
+class-refuses next st k store x e = absurd (not-refused _ x (follow-answers (gathered st) (carried k) (length store)) e)
+class-refuses (gap n) st k store x e = absurd (not-refused _ x (follow-answers lost (carried k) (length store)) e)
+
+-- a packet of the opened source and type is refused only where it is late
+packet-refuses : (b : Bool) (st : State) (k : Content) (store : List ℕ) (x : Refusal) → packetStep b st k store .answer ≡ answer.Refused x
+    → packetStep b st k store ≡ lateStep st store
+packet-refuses false st k store x e = absurd (not-refused _ x (follow-answers lost (carried k) (length store)) e)
+packet-refuses true st k store x e = class-refuses (classify (distance (st .last .0) (k .number))) st k store x e
+
+refusal-inj : {x y : Refusal} → answer.Refused x ≡ answer.Refused y → x ≡ y
+refusal-inj e = cc
+
+-- the step that refuses and changes nothing
+abbrev pub unchanged : State → List ℕ → Refusal → Step
+unchanged st store x = record { answer = answer.Refused x; state = st; store = store }
+
+-- a step that refuses: it changes nothing, or counts one more as late
+pub record Refuses (st : State) (store : List ℕ) (x : Refusal) (z : Step) : Type 0 where
+  pub other : (x .number ≡ 32 → ⊥) → z ≡ unchanged st store x
+  pub late : x .number ≡ 32 → z ≡ lateStep st store
+
+unchanged-refuses : (st : State) (store : List ℕ) (x y : Refusal) → (y .number ≡ 32 → ⊥) → unchanged st store y .answer ≡ answer.Refused x
+    → Refuses st store x (unchanged st store y)
+unchanged-refuses st store x y n e =
+    let p : y ≡ x = refusal-inj e in
+    record { other = λ m. ap (unchanged st store) p; late = λ m. absurd (n (ap (λ (q : Refusal). q .number) p ∙ m)) }
+
+late-refuses : (st : State) (store : List ℕ) (x : Refusal) (z : Step) → z ≡ lateStep st store → z .answer ≡ answer.Refused x
+    → Refuses st store x z
+late-refuses st store x z q e =
+    let p : lateStep st store .answer ≡ answer.Refused x = sym (ap (λ (y : Step). y .answer) q) ∙ e in
+    record { other = λ m. absurd (m (sym (ap (λ (y : Refusal). y .number) (refusal-inj p)))); late = λ m. q }
+
+not-32 : (n : ℕ) → isAdmission n ≡ true → n ≡ 32 → ⊥
+not-32 n h e = true≢false (sym (subst (λ (m : ℕ). isAdmission m ≡ true) e h))
+
+admitted-refuses : (st : State) (r : Result Content) (store : List ℕ) (x : Refusal) → Numbered isAdmission r
+    → admittedStep st r store .answer ≡ answer.Refused x → Refuses st store x (admittedStep st r store)
+admitted-refuses st (refused y) store x h e = unchanged-refuses st store x y (not-32 (y .number) h) e
+admitted-refuses st (accepted k) store x h e = late-refuses st store x _ (packet-refuses (st .heard) st k store x e) e
+
+checked-refuses : (b : Bool) (st : State) (r : Result Content) (store : List ℕ) (x : Refusal) → Numbered isAdmission r
+    → admittedStep st (cond b r (refuse 35 0)) store .answer ≡ answer.Refused x
+    → Refuses st store x (admittedStep st (cond b r (refuse 35 0)) store)
+checked-refuses true st r store x h e = admitted-refuses st r store x h e
+checked-refuses false st r store x h e = unchanged-refuses st store x (record { number = 35; index = 0 }) (λ n. omega arith) e
+
+-- "Lent memory is unchanged, and so is the keeper's state, but 32 adds one to the late count": over any state
+pub refused-keeps : (st : State) (octets store : List ℕ) (x : Refusal) → step st octets store .answer ≡ answer.Refused x
+    → Refuses st store x (step st octets store)
+unfolding step
+refused-keeps st octets store x e =
+    checked-refuses (sound st (length store)) st (admit (st .source) (st .«payload_type») octets) store x
+    (admit-numbered (st .source) (st .«payload_type») octets)
+    e
+
+-- what passes 35 is not refused by it
+pub admitted-not-35 : (st : State) (r : Result Content) (store : List ℕ) (x : Refusal) → Numbered isAdmission r
+    → admittedStep st r store .answer ≡ answer.Refused x → x .number ≡ 35 → ⊥
+admitted-not-35 st (refused y) store x h e n =
+    let p : y .number ≡ 35 = ap (λ (q : Refusal). q .number) (refusal-inj e) ∙ n in
+    true≢false (sym (subst (λ (m : ℕ). isAdmission m ≡ true) p h))
+admitted-not-35 st (accepted k) store x h e n =
+    let l = packet-refuses (st .heard) st k store x e in
+    let p : 32 ≡ x .number = ap (λ (y : Refusal). y .number) (refusal-inj (sym (ap (λ (y : Step). y .answer) l) ∙ e)) in
+    omega arith
+
+-- the step of a sound state
+pub sound-step : (st : State) (octets store : List ℕ) → sound st (length store) ≡ true
+    → step st octets store ≡ admittedStep st (admit (st .source) (st .«payload_type») octets) store
+unfolding step
+sound-step st octets store h = rw h
+
+-- what an admitted packet has passed
+pub passed : (st : State) (room : ℕ) (s : List ℕ) (k : Content) → admission st room s ≡ accepted k
+    → (sound st room ≡ true) × (readContent rfc8331 s ≡ accepted k)
+passed st room s k h =
+    let p = judge-accepts 0 ((sound st room, 35) ∷ []) (admit (st .source) (st .«payload_type») s) k h in
+    let a = then-accepts (readContent rfc8331 s) _ k (p .1) in
+    let b = judge-accepts 0 (openedChecks (st .source) (st .«payload_type») (a .0 .source) (a .0 .type)) (accepted (a .0)) k (a .2) in
+    (p .0 .0, a .1 ∙ b .1)
+
+-- the step of what is refused, and of what is admitted
+module _ (st : State) (s store : List ℕ) where
+  pub step-refused : (x : Refusal) → admission st (length store) s ≡ refused x → step st s store ≡ unchanged st store x
+  unfolding step
+  step-refused x h = ap (λ (r : Result Content). admittedStep st r store) h
+
+  pub step-admitted : (k : Content) → admission st (length store) s ≡ accepted k → step st s store ≡ packetStep (st .heard) st k store
+  unfolding step
+  step-admitted k h = ap (λ (r : Result Content). admittedStep st r store) h
+
+-- Every step refuses and changes nothing, or counts one more as late, or is that of a fresh packet. What holds of these three holds of
+-- every step.
+module _ (st : State) (octets store : List ℕ) (P : Step → Type 0) (refuses : (x : Refusal) → P (unchanged st store x)) (lates : P (lateStep st store))
+    (freshens : (k : Content) → readContent rfc8331 octets ≡ accepted k → sound st (length store) ≡ true → (found : Gathered) (missing : ℕ)
+    → P (freshStep st found missing k store)) where
+  class-is : (c : Class) (k : Content) → readContent rfc8331 octets ≡ accepted k → sound st (length store) ≡ true → P (classStep c st k store)
+  class-is late k e h = lates
+  class-is next k e h = freshens k e h (gathered st) 0
+  class-is (gap n) k e h = freshens k e h lost n
+
+  packet-is : (b : Bool) (k : Content) → readContent rfc8331 octets ≡ accepted k → sound st (length store) ≡ true → P (packetStep b st k store)
+  packet-is false k e h = freshens k e h lost 0
+  packet-is true k e h = class-is (classify (distance (st .last .0) (k .number))) k e h
+
+  admitted-is : (r : Result Content) → admission st (length store) octets ≡ r → P (admittedStep st r store)
+  admitted-is (refused x) e = refuses x
+  admitted-is (accepted k) e = let p = passed st (length store) octets k e in packet-is (st .heard) k (p .1) (p .0)
+
+  pub step-is : P (step st octets store)
+  unfolding step
+  step-is = admitted-is (admission st (length store) octets) refl

@@ -1,0 +1,310 @@
+-- What the depacketizer does with one arrival (01, "The keeper").
+use mathlib.Core.Bool.{Bool, true, false, cond, _&&_, _||_}
+use mathlib.Core.List.{List, [], _∷_}
+use Prim.Native.Nat.{ℕ, zero, suc, _+_, _-_, _^_, _%_, min}
+use lib.Dec.{eqb, leb, ltb}
+use lib.IntN.{ℤ, pos, negsuc}
+use lib.ListN.{length}
+use Rattle.wire.specs.Bits.{splice}
+use Rattle.wire.specs.Layout.{rfc8331}
+use Rattle.wire.specs.Result.{Result, refused, accepted, Checks, judge, _then_}
+use Rattle.wire.specs.Cells.{listOf}
+use Rattle.wire.specs.Packet.{Content, readContent}
+use Rattle.wire.specs.Writing.{maxFieldRecords, maxFieldCells, maxType}
+use Rattle.stream.specs.declared.state.State.{State}
+use Rattle.stream.specs.declared.state.Phase.{Phase}
+use Rattle.stream.specs.declared.state.Phase.the-variants as phase
+use Rattle.stream.specs.declared.state.Answer.{Answer}
+use Rattle.stream.specs.declared.state.Answer.the-variants as answer
+use Rattle.stream.specs.declared.state.Field.{Field}
+
+-- "Each stops at 2^64 - 1"
+abbrev pub maxCount : ℕ
+maxCount = 2 ^ 64 - 1
+
+infixl 65 _⊞_
+-- a count increased
+abbrev pub _⊞_ : ℕ → ℕ → ℕ
+a ⊞ b = min (a + b) maxCount
+
+-- "its number less the last fresh one modulo 2^32, read as a signed 32-bit number"
+abbrev pub signed : ℕ → ℤ
+signed n = cond (ltb n (2 ^ 31)) (pos n) (negsuc (2 ^ 32 - suc n))
+
+-- the distance of a number from the last fresh one
+abbrev pub distance : ℕ → ℕ → ℤ
+distance last number = signed ((number + (2 ^ 32 - last)) % 2 ^ 32)
+
+-- what a distance says: late, the next packet, or a gap of so many missing packets
+pub data Class : Type 0 where
+  late next : Class
+  gap : ℕ → Class
+
+-- "Zero or negative is late."
+abbrev pub classify : ℤ → Class
+classify (negsuc n) = late
+classify (pos zero) = late
+classify (pos (suc zero)) = next
+classify (pos (suc (suc n))) = gap (suc n)
+
+-- "The keeper is lost, ready or filling." What is gathered: nothing, and no field can start; nothing, and the next packet starts
+-- one; part of a field
+pub data Gathered : Type 0 where
+  lost ready : Gathered
+  filling : (timestamp f records cells : ℕ) → Gathered
+
+-- "Only a filling keeper has gathered records."
+abbrev pub gatheredIn : Phase → (timestamp f records cells : ℕ) → Gathered
+gatheredIn phase.Lost t f r c = lost
+gatheredIn phase.Ready t f r c = ready
+gatheredIn phase.Filling t f r c = filling t f r c
+
+-- what a state has gathered
+abbrev pub gathered : State → Gathered
+gathered st = gatheredIn (st .phase) (st .timestamp .0) (st .f) (st .records) (st .cells)
+
+-- the phase of a state that has this gathered
+abbrev pub phaseOf : Gathered → Phase
+phaseOf lost = phase.Lost
+phaseOf ready = phase.Ready
+phaseOf (filling t f r c) = phase.Filling
+
+-- the timestamp of the field that is gathered; 0 where there is none, as for the next three
+abbrev pub timestampOf : Gathered → ℕ
+timestampOf lost = 0
+timestampOf ready = 0
+timestampOf (filling t f r c) = t
+
+-- its F
+abbrev pub fOf : Gathered → ℕ
+fOf lost = 0
+fOf ready = 0
+fOf (filling t f r c) = f
+
+-- its records that are gathered
+abbrev pub gatheredRecords : Gathered → ℕ
+gatheredRecords lost = 0
+gatheredRecords ready = 0
+gatheredRecords (filling t f r c) = r
+
+-- and their cells
+abbrev pub gatheredCells : Gathered → ℕ
+gatheredCells lost = 0
+gatheredCells ready = 0
+gatheredCells (filling t f r c) = c
+
+-- What a packet brings to a field: whether it is marked, timestamp, F, and how many records in how many cells.
+pub record Carried : Type 0 where
+  pub marked : Bool
+  pub timestamp : ℕ
+  pub f : ℕ
+  pub records : ℕ
+  pub cells : ℕ
+
+-- M (RFC 8331, section 2): the last packet of a field or frame
+abbrev pub marked : Content → Bool
+marked k = eqb (k .marker) 1
+
+-- what a packet that says `k` brings
+abbrev pub carried : Content → Carried
+carried k =
+    record {
+      marked = marked k;
+      timestamp = k .timestamp;
+      f = k .f;
+      records = length (k .records);
+      cells = length (listOf (k .records));
+    }
+
+-- What a fresh packet does to what is gathered: the answer, what is gathered then, and whether its cells are appended.
+pub record Gather : Type 0 where
+  pub answer : Answer
+  pub gathered : Gathered
+  pub append : Bool
+
+-- "After any marked fresh arrival the keeper is ready; after an unmarked one that isn't held it is lost."
+abbrev pub dropped : Answer → (marker : Bool) → Gather
+dropped a marker = record { answer = a; gathered = cond marker ready lost; append = false }
+
+-- "with timestamp, F, records, cells used": the field that a packet completes
+abbrev pub fieldWith : Carried → (records cells : ℕ) → Field
+fieldWith p r c = record { timestamp = record { 0 = p .timestamp }; f = p .f; records = r; cells = c }
+
+-- "Started or joined, and marked (M): answer whole, .. Unmarked: held, ..
+abbrev pub wholeIfMarked : Bool → Field → Answer
+wholeIfMarked true x = answer.Whole x
+wholeIfMarked false x = answer.Held
+
+-- .. now filling."
+abbrev pub taken : Carried → (records cells : ℕ) → Gather
+taken p r c =
+    record {
+      answer = wholeIfMarked (p .marked) (fieldWith p r c);
+      gathered = cond (p .marked) ready (filling (p .timestamp) (p .f) r c);
+      append = true;
+    }
+
+-- "A start or join that takes the field past 255 records, 16,384 cells or the store: answer overfull, the field dropped."
+abbrev pub fits : (records cells room : ℕ) → Bool
+fits r c room = leb r maxFieldRecords && (leb c maxFieldCells && leb c room)
+
+-- whether it fits with a packet that joins `r` records in `c` cells
+abbrev pub joinFits : (r c : ℕ) → Carried → (room : ℕ) → Bool
+joinFits r c p room = fits (r + p .records) (c + p .cells) room
+
+-- a packet takes the field to `r` records in `c` cells, which fit or not
+abbrev pub joinIfFits : Bool → Carried → (r c : ℕ) → Gather
+joinIfFits true p r c = taken p r c
+joinIfFits false p r c = dropped answer.Overfull (p .marked)
+
+-- a packet joins `r` records in `c` cells, in a store of so many cells
+abbrev pub join : (r c : ℕ) → Carried → (room : ℕ) → Gather
+join r c p room = joinIfFits (joinFits r c p room) p (r + p .records) (c + p .cells)
+
+-- "if timestamp or F differs, answer mixed, the gathered part dropped. Otherwise it joins."
+abbrev pub joinIfSame : Bool → (r c : ℕ) → Carried → (room : ℕ) → Gather
+joinIfSame true r c p room = join r c p room
+joinIfSame false r c p room = dropped answer.Mixed (p .marked)
+
+-- distance 1: "when lost: skipped"; "when ready: starts a field"; "when filling": joins or is mixed
+abbrev pub follow : Gathered → Carried → (room : ℕ) → Gather
+follow lost p room = dropped answer.Skipped (p .marked)
+follow ready p room = join 0 0 p room
+follow (filling t f r c) p room = joinIfSame (eqb t (p .timestamp) && eqb f (p .f)) r c p room
+
+-- One step: the answer, the next state, and the store.
+pub record Step : Type 0 where
+  pub answer : Answer
+  pub state : State
+  pub store : List ℕ
+
+-- the state after a fresh packet, with so many more missing, and what is then gathered flat. "Counts: fresh; late; missing, the sum
+-- of distance - 1."
+abbrev pub afterWith : State → (number : ℕ) → Phase → (timestamp f records cells missing : ℕ) → State
+afterWith st number p t f r c missing =
+    record {
+      source = st .source;
+      «payload_type» = st .«payload_type»;
+      phase = p;
+      heard = true;
+      last = record { 0 = number };
+      timestamp = record { 0 = t };
+      f = f;
+      records = r;
+      cells = c;
+      fresh = st .fresh ⊞ 1;
+      late = st .late;
+      missing = st .missing ⊞ missing;
+    }
+
+-- the same, with what is then gathered
+abbrev pub after : State → (number : ℕ) → Gathered → (missing : ℕ) → State
+after st number g missing =
+    afterWith st number (phaseOf g) (timestampOf g) (fOf g) (gatheredRecords g) (gatheredCells g) missing
+
+-- "Held and whole append their cells after the gathered ones; other answers write nothing."
+abbrev pub appended : Bool → Gathered → Content → List ℕ → List ℕ
+appended append g k store = cond append (splice store (gatheredCells g) (listOf (k .records))) store
+
+-- a fresh packet that finds `g` gathered: what the state has, or lost where packets are missing before it
+abbrev pub freshStep : State → Gathered → ℕ → Content → List ℕ → Step
+freshStep st g missing k store =
+    let x : Gather = follow g (carried k) (length store) in
+    record { answer = x .answer; state = after st (k .number) (x .gathered) missing; store = appended (x .append) g k store }
+
+-- "32 adds one to the late count"
+abbrev pub later : State → State
+later st =
+    record {
+      source = st .source;
+      «payload_type» = st .«payload_type»;
+      phase = st .phase;
+      heard = st .heard;
+      last = st .last;
+      timestamp = st .timestamp;
+      f = st .f;
+      records = st .records;
+      cells = st .cells;
+      fresh = st .fresh;
+      late = st .late ⊞ 1;
+      missing = st .missing;
+    }
+
+-- 32: late
+abbrev pub lateStep : State → List ℕ → Step
+lateStep st store =
+    record { answer = answer.Refused (record { number = 32; index = 0 }); state = later st; store = store }
+
+-- "First, or distance over 1: answer skipped; what was gathered is dropped": as if lost
+abbrev pub classStep : Class → State → Content → List ℕ → Step
+classStep late st k store = lateStep st store
+classStep next st k store = freshStep st (gathered st) 0 k store
+classStep (gap n) st k store = freshStep st lost n k store
+
+-- "The first is always fresh."
+abbrev pub packetStep : Bool → State → Content → List ℕ → Step
+packetStep false st k store = freshStep st lost 0 k store
+packetStep true st k store = classStep (classify (distance (st .last .0) (k .number))) st k store
+
+-- 30: "other source"; 31: "other payload type"; the opened ones, and those that a packet says
+abbrev pub openedChecks : (source type saidSource saidType : ℕ) → Checks
+openedChecks source type saidSource saidType = (eqb saidSource source, 30) ∷ (eqb saidType type, 31) ∷ []
+
+-- "1 to 13, then 30, 31": what the octets say, or the refusal
+abbrev pub admit : (source type : ℕ) → List ℕ → Result Content
+admit source type octets =
+    readContent rfc8331 octets then λ k. judge 0 (openedChecks source type (k .source) (k .type)) (accepted k)
+
+-- the step of an arrival that is refused, or admitted
+abbrev pub admittedStep : State → Result Content → List ℕ → Step
+admittedStep st (refused x) store = record { answer = answer.Refused x; state = st; store = store }
+admittedStep st (accepted k) store = packetStep (st .heard) st k store
+
+-- a field is gathered
+abbrev pub isFilling : Phase → Bool
+isFilling phase.Lost = false
+isFilling phase.Ready = false
+isFilling phase.Filling = true
+
+-- nothing is gathered, and no field can start
+abbrev pub isLost : Phase → Bool
+isLost phase.Lost = true
+isLost phase.Ready = false
+isLost phase.Filling = false
+
+-- 35: "keeper state says over 255 records, over 16,384 cells, more cells than the store has, records or cells when not
+-- filling, or ready or filling before a first arrival"
+abbrev pub sound : State → ℕ → Bool
+sound st room =
+    fits (st .records) (st .cells) room
+    && ((isFilling (st .phase) || (eqb (st .records) 0 && eqb (st .cells) 0)) && (st .heard || isLost (st .phase)))
+
+-- "An arrival passes 35, then 1 to 13, then 30, 31, ..": what it says, or the refusal
+abbrev pub admission : State → (room : ℕ) → List ℕ → Result Content
+admission st room octets = judge 0 ((sound st room, 35) ∷ []) (admit (st .source) (st .«payload_type») octets)
+
+-- ".. 32": one arrival. "Lent memory is unchanged, and so is the keeper's state, but 32 adds one to the late count."
+unfoldable pub step : State → List ℕ → List ℕ → Step
+step st octets store = admittedStep st (admission st (length store) octets) store
+
+-- "A keeper just opened is lost, has no last fresh number, and its counts are 0."
+abbrev pub openState : (source type : ℕ) → State
+openState source type =
+    record {
+      source = source;
+      «payload_type» = type;
+      phase = phase.Lost;
+      heard = false;
+      last = record { 0 = 0 };
+      timestamp = record { 0 = 0 };
+      f = 0;
+      records = 0;
+      cells = 0;
+      fresh = 0;
+      late = 0;
+      missing = 0;
+    }
+
+-- "Opened with source and payload type (24 if over 127)."
+abbrev pub openOf : (source type : ℕ) → Result State
+openOf source type = judge 0 ((leb type maxType, 24) ∷ []) (accepted (openState source type))

@@ -1,0 +1,45 @@
+// The depacketizer's state, and its answers to an arrival.
+use wire::number::PacketNumber;
+use wire::number::Timestamp;
+use wire::refusal::Refusal;
+
+// Lost: a field cannot start before a marked packet. Ready: the next packet starts a field. Filling: a field is gathered.
+pub enum Phase {
+    Lost,
+    Ready,
+    Filling,
+}
+
+// Flat, so that a state that refusal 35 names can be said. Not filling, `timestamp`, `f`, `records` and `cells` are 0.
+pub struct State {
+    pub source: u32,
+    pub payload_type: u8,
+    pub phase: Phase,
+    // Whether a first packet arrived; its number, or that of the last fresh one since, is `last`.
+    pub heard: bool,
+    pub last: PacketNumber,
+    pub timestamp: Timestamp,
+    pub f: u8,
+    pub records: usize,
+    pub cells: usize,
+    pub fresh: u64,
+    pub late: u64,
+    pub missing: u64,
+}
+
+// A whole field: its records are the first `cells` cells of the store.
+pub struct Field {
+    pub timestamp: Timestamp,
+    pub f: u8,
+    pub records: usize,
+    pub cells: usize,
+}
+
+pub enum Answer {
+    Skipped,
+    Held,
+    Mixed,
+    Overfull,
+    Whole(Field),
+    Refused(Refusal),
+}
