@@ -76,7 +76,8 @@ uint8_t jibhotran_file_write(uint32_t timestamp, uint8_t f, const uint16_t *cell
 uint8_t jibhotran_file_read(const uint8_t *file, size_t file_len, size_t at, uint16_t *cells, size_t cells_len, uint64_t *answer,
                             size_t answer_len);
 
-/* 1 where a record of these numbers is wanted, and 0 where not. pairs: DID then SDID; a last octet without an SDID is no entry. */
+/* 1 where a record of these numbers is wanted, and 0 where not. pairs: DID then SDID; a last octet without an SDID is no entry. Of a DID of 0x80
+ * or above (Type 1) the second number is a data block number and matters on neither side. */
 uint8_t jibhotran_wanted(uint8_t did, uint8_t sdid, const uint8_t *pairs, size_t pairs_len);
 
 /* A wanted pair. */

@@ -150,14 +150,20 @@ pub fn file_read(r: &mut Random) -> Case {
     (call, lent(r, case.room, 0))
 }
 
-/// Few different numbers, so that entries match.
+/// How many different numbers, and the least: few, so that entries match, and
+/// some on both sides of the DIDs of Type 1.
+fn numbers(r: &mut Random) -> (usize, usize) {
+    r.pick(&[(2, 0), (4, 0), (4, 0x7E), (2, 0x80), (256, 0)])
+}
+
 pub fn wanted(r: &mut Random) -> Case {
     let length = r.pick(&[0, 1, 2, 3, 4, 5, 6, 7, 9, 64, 129]);
-    let most = r.pick(&[2, 4, 256]);
+    let (most, least) = numbers(r);
+    let number = |r: &mut Random| (least + r.below(most)) as u8;
     let call = Call::Wanted {
-        did: r.below(most) as u8,
-        sdid: r.below(most) as u8,
-        pairs: (0..length).map(|_| r.below(most) as u8).collect(),
+        did: number(r),
+        sdid: number(r),
+        pairs: (0..length).map(|_| number(r)).collect(),
     };
     (call, Memory::new(Lengths::default(), r))
 }
@@ -165,10 +171,10 @@ pub fn wanted(r: &mut Random) -> Case {
 /// A pair and a row of pairs, of few different numbers too.
 pub fn wanted_of(r: &mut Random) -> (Pair, Vec<Pair>) {
     let length = r.pick(&[0, 1, 2, 3, 4, 5, 32, 65]);
-    let most = r.pick(&[2, 4, 256]);
+    let (most, least) = numbers(r);
     let pair = |r: &mut Random| Pair {
-        did: r.below(most) as u8,
-        sdid: r.below(most) as u8,
+        did: (least + r.below(most)) as u8,
+        sdid: (least + r.below(most)) as u8,
     };
     (pair(r), (0..length).map(|_| pair(r)).collect())
 }

@@ -180,7 +180,33 @@ fn every_pair_number() {
             let (did, sdid) = (x, y);
             let (wanted, _) = compare(&Call::Wanted { did, sdid, pairs }, &memory);
             let is = [(9, 9), (0x41, 5), (x, 255 - x)].contains(&(x, y));
-            assert_eq!(wanted, is as u8);
+            assert_eq!(wanted, (is || x >= TYPE_1) as u8);
+        }
+    }
+}
+
+/// From this DID on the second number is a data block number.
+const TYPE_1: u8 = 0x80;
+
+/// Whether an entry is the record's: of Type 1 by the DID alone.
+fn matches(entry: &Pair, asked: Pair) -> bool {
+    entry.did == asked.did && (asked.did >= TYPE_1 || entry.sdid == asked.sdid)
+}
+
+/// Every DID and second number, of a record and of an entry beside another.
+#[test]
+fn every_did_and_second_number() {
+    let memory = lent(0, 0);
+    for did in 0..=255 {
+        for sdid in 0..=255 {
+            let asked = Pair { did, sdid };
+            for second in [0, 1, sdid, 255 - sdid] {
+                let row = [Pair { did: 0x41, sdid: 5 }, Pair { did, sdid: second }];
+                let is = row.iter().any(|entry| matches(entry, asked));
+                assert_eq!(compare_wanted(asked, &row, &memory), is as u8);
+            }
+            let near = [did ^ 1, did ^ 0x80].map(|did| Pair { did, sdid });
+            assert_eq!(compare_wanted(asked, &near, &memory), 0);
         }
     }
 }
@@ -189,7 +215,7 @@ fn every_pair_number() {
 #[test]
 fn every_row_of_three_pairs() {
     let memory = lent(0, 0);
-    let numbers = [0, 1, 255];
+    let numbers = [0, TYPE_1 - 1, TYPE_1];
     let pairs = numbers.map(|did| numbers.map(|sdid| Pair { did, sdid }));
     let pairs = pairs.concat();
     for length in 0..=3 {
@@ -197,7 +223,7 @@ fn every_row_of_three_pairs() {
             let places = (0..length).map(|place| pairs[code / 9_usize.pow(place) % 9]);
             let row: Vec<Pair> = places.collect();
             for &asked in &pairs {
-                let is = row.is_empty() || row.contains(&asked);
+                let is = row.is_empty() || row.iter().any(|entry| matches(entry, asked));
                 assert_eq!(compare_wanted(asked, &row, &memory), is as u8);
             }
         }

@@ -189,15 +189,32 @@ pub struct Pair {
     pub sdid: u8,
 }
 
-/// A record is wanted if the row is empty or both its DID and SDID match an
-/// entry.
+/// From here on a DID is of Type 1: what stands beside it is a data block
+/// number.
+pub const TYPE_1: u8 = 0x80;
+
+impl Pair {
+    /// Both numbers match; of a Type 1 record the DID alone.
+    fn admits(self, did: u8, sdid: u8) -> bool {
+        match did {
+            TYPE_1.. => self.did == did,
+            _ => self == Pair { did, sdid },
+        }
+    }
+}
+
+/// A record is wanted if the row is empty or it matches an entry.
 pub fn wanted(row: &[Pair], did: u8, sdid: u8) -> bool {
-    row.is_empty() || row.contains(&Pair { did, sdid })
+    row.is_empty() || row.iter().any(|entry| entry.admits(did, sdid))
 }
 
 /// The same over plain octets, DID then SDID, as the reader puts them; a
 /// last octet without an SDID is no entry.
 pub fn wanted_octets(row: &[u8], did: u8, sdid: u8) -> bool {
     let (entries, _) = row.as_chunks::<2>();
-    entries.is_empty() || entries.contains(&[did, sdid])
+    let row: Vec<Pair> = entries
+        .iter()
+        .map(|&[did, sdid]| Pair { did, sdid })
+        .collect();
+    wanted(&row, did, sdid)
 }

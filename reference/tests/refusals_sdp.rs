@@ -136,3 +136,20 @@ fn the_filter() {
         );
     }
 }
+
+/// Of a DID of 0x80 or above the second number is a data block number, and
+/// matters on neither side.
+#[test]
+fn the_filter_by_type() {
+    use sdp::{wanted, wanted_octets, Pair};
+    for did in 0..=255 {
+        for (entry, asked) in [(0, 0), (0, 7), (7, 0), (7, 255), (255, 255)] {
+            let is = did >= 0x80 || entry == asked;
+            let row = [Pair { did: 9, sdid: 9 }, Pair { did, sdid: entry }];
+            let found = did == 9 && asked == 9;
+            assert_eq!(wanted(&row, did, asked), is || found);
+            assert_eq!(wanted_octets(&[did, entry], did, asked), is);
+            assert!(!wanted_octets(&[did ^ 1, entry], did, asked));
+        }
+    }
+}

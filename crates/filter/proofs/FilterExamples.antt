@@ -24,3 +24,16 @@ pub given : (wantedOf 0x61 0x02 (captions ∷ afd ∷ []) ≡ true) × (wantedOf
     × (wantedIn 0x41 0x00 (0x61 ∷ 0x02 ∷ 0x41 ∷ []) ≡ false)
 unfolding matching anyIn anyOf
 given = (refl, refl, refl, refl, refl, refl, refl)
+
+-- Type 1 goes by the DID, whichever second number either side has; the border lies at 0x80
+abbrev block : DidSdid
+block = record { did = 0x80; sdid = 0x07 }
+
+abbrev below : DidSdid
+below = record { did = 0x7F; sdid = 0x07 }
+
+pub data-blocks : (wantedOf 0x80 0x00 (block ∷ []) ≡ true) × (wantedOf 0x80 0xFF (captions ∷ block ∷ []) ≡ true) × (wantedOf 0x81 0x07 (block ∷ []) ≡ false)
+    × (wantedOf 0x7F 0x00 (below ∷ []) ≡ false) × (wantedOf 0x7F 0x07 (below ∷ []) ≡ true)
+    × (wantedIn 0xFF 0x01 (0x61 ∷ 0x02 ∷ 0xFF ∷ 0x09 ∷ []) ≡ true)
+unfolding matching anyIn anyOf
+data-blocks = (refl, refl, refl, refl, refl, refl)

@@ -1,4 +1,5 @@
-// Whether a record is wanted (01, "SDP parameters": "a record is wanted if the row is empty or both its DID and SDID match an entry").
+// Whether a record is wanted (01, "SDP parameters": "a record is wanted if the row is empty or both its DID and SDID match an entry"; 02, K1: of
+// Type 1 "when the DID matches").
 ghost use mathlib.Core.Path.{_≡_};
 ghost use Rattle.filter.specs.Wanted.{matching, matchingPair, wantedIn, wantedOf};
 
@@ -8,11 +9,14 @@ pub struct DidSdid {
     pub sdid: u8,
 }
 
-// Both numbers are the entry's.
+// The least DID of Type 1: the second number beside it is a data block number, and not an SDID.
+pub const TYPE_1_FROM: u8 = 0x80;
+
+// Both numbers are the entry's; of Type 1 the DID alone.
 fn matches(did: u8, sdid: u8, entry_did: u8, entry_sdid: u8) -> bool
     ensures { λ r. ⌜ r ≡ matching did sdid «entry_did» «entry_sdid» ⌝ }
 {
-    (entry_did == did) & (entry_sdid == sdid)
+    (entry_did == did) & ((TYPE_1_FROM <= did) | (entry_sdid == sdid))
 }
 
 // The wanted pairs lie in plain octets, DID and SDID in turn. A last octet without an SDID is no entry.
