@@ -155,16 +155,15 @@ fn check_packet(octets: &[u8], index: usize, table: &[u16; 256]) -> Verdict
 }
 
 // `count` packets at the front of the octets.
-pub fn check_run(octets: &[u8], count: u8) -> Run
+pub fn check_run(octets: &[u8], count: usize) -> Run
     ensures { λ r. ⌜ r ≡ runOf (readRun rfc8331 0 count (now (octets .entry))) ⌝ }
 {
     let table = words::table::header_words();
-    let n = count as usize;
     let mut rest = octets;
     let mut used = OctetCount(0);
     let mut cells: usize = 0;
     let mut i: usize = 0;
-    while i < n {
+    while i < count {
         let verdict = check_packet(rest, i, &table);
         match verdict {
             Verdict::Refused(refusal) => {

@@ -29,16 +29,15 @@ fn read_packet(octets: &[u8], cells: &mut [u16]) -> WordCount
 }
 
 // Writes the records of `count` packets at the front of the octets to the first cells.
-pub fn read_run(octets: &[u8], count: u8, cells: &mut [u16])
+pub fn read_run(octets: &[u8], count: usize, cells: &mut [u16])
     requires { ⌜ IsAccepted (readRun rfc8331 0 count (now octets)) ⌝ }
     requires { ⌜ length (runCells (readRun rfc8331 0 count (now octets))) ≤ length (now cells) ⌝ }
     ensures { λ r. ⌜ now (cells .exit) ≡ overwrite (runCells (readRun rfc8331 0 count (now (octets .entry)))) (now (cells .entry)) ⌝ }
 {
-    let n = count as usize;
     let mut rest = octets;
     let mut to: usize = 0;
     let mut i: usize = 0;
-    while i < n {
+    while i < count {
         let words = read_packet(rest, &mut cells[to..]);
         let size = packet_size(words);
         let step = size.0;

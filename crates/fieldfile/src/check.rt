@@ -32,7 +32,7 @@ fn check_front(octets: &[u8], at: OctetCount, header: OctetCount) -> FieldRead
     };
     let count = octets[COUNT_AT];
     let size = header.0;
-    let run = check_run(&octets[size..], count);
+    let run = check_run(&octets[size..], count as usize);
     let Run::Accepted {
         octets: used,
         cells,

@@ -75,6 +75,6 @@ pub fn read_field(file: &[u8], at: OctetCount, cells: &mut [u16]) -> FieldRead
         });
     }
     let from = at.0 + HEADER_SIZE;
-    read_run(&file[from..], summary.records, cells);
+    read_run(&file[from..], summary.records as usize, cells);
     checked
 }

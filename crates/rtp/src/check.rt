@@ -56,7 +56,7 @@ fn check_packets(octets: &[u8], header: OctetCount, size: OctetCount) -> Checked
     let at = from + PAYLOAD_HEADER_SIZE;
     let end = at + size.0;
     let count = octets[from + ANC_COUNT_AT];
-    let run = check_run(&octets[at..end], count);
+    let run = check_run(&octets[at..end], count as usize);
     let Run::Accepted {
         octets: used,
         cells,
@@ -112,5 +112,5 @@ pub fn read_records(octets: &[u8], outline: Outline, cells: &mut [u16])
     let at = outline.at;
     let length = outline.length;
     let end = at + length.0;
-    read_run(&octets[at..end], summary.records, cells);
+    read_run(&octets[at..end], summary.records as usize, cells);
 }

@@ -52,3 +52,7 @@ half-more (suc (suc (suc (suc n)))) = omega arith
 
 pub size-cells : (L : Layout) (n : ℕ) → 2 * ancSize L n ≤ 3 * (headCells + n)
 size-cells rfc8331 n = rw (size-rfc8331 n) (omega (arith, half-more n))
+
+-- and at least one octet for each
+pub cells-octets : (L : Layout) (n : ℕ) → headCells + n ≤ ancSize L n
+cells-octets rfc8331 n = rw (size-rfc8331 n) (omega arith)

@@ -45,18 +45,18 @@ part-read-run-start : tie.Need-part-read-run-start
 part-read-run-start c = found (c .before .before .before) .inside
 
 read-run-requires : tie.Need-read-run-requires
-read-run-requires c κs = let t = found (c .before .before .before .before .before) in (t .accepts, omega (arith, t .size, c .before .before .before .if1 .left))
+read-run-requires c κs = let t = found (c .before .before .before .before .before .before) in (t .accepts, omega (arith, t .size, c .before .before .before .before .if1 .left))
 
 returns-3 : tie.Need-returns-3
 returns-3 c =
-    let a = c .before .before .before .before .before .before .before .before .before .before .before .before .before .before .args in
-    let h = sym (c .before .before .before .before .before .before .before .before .before .before .before .check .ensures) ∙ c .before .before .before .before .before .before .before .before .before .checked .given .1 in
-    let e = into-fits (a .file .now) (a .at .0) _ h (length (a .cells .now)) (c .before .before .before .before .before .before .if1 .left) in
-    let cells = c .before .before .read-run .ensures ∙ found (c .before .before .before .before .before .before .before .before) .after _ in
+    let a = c .before .before .before .before .before .before .before .before .before .before .before .before .before .before .before .args in
+    let h = sym (c .before .before .before .before .before .before .before .before .before .before .before .before .check .ensures) ∙ c .before .before .before .before .before .before .before .before .before .before .checked .given .1 in
+    let e = into-fits (a .file .now) (a .at .0) _ h (length (a .cells .now)) (c .before .before .before .before .before .before .before .if1 .left) in
+    let cells = c .before .before .read-run .ensures ∙ found (c .before .before .before .before .before .before .before .before .before) .after _ in
     (sym (ap readOf e ∙ h), cells ∙ ap (λ (r : Result (FieldContent × ℕ)). cellsAfter r (a .cells .now)) (sym e))
 
 pub read-field-spec : {M : Type 1} → statement M
 read-field-spec =
     tie.close
     (tie.spec (λ c κs. search needs) (λ c. search needs) (λ c. search needs) returns returns-2 add-from sub-read-run part-read-run-start
-    (λ c. search needs) read-run-requires (λ c. search needs) returns-3)
+    (λ c. search needs) (λ c. search needs) read-run-requires (λ c. search needs) returns-3)

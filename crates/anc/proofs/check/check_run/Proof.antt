@@ -3,27 +3,27 @@
 use borrow.Author.Needs.{needs}
 use mathlib.Core.Path.{_≡_, ap, sym, _∙_}
 use mathlib.Core.List.{List}
-use Prim.Native.Nat.{ℕ, suc, _≤_, _<_, _+_, _-_, _*_}
+use Prim.Native.Nat.{ℕ, suc, _≤_, _+_, _-_}
 use native.Mathlib.Nat.{add-zero, sub-zero, zero-add}
 use native.Mathlib.Omega.{arith}
 use lib.ListN.{length, drop, length-drop}
 use Rattle.wire.specs.Anc.{readRun, ancSize}
 use Rattle.wire.specs.Layout.{rfc8331}
 use Rattle.wire.specs.Cells.{headCells}
-use Rattle.wire.specs.Words.{headerNumbers}
 use Rattle.wire.proofs.ListLaws.{part-all}
+use Rattle.wire.proofs.SizeLaws.{cells-octets}
 use Rattle.anc.specs.Answers.{runOf}
 use Rattle.anc.proofs.RunLaws.{tally, tally-none, refused-next, Next, accepted-next}
 use Rattle.anc.proofs.check.check_run.Statement.{statement}
 use Rattle.anc.proofs.check.check_run.Tie as tie
 
 abbrev Inv-loop : tie.InvT-loop
-Inv-loop octets count table n rest₀ used₀ cells₀ i₀ rest used cells i =
-    (i ≤ n) × (n < headerNumbers) × (used .0 + length rest ≡ length octets) × (cells ≤ (headCells + headerNumbers) * i)
-    × (tally (used .0) cells (readRun rfc8331 i (n - i) rest) ≡ runOf (readRun rfc8331 0 n octets))
+Inv-loop octets count table rest₀ used₀ cells₀ i₀ rest used cells i =
+    (i ≤ count) × (used .0 + length rest ≡ length octets) × (cells ≤ used .0)
+    × (tally (used .0) cells (readRun rfc8331 i (count - i) rest) ≡ runOf (readRun rfc8331 0 count octets))
 
 abbrev μ-loop : tie.MeasureT-loop
-μ-loop octets count table n rest₀ used₀ cells₀ i₀ rest used cells i = n - i
+μ-loop octets count table rest₀ used₀ cells₀ i₀ rest used cells i = count - i
 
 -- the packet of this turn was accepted
 next : (c : tie.After-known-told2 Inv-loop μ-loop)
@@ -36,7 +36,7 @@ next c =
 loop-holds : tie.Need-loop-holds Inv-loop μ-loop
 loop-holds c =
     let a = c .before .before .args in
-    (omega arith, c .before .before .fits .count .fits, zero-add _, omega arith, rw (sub-zero (a .count)) (tally-none (readRun rfc8331 0 (a .count) (a .octets .now))))
+    (omega arith, zero-add _, omega arith, rw (sub-zero (a .count)) (tally-none (readRun rfc8331 0 (a .count) (a .octets .now))))
 
 check-packet-requires : tie.Need-check-packet-requires Inv-loop μ-loop
 check-packet-requires c κs = c .before .before .before .header-words .ensures
@@ -47,7 +47,7 @@ returns c =
     let l = c .before .before .before .before .before .before .loop in
     let n : a .count - l .i ≡ suc (a .count - (l .i + 1)) = omega arith in
     sym (refused-next (l .rest .now) (l .i) (a .count - (l .i + 1)) (l .used .0) (l .cells) _ (sym (c .before .before .before .check-packet .ensures) ∙ c .before .verdict .given .1))
-    ∙ (rw n at (l .inv .4))
+    ∙ (rw n at (l .inv .3))
 
 sub-rest : tie.Need-sub-rest Inv-loop μ-loop
 sub-rest c = omega (arith, next (c .before) .fits, c .packet-size .ensures)
@@ -68,7 +68,9 @@ add-cells : tie.Need-add-cells Inv-loop μ-loop
 add-cells c = omega arith
 
 add-cells-2 : tie.Need-add-cells-2 Inv-loop μ-loop
-add-cells-2 c = omega arith
+add-cells-2 c =
+    let w = c .before .before .before .before .before .verdict2 .given .0 .0 .0 in
+    omega (arith, cells-octets rfc8331 w, next (c .before .before .before .before) .fits)
 
 add-i : tie.Need-add-i Inv-loop μ-loop
 add-i c = omega arith
@@ -88,14 +90,13 @@ loop-again c =
     let t = next (c .before .before .before .before) in
     let e : z ≡ ancSize rfc8331 w = c .before .before .before .packet-size .ensures in (
       omega arith,
-      l .inv .1,
       omega (arith, ap length (part-all z s), length-drop z s, t .fits, c .before .plus .ensures),
-      omega arith,
+      omega (arith, e, cells-octets rfc8331 w, c .before .plus .ensures),
       rw (c .before .plus .ensures)
           (ap (λ (x : List ℕ). tally (l .used .0 + z) (l .cells + (headCells + w)) (readRun rfc8331 (l .i + 1) m x)) (part-all z s)
           ∙ ap (λ (x : ℕ). tally (l .used .0 + x) (l .cells + (headCells + w)) (readRun rfc8331 (l .i + 1) m (drop x s))) e
           ∙ sym (t .goes)
-          ∙ (rw n at (l .inv .4))),
+          ∙ (rw n at (l .inv .3))),
     )
 
 returns-2 : tie.Need-returns-2 Inv-loop μ-loop
@@ -103,7 +104,7 @@ unfolding readRun
 returns-2 c =
     let l = c .before .loop in
     let e : c .before .before .before .before .args .count - l .i ≡ 0 = omega arith in
-    rw (add-zero (l .used .0), add-zero (l .cells)) at (rw e at (l .inv .4))
+    rw (add-zero (l .used .0), add-zero (l .cells)) at (rw e at (l .inv .3))
 
 pub check-run-spec : {M : Type 1} → statement M
 check-run-spec =

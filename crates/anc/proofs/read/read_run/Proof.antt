@@ -2,13 +2,12 @@
 -- Invariant: the records that are left, written behind those that are, make all of them written.
 use borrow.Author.Needs.{needs}
 use mathlib.Core.Path.{_≡_, refl, ap, sym, _∙_}
-use Prim.Native.Nat.{suc, _≤_, _<_, _+_, _-_}
+use Prim.Native.Nat.{suc, _≤_, _+_, _-_}
 use native.Mathlib.Nat.{sub-zero}
 use native.Mathlib.Omega.{arith}
 use lib.ListN.{length, length-take, length-drop}
 use Rattle.wire.specs.Anc.{ancSize, readRun}
 use Rattle.wire.specs.Layout.{rfc8331}
-use Rattle.wire.specs.Words.{headerNumbers}
 use Rattle.wire.proofs.ListLaws.{splice-none}
 use Rattle.anc.specs.Answers.{runCells}
 use Rattle.anc.proofs.RunLaws.{Left, First, first, left-next}
@@ -16,10 +15,10 @@ use Rattle.anc.proofs.read.read_run.Statement.{statement}
 use Rattle.anc.proofs.read.read_run.Tie as tie
 
 abbrev Inv-loop : tie.InvT-loop
-Inv-loop octets count cells₀ n rest₀ to₀ i₀ cells rest to i = (i ≤ n) × (n < headerNumbers) × Left (runCells (readRun rfc8331 0 n octets)) cells₀ i (n - i) rest cells to
+Inv-loop octets count cells₀ rest₀ to₀ i₀ cells rest to i = (i ≤ count) × Left (runCells (readRun rfc8331 0 count octets)) cells₀ i (count - i) rest cells to
 
 abbrev μ-loop : tie.MeasureT-loop
-μ-loop octets count cells₀ n rest₀ to₀ i₀ cells rest to i = n - i
+μ-loop octets count cells₀ rest₀ to₀ i₀ cells rest to i = count - i
 
 -- the run that is left in a turn
 here : (c : tie.In-loop Inv-loop μ-loop)
@@ -29,7 +28,7 @@ here c =
     let a = c .before .before .before .before .args in
     let l = c .before .loop in
     let n : a .count - l .i ≡ suc (a .count - (l .i + 1)) = omega arith in
-    rw n at (l .inv .2)
+    rw n at (l .inv .1)
 
 found : (c : tie.In-loop Inv-loop μ-loop) → First _ _ _ _ _ _ _ (here c)
 found c = first _ _ _ _ _ _ _ (here c)
@@ -44,7 +43,6 @@ loop-holds c =
     let a = c .before .before .args in
     let p = c .before .before .pre in (
       omega arith,
-      c .before .before .fits .count .fits,
       record {
         accepts = rw (sub-zero (a .count)) (p .0);
         long = refl;
@@ -98,7 +96,6 @@ loop-again c =
     let r = c .before .before .before .before .before .read-packet in
     let z = c .before .before .packet-size in (
       omega arith,
-      l .inv .1,
       left-next _ _ _ _ _ _ _ (here (c .before .before .before .before .before .before .before)) (r .result .0) (z .result .0) (r .last .1 .0) (r .ensures .0) (z .ensures) (r .ensures .1),
     )
 
@@ -107,7 +104,7 @@ unfolding readRun
 returns c =
     let l = c .before .loop in
     let e : c .before .before .before .before .args .count - l .i ≡ 0 = omega arith in
-    let done = rw e at (l .inv .2) in
+    let done = rw e at (l .inv .1) in
     sym (splice-none (l .cells) (l .to)) ∙ done .stored
 
 pub read-run-spec : {M : Type 1} → statement M

@@ -60,6 +60,9 @@ sub-check-run c = there c
 part-check-run-start : tie.Need-part-check-run-start
 part-check-run-start c = there c
 
+cast-check-run : tie.Need-cast-check-run
+cast-check-run c = omega (arith, c .before .before .before .before .before .before .shared-slice-known .given 5 .fits)
+
 returns-2 : tie.Need-returns-2
 returns-2 c =
     let s = c .before .before .before .before .before .before .before .before .before .before .before .args .octets .now in
@@ -80,8 +83,8 @@ shared-slice-read-t13 c = omega (arith, header-there (c .before .before .before 
 add-t15 : tie.Need-add-t15
 add-t15 c = omega (arith, fits (c .before .before .before .before), passed (c .before .before .before .before .before .before .before .before .before .before) .1)
 
-add-t24 : tie.Need-add-t24
-add-t24 c = omega (arith, fits (c .before .before .before .before .before), passed (c .before .before .before .before .before .before .before .before .before .before .before) .1, c .before .before .before .before .before .before .before .before .before .before .before .before .before .before .before .before .pre .0)
+add-t18 : tie.Need-add-t18
+add-t18 c = omega (arith, fits (c .before .before .before .before .before), passed (c .before .before .before .before .before .before .before .before .before .before .before) .1, c .before .before .before .before .before .before .before .before .before .before .before .before .before .before .before .before .pre .0)
 
 returns-4 : tie.Need-returns-4
 returns-4 c =
@@ -97,5 +100,5 @@ pub check-front-spec : {M : Type 1} → statement M
 check-front-spec =
     tie.close
     (tie.spec (λ c κs. search needs) (λ c. search needs) (λ c. search needs) (λ c κs. search needs) returns shared-slice-read-count sub-check-run
-    part-check-run-start (λ c. search needs) (λ c κs. search needs) (λ c. search needs) (λ c. search needs) (λ c κs. search needs) returns-2 returns-3
-    quad-at-requires shared-slice-read-t13 add-t15 add-t24 returns-4)
+    part-check-run-start (λ c. search needs) cast-check-run (λ c κs. search needs) (λ c. search needs) (λ c. search needs) (λ c κs. search needs) returns-2 returns-3
+    quad-at-requires shared-slice-read-t13 add-t15 add-t18 returns-4)

@@ -44,6 +44,9 @@ shared-slice-read-count c = omega (arith, found (c .before .before) .whole)
 part-check-run-end : tie.Need-part-check-run-end
 part-check-run-end c = omega (arith, found (c .before .before) .whole)
 
+cast-check-run : tie.Need-cast-check-run
+cast-check-run c = omega (arith, octet (c .before .before .before) (c .before .before .before .before .args .header .0 + 4))
+
 -- what the run was checked on
 ran : (c : tie.After-check-run)
     → let s = c .before .before .before .before .before .args .octets .now in
@@ -92,5 +95,5 @@ returns-3 c =
 pub check-packets-spec : {M : Type 1} → statement M
 check-packets-spec =
     tie.close
-    (tie.spec add-at add-end add-count shared-slice-read-count (λ c. search needs) (λ c. search needs) part-check-run-end (λ c κs. search needs)
-    (λ c. search needs) (λ c. search needs) (λ c κs. search needs) returns returns-2 head-at-requires returns-3)
+    (tie.spec add-at add-end add-count shared-slice-read-count (λ c. search needs) (λ c. search needs) part-check-run-end cast-check-run
+    (λ c κs. search needs) (λ c. search needs) (λ c. search needs) (λ c κs. search needs) returns returns-2 head-at-requires returns-3)

@@ -18,12 +18,12 @@ part-read-run-end : tie.Need-part-read-run-end
 part-read-run-end c = omega (arith, found c .whole)
 
 read-run-requires : tie.Need-read-run-requires
-read-run-requires c κs = (found (c .before .before) .accepts, omega (arith, found (c .before .before) .size))
+read-run-requires c κs = (found (c .before .before .before) .accepts, omega (arith, found (c .before .before .before) .size))
 
 returns : tie.Need-returns
-returns c = c .before .before .read-run .ensures ∙ found (c .before .before .before .before .before) .after _
+returns c = c .before .before .read-run .ensures ∙ found (c .before .before .before .before .before .before) .after _
 
 pub read-records-spec : {M : Type 1} → statement M
 read-records-spec =
     tie.close
-    (tie.spec add-end (λ c. search needs) (λ c. search needs) part-read-run-end read-run-requires (λ c. search needs) returns)
+    (tie.spec add-end (λ c. search needs) (λ c. search needs) part-read-run-end (λ c. search needs) read-run-requires (λ c. search needs) returns)
