@@ -65,14 +65,14 @@ uint8_t jibhotran_sdp_read(const uint8_t *text, size_t text_len, uint8_t *pairs,
 uint8_t jibhotran_sdp_write(const uint8_t *pairs, size_t pairs_len, uint16_t vpid, uint8_t *out, size_t out_len, uint64_t *answer,
                             size_t answer_len);
 
-/* Writes the first octets of a field file. answer: octets, which is the offset of its first field. */
+/* Writes the first octets of a field file, of version 2. answer: octets, which is the offset of its first field. */
 uint8_t jibhotran_file_begin(uint8_t *out, size_t out_len, uint64_t *answer, size_t answer_len);
 
-/* Writes one field with the records of the cells. answer: octets. */
+/* Writes one field with the records of the cells, as version 2 has it: it does not belong behind a file of version 1. answer: octets. */
 uint8_t jibhotran_file_write(uint32_t timestamp, uint8_t f, const uint16_t *cells, size_t cells_len, uint8_t *out, size_t out_len,
                              uint64_t *answer, size_t answer_len);
 
-/* Reads the field at an offset, its records into cells. answer: timestamp, F, records, cells, the offset after the field. */
+/* Reads the field at an offset of a file of version 1 or 2, its records into cells. answer: timestamp, F, records, cells, the offset after the field. */
 uint8_t jibhotran_file_read(const uint8_t *file, size_t file_len, size_t at, uint16_t *cells, size_t cells_len, uint64_t *answer,
                             size_t answer_len);
 

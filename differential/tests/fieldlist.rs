@@ -179,49 +179,44 @@ fn the_longest_frames() {
     }
 }
 
-/// The limits of a field: 255 records of 16,384 cells in all are one; a cell more
-/// is overfull, and so is a record more, in the field's second packet.
+/// The limits of a field, each in 17 packets: 4,095 records of 32,768 cells in
+/// all are one; a cell more is overfull, and so is a record more.
 #[test]
 fn fields_of_the_limit() {
     let mut r = Random::new(604);
-    let mut records = |long| -> Vec<u16> {
-        let words = |k| if k < long { 57 } else { 56 };
-        (0..255).flat_map(|k| record(&mut r, words(k))).collect()
+    let mut records = |first, count| -> Vec<Vec<u16>> {
+        let words = |k| if k == 0 { first } else { 0 };
+        (0..count).map(|k| record(&mut r, words(k))).collect()
     };
-    let (full, over) = (records(64), records(65));
-    assert_eq!((full.len(), over.len()), (16_384, 16_385));
-    let few = A.repeat(255);
+    let fields = [records(8, 4_095), records(9, 4_095), records(0, 4_096)];
+    let sizes = fields.each_ref().map(|field| field.concat().len());
+    assert_eq!(sizes, [32_768, 32_769, 32_768]);
     let mut input = Vec::new();
-    for (number, marker, cells) in [
-        (7, true, &A[..]),
-        (8, true, &full),
-        (9, true, &over),
-        (10, false, &full[..full.len() - 64]),
-        (11, true, &full[full.len() - 64..]),
-        (12, false, &few),
-        (13, true, &A),
-    ] {
-        let head = Head {
-            number,
-            marker,
-            ..HEAD
-        };
-        put_frame(&Parts::plain(head, cells).assemble(), &mut input);
+    let mut expected = vec!["7 skipped".to_string()];
+    put_frame(&packet(&HEAD, &A), &mut input);
+    let mut number = HEAD.number;
+    for (field, last) in
+        fields
+            .iter()
+            .zip(["whole ts=1000 f=2 records=4095", "overfull", "overfull"])
+    {
+        for (k, part) in field.chunks(255).enumerate() {
+            number += 1;
+            let marker = k == 16;
+            let head = Head {
+                number,
+                marker,
+                ..HEAD
+            };
+            put_frame(&Parts::plain(head, &part.concat()).assemble(), &mut input);
+            expected.push(format!("{number} {}", if marker { last } else { "held" }));
+        }
     }
     let listing = compare(&input, 30_000, "limits");
     let answers: Vec<&str> = listing
         .split('\n')
         .filter(|line| line.starts_with(|c: char| c.is_ascii_digit()))
         .collect();
-    let expected = [
-        "7 skipped",
-        "8 whole ts=1000 f=2 records=255",
-        "9 overfull",
-        "10 held",
-        "11 whole ts=1000 f=2 records=255",
-        "12 held",
-        "13 overfull",
-    ];
     assert_eq!(answers, expected);
 }
 

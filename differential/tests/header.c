@@ -89,14 +89,14 @@ static void parameters(void) {
 }
 
 static void file(void) {
-    octet out[23];
+    octet out[24];
     cell back[8];
-    result("file begin", file_begin(out, 23, answer, 8), 2);
-    result("file write", file_write(2501, 3, record_a, 8, out + 5, 18, answer, 8), 2);
-    octets("file", out, 23);
-    result("file read", file_read(out, 23, 5, back, 8, answer, 8), 6);
+    result("file begin", file_begin(out, 24, answer, 8), 2);
+    result("file write", file_write(2501, 3, record_a, 8, out + 5, 19, answer, 8), 2);
+    octets("file", out, 24);
+    result("file read", file_read(out, 24, 5, back, 8, answer, 8), 6);
     cells("cells", back, 8);
-    result("file read", file_read(out, 23, 23, back, 8, answer, 8), 2);
+    result("file read", file_read(out, 24, 24, back, 8, answer, 8), 2);
 }
 
 int main(void) {

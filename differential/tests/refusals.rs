@@ -9,6 +9,7 @@ use differential::model::row_of;
 use differential::{Head, ANSWER, NO_VPID, STATE};
 use reference::anc::packet_octets;
 use reference::depacketizer::{open, State, FILLING, LOST, READY};
+use reference::file::Version;
 use reference::packet;
 use reference::random::{file_field, Parts, Random};
 use reference::runs::{cells, changed, records, A, HEAD};
@@ -177,13 +178,23 @@ fn of_lists() -> Vec<Refused> {
         table.push(refused(20, what, write(112, 2, list.clone()), 9, index));
         table.push(refused(20, what, field(2, list), 9, index));
     }
-    for (what, list) in [
-        ("256 records", records(256)),
-        ("16,385 cells", cells(16_385)),
-    ] {
-        table.push(refused(21, what, write(112, 2, list.clone()), 9, 0));
-        table.push(refused(21, what, field(2, list), 9, 0));
-    }
+    let over = cells(32_769);
+    table.push(refused(
+        21,
+        "256 records",
+        write(112, 2, records(256)),
+        9,
+        0,
+    ));
+    table.push(refused(
+        21,
+        "32,769 cells",
+        write(112, 2, over.clone()),
+        9,
+        0,
+    ));
+    table.push(refused(21, "4,096 records", field(2, records(4_096)), 9, 0));
+    table.push(refused(21, "32,769 cells", field(2, over), 9, 0));
     table.push(refused(
         23,
         "31 of 32 octets",
@@ -198,7 +209,7 @@ fn of_lists() -> Vec<Refused> {
         19,
         0,
     ));
-    table.push(refused(23, "17 of 18 octets", field(2, A.to_vec()), 17, 0));
+    table.push(refused(23, "18 of 19 octets", field(2, A.to_vec()), 18, 0));
     table.push(refused(23, "4 of 5 octets", Call::FileBegin, 4, 0));
     table.push(refused(24, "type 128", write(128, 2, vec![9]), 0, 0));
     table.push(refused(24, "F 1", write(112, 1, vec![9]), 0, 0));
@@ -224,8 +235,8 @@ fn states() -> Vec<(u8, &'static str, State)> {
         (32, "distance 0", late(HEAD.number)),
         (32, "distance -1", late(HEAD.number + 1)),
         (32, "the most negative distance", late(HEAD.number + 0x8000_0000)),
-        (35, "256 records", State { records: 256, ..good }),
-        (35, "16,385 cells", State { cells: 16_385, ..good }),
+        (35, "4,096 records", State { records: 4_096, ..good }),
+        (35, "32,769 cells", State { cells: 32_769, ..good }),
         (35, "more cells than the store", State { cells: 101, ..good }),
         (35, "records when ready", State { phase: READY, records: 1, ..bare }),
         (35, "cells when lost", State { phase: LOST, cells: 1, ..bare }),
@@ -242,7 +253,7 @@ fn of_states() -> Vec<Refused> {
             35 => changed(&packet_of_a(), 31, 1),
             _ => packet_of_a(),
         };
-        let store = if state.cells == 16_385 { 20_000 } else { 100 };
+        let store = if state.cells == 32_769 { 40_000 } else { 100 };
         Refused {
             state,
             ..refused(number, what, Call::Arrive { octets }, store, 0)
@@ -279,37 +290,41 @@ fn of_parameters() -> Vec<Refused> {
 }
 
 /// A file of one field: F, count, and the ANC packets of a damaged packet.
-fn file_of(f: u8, count: u8, damage: impl Fn(&mut Parts)) -> Vec<u8> {
+fn file_of(version: Version, f: u8, count: u16, damage: impl Fn(&mut Parts)) -> Vec<u8> {
     let mut parts = parts(&[0, 5, 13]);
     damage(&mut parts);
-    let mut file = b"ANF\0\x01".to_vec();
-    file.extend(file_field(9, f, count, &parts.anc));
+    let mut file = version.start().to_vec();
+    file.extend(file_field(version, 9, f, count, &parts.anc));
     file
 }
 
-fn of_files() -> Vec<Refused> {
+fn of_files(version: Version) -> Vec<Refused> {
     let read = |number, file: &[u8], at, lent, index| {
         let file = file.to_vec();
         refused(number, "file", Call::FileRead { file, at }, lent, index)
     };
-    let good = file_of(2, 3, |_| {});
+    let file_of = |f, count, damage: &dyn Fn(&mut Parts)| file_of(version, f, count, damage);
+    let good = file_of(2, 3, &|_| {});
     let end = good.len();
-    let long = file_of(2, 63, |p| p.anc = parts_of_cells(16_385));
+    let head = version.field_head();
+    let long = file_of(2, 125, &|p| p.anc = parts_of_cells(32_769));
     vec![
         read(9, &good[..end - 1], 5, 99, 2),
-        read(9, &good[..22], 5, 99, 0),
-        read(9, &file_of(2, 4, |_| {}), 5, 99, 3),
-        read(10, &file_of(2, 3, |p| p.anc[1].words[0] ^= 1), 5, 99, 1),
-        read(11, &file_of(2, 3, |p| p.anc[2].words[4] ^= 1), 5, 99, 2),
-        read(12, &file_of(2, 3, |p| p.anc[0].alignment = 1), 5, 99, 0),
+        read(9, &good[..5 + head + 11], 5, 99, 0),
+        read(9, &file_of(2, 4, &|_| {}), 5, 99, 3),
+        read(10, &file_of(2, 3, &|p| p.anc[1].words[0] ^= 1), 5, 99, 1),
+        read(11, &file_of(2, 3, &|p| p.anc[2].words[4] ^= 1), 5, 99, 2),
+        read(12, &file_of(2, 3, &|p| p.anc[0].alignment = 1), 5, 99, 0),
         read(14, &good, 5, 41, 0),
         read(21, &long, 5, 0, 0),
         read(50, b"AN", 0, 99, 0),
         read(50, b"ANG\0\x01", 5, 99, 0),
         read(51, b"ANF\0", 0, 99, 0),
-        read(51, b"ANF\0\x02", 5, 99, 0),
-        read(52, &good[..10], 5, 99, 0),
-        read(53, &file_of(1, 3, |_| {}), 5, 99, 0),
+        read(51, b"ANF\0\0", 5, 99, 0),
+        read(51, b"ANF\0\x03", 5, 99, 0),
+        read(51, b"ANF\x01\x02", 5, 99, 0),
+        read(52, &good[..5 + head - 1], 5, 99, 0),
+        read(53, &file_of(1, 3, &|_| {}), 5, 99, 0),
         read(54, &good, end, 99, 0),
         read(55, &good, 4, 99, 0),
         read(55, &good, end + 1, 99, 0),
@@ -327,7 +342,8 @@ fn table() -> Vec<Refused> {
         of_lists(),
         of_states(),
         of_parameters(),
-        of_files(),
+        of_files(Version::One),
+        of_files(Version::Two),
     ]
     .into_iter()
     .flatten()
@@ -366,9 +382,9 @@ fn the_table_has_every_number() {
 }
 
 /// 22 cannot be given: no record has more than three octets to two cells, so
-/// 16,384 cells take at most 24,596 octets.
+/// 32,768 cells take at most 49,172 octets.
 #[test]
 fn no_list_gives_22() {
     assert!((0..256).all(|n| 2 * packet_octets(n) <= 3 * (8 + n)));
-    const { assert!(20 + 3 * 16_384 / 2 < packet::MAX_PACKET) };
+    const { assert!(20 + 3 * 32_768 / 2 < packet::MAX_PACKET) };
 }

@@ -27,7 +27,7 @@ fn packet() -> Vec<u8> {
 }
 
 fn file() -> Vec<u8> {
-    let mut out = vec![0; 23];
+    let mut out = vec![0; 24];
     reference::file::begin(&mut out).unwrap();
     reference::file::write(9, 2, &A, &mut out[5..]).unwrap();
     out

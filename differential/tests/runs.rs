@@ -69,7 +69,7 @@ fn the_text_is_the_same() {
     assert_eq!(ours.lines().count(), 5 + 8 * A_OCTETS);
     let begins = "records 255: written 3080 read 255 2040 20145\nrecords 256: refused 21 0\n";
     assert!(ours.starts_with(begins));
-    assert!(ours.contains("\ncells 16385: refused 21 0\npadding 0: refused 4 0\n"));
+    assert!(ours.contains("\ncells 32769: refused 21 0\npadding 0: refused 4 0\n"));
 }
 
 fn lent(cells: usize, octets: usize, r: &mut Random) -> Memory {
@@ -85,10 +85,10 @@ fn lent(cells: usize, octets: usize, r: &mut Random) -> Memory {
 /// Writes a list as a packet and as a field and reads both back.
 fn there_and_back(list: &[u16], r: &mut Random) -> [u8; 4] {
     let (head, cells) = (head(), list.to_vec());
-    let (written, after) = compare(&Call::Write { head, cells }, &lent(0, 30_000, r));
+    let (written, after) = compare(&Call::Write { head, cells }, &lent(0, 60_000, r));
     let size = after.answer.get()[0] as usize;
     let octets = after.octets.get()[..size].to_vec();
-    let (read, back) = compare(&Call::Read { octets }, &lent(16_390, 0, r));
+    let (read, back) = compare(&Call::Read { octets }, &lent(32_770, 0, r));
     assert!(read != 0 || back.cells.get()[..list.len()] == *list);
 
     let (timestamp, f, cells) = (9, 3, list.to_vec());
@@ -97,10 +97,10 @@ fn there_and_back(list: &[u16], r: &mut Random) -> [u8; 4] {
         f,
         cells,
     };
-    let (field, after) = compare(&call, &lent(0, 30_000, r));
+    let (field, after) = compare(&call, &lent(0, 60_000, r));
     let size = after.answer.get()[0] as usize;
-    let file = [b"ANF\0\x01", &after.octets.get()[..size]].concat();
-    let (field_read, back) = compare(&Call::FileRead { file, at: 5 }, &lent(16_390, 0, r));
+    let file = [b"ANF\0\x02", &after.octets.get()[..size]].concat();
+    let (field_read, back) = compare(&Call::FileRead { file, at: 5 }, &lent(32_770, 0, r));
     assert!(field_read != 0 || back.cells.get()[..list.len()] == *list);
     [written, read, field, field_read]
 }
@@ -110,14 +110,17 @@ fn there_and_back(list: &[u16], r: &mut Random) -> [u8; 4] {
 fn the_limits_of_a_list() {
     let mut r = Random::new(401);
     let accepted = [0, 0, 0, 0];
+    let field_alone = [21, 2, 0, 0];
     let refused = [21, 2, 21, 54];
     assert_eq!(there_and_back(&records(255), &mut r), accepted);
-    assert_eq!(there_and_back(&records(256), &mut r), refused);
-    assert_eq!(there_and_back(&cells(16_384), &mut r), accepted);
-    assert_eq!(there_and_back(&cells(16_385), &mut r), refused);
+    assert_eq!(there_and_back(&records(256), &mut r), field_alone);
+    assert_eq!(there_and_back(&records(4_095), &mut r), field_alone);
+    assert_eq!(there_and_back(&records(4_096), &mut r), refused);
+    assert_eq!(there_and_back(&cells(32_768), &mut r), accepted);
+    assert_eq!(there_and_back(&cells(32_769), &mut r), refused);
 }
 
-/// Fields at and over the limits, one packet each.
+/// Fields at and over the limits of cells and of the store, one packet each.
 #[test]
 fn the_limits_of_a_field() {
     let mut r = Random::new(402);
@@ -130,16 +133,52 @@ fn the_limits_of_a_field() {
     for (list, store, kind) in [
         (records(255), 2_040, 4),
         (records(255), 2_039, 3),
-        (cells(16_384), 16_384, 4),
-        (cells(16_384), 16_383, 3),
+        (cells(32_768), 32_768, 4),
+        (cells(32_768), 32_767, 3),
     ] {
-        let mut octets = vec![0; 30_000];
+        let mut octets = vec![0; 60_000];
         let size = packet::write(&HEAD, &list, &mut octets).unwrap();
         octets.truncate(size);
         let mut memory = lent(store, 0, &mut r);
         memory.state.get_mut().copy_from_slice(&row_of(&ready));
         let (number, after) = compare(&Call::Arrive { octets }, &memory);
         assert_eq!((number, after.answer.get()[0]), (0, kind));
+    }
+}
+
+/// A field of 17 packets, 4,095 records and 4,096: whole, and overfull.
+#[test]
+fn the_records_of_a_field() {
+    let mut r = Random::new(404);
+    for (last, kind) in [(15, 4), (16, 3)] {
+        let opened = State {
+            phase: READY,
+            heard: true,
+            last: HEAD.number - 1,
+            ..open(HEAD.source, HEAD.payload_type).unwrap()
+        };
+        let mut memory = lent(32_768, 0, &mut r);
+        memory.state.get_mut().copy_from_slice(&row_of(&opened));
+        for k in 0..17 {
+            let (number, marker) = (HEAD.number + k, k == 16);
+            let head = packet::Head {
+                number,
+                marker,
+                ..HEAD
+            };
+            let mut octets = vec![0; 4_000];
+            let size = packet::write(
+                &head,
+                &records(if marker { last } else { 255 }),
+                &mut octets,
+            )
+            .unwrap();
+            octets.truncate(size);
+            let (number, after) = compare(&Call::Arrive { octets }, &memory);
+            let expected = if marker { kind } else { 1 };
+            assert_eq!((number, after.answer.get()[0]), (0, expected));
+            memory = after;
+        }
     }
 }
 

@@ -74,7 +74,7 @@ fn every_count_of_words() {
             f,
             cells,
         };
-        for (call, size) in [(packet, size), (field, size - 14)] {
+        for (call, size) in [(packet, size), (field, size - 13)] {
             assert_eq!(compare(&call, &lent(0, size)).0, 0);
             assert_eq!(compare(&call, &lent(0, size - 1)).0, 23);
         }
@@ -230,20 +230,41 @@ fn every_row_of_three_pairs() {
     }
 }
 
-/// Every number in each place of a file's start and of its field's head,
-/// read at every offset.
+/// Every number in each place of a file's start and of its field's head, of
+/// both versions, read at every offset.
 #[test]
 fn every_octet_of_a_file() {
-    let mut file = vec![0; 23];
+    let mut file = vec![0; 24];
     reference::file::begin(&mut file).unwrap();
     reference::file::write(9, 2, &A, &mut file[5..]).unwrap();
+    let mut file_1 = file.clone();
+    (file_1[4], _) = (1, file_1.remove(10));
     let memory = lent(20, 0);
-    for at in 0..=file.len() + 1 {
-        for place in 0..11 {
-            for mask in 0..=255 {
+    for file in [file, file_1] {
+        for at in 0..=file.len() + 1 {
+            for (place, mask) in (0..12).flat_map(|p| (0..=255).map(move |m| (p, m))) {
                 let file = changed(&file, place, mask);
                 compare(&Call::FileRead { file, at }, &memory);
             }
         }
+    }
+}
+
+/// Files of version 1 that were kept: the proved writer's and the reference's,
+/// both of before there was a version 2. Every field, up to 54.
+#[test]
+fn kept_files_of_version_1() {
+    let proved = include_bytes!("../../crates/fieldfile_example/data/version1.anf");
+    let reference = include_bytes!("../../reference/tests/version1.anf");
+    for (file, fields) in [(&proved[..], 2), (&reference[..], 5)] {
+        let mut at = 5;
+        for _ in 0..fields {
+            let file = file.to_vec();
+            let (number, after) = compare(&Call::FileRead { file, at }, &lent(32_768, 0));
+            assert_eq!(number, 0);
+            at = after.answer.get()[4] as usize;
+        }
+        let file = file.to_vec();
+        assert_eq!(compare(&Call::FileRead { file, at }, &lent(0, 0)).0, 54);
     }
 }

@@ -16,12 +16,33 @@ use crate::refusal::Refusal;
 
 /// Cells of a record before its words.
 pub const RECORD_HEAD: usize = 8;
-/// Most records in a list to be written, in a field and in a file's field.
-pub const MAX_RECORDS: usize = 255;
-/// Most cells in a list to be written, in a field and in a file's field.
-pub const MAX_CELLS: usize = 16_384;
 /// Octets of the smallest ANC packet.
 pub const SMALLEST_PACKET: usize = 12;
+
+/// Most records and cells (02, K2).
+#[derive(Clone, Copy, Debug, PartialEq, Eq)]
+pub struct Limits {
+    pub records: usize,
+    pub cells: usize,
+}
+
+impl Limits {
+    /// Of a list that is written as an RTP packet.
+    pub const PACKET: Limits = Limits {
+        records: 255,
+        cells: 32_768,
+    };
+    /// Of a field, gathered or in a file.
+    pub const FIELD: Limits = Limits {
+        records: 4_095,
+        cells: 32_768,
+    };
+
+    #[inline(always)]
+    pub const fn hold(&self, records: usize, cells: usize) -> bool {
+        records <= self.records && cells <= self.cells
+    }
+}
 
 const WORD: u64 = 0x3FF;
 /// The second and fourth word of a group of four.
@@ -379,10 +400,10 @@ impl List<'_> {
         self.octets
     }
 
-    /// 21: over 255 records or 16,384 cells.
+    /// 21: over the limits of a packet, or of a field.
     #[inline]
-    pub fn within_limits(self) -> Result<Self, Refusal> {
-        if self.records > MAX_RECORDS || self.cells.len() > MAX_CELLS {
+    pub fn within(self, limits: Limits) -> Result<Self, Refusal> {
+        if !limits.hold(self.records, self.cells.len()) {
             return Err(Refusal::plain(21));
         }
         Ok(self)

@@ -115,7 +115,7 @@ fn cover_files(r: &mut Random, c: &mut Coverage) {
 fn cover_frames(r: &mut Random, c: &mut Coverage) {
     let input = framed(r);
     let mut depacketizer = None;
-    let mut store = vec![0; crate::anc::MAX_CELLS];
+    let mut store = vec![0; crate::anc::Limits::FIELD.cells];
     for frame in frames::Frames::new(&input) {
         let frames::Frame::Packet(octets) = frame else {
             *c.answers.entry(("frames", "cut")).or_default() += 1;

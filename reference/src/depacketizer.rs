@@ -1,6 +1,6 @@
 //! The depacketizer gathers packets into whole fields.
 
-use crate::anc::{MAX_CELLS, MAX_RECORDS};
+use crate::anc::Limits;
 use crate::packet::{check, Accepted, Summary};
 use crate::refusal::Refusal;
 
@@ -119,8 +119,7 @@ impl State {
     #[inline(always)]
     fn is_sound(&self, store: usize) -> bool {
         self.phase <= FILLING
-            && self.records <= MAX_RECORDS
-            && self.cells <= MAX_CELLS
+            && Limits::FIELD.hold(self.records, self.cells)
             && self.cells <= store
             && (self.phase == FILLING || (self.records == 0 && self.cells == 0))
             && (self.phase == LOST || self.heard)
@@ -176,7 +175,7 @@ impl State {
         let summary = &packet.summary;
         let records = self.records + summary.records as usize;
         let cells = self.cells + summary.cells;
-        let fits = records <= MAX_RECORDS && cells <= MAX_CELLS && cells <= store.len();
+        let fits = Limits::FIELD.hold(records, cells) && cells <= store.len();
         if !fits || packet.run.read(&mut store[self.cells..]).is_err() {
             return (self.drop_field(summary.marker), Answer::Overfull);
         }

@@ -2,7 +2,7 @@
 
 use std::fmt::Write;
 
-use crate::anc::{MAX_CELLS, RECORD_HEAD};
+use crate::anc::{Limits, RECORD_HEAD};
 use crate::depacketizer::{arrive, open, Answer, State};
 use crate::frames::{Frame, Frames};
 use crate::packet::check;
@@ -32,7 +32,7 @@ impl Listing {
         Listing {
             text: String::from("fieldlist 1\n"),
             depacketizer: None,
-            store: vec![0; MAX_CELLS],
+            store: vec![0; Limits::FIELD.cells],
         }
     }
 

@@ -1,6 +1,6 @@
 //! RTP packets with ancillary payload: reader and writer.
 
-use crate::anc::{check_list, check_run, Run};
+use crate::anc::{check_list, check_run, Limits, Run};
 use crate::refusal::Refusal;
 
 /// Most octets of a packet.
@@ -156,7 +156,7 @@ pub fn write(head: &Head, cells: &[u16], out: &mut [u8]) -> Result<usize, Refusa
     if head.payload_type > 127 || head.f == 1 || head.f > 3 {
         return Err(Refusal::plain(24));
     }
-    let list = check_list(cells)?.within_limits()?;
+    let list = check_list(cells)?.within(Limits::PACKET)?;
     let octets = WRITTEN_HEAD + list.octets();
     if octets > MAX_PACKET {
         return Err(Refusal::plain(22));

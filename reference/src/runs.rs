@@ -3,7 +3,7 @@
 
 use std::fmt::Write;
 
-use crate::anc::{MAX_CELLS, MAX_RECORDS};
+use crate::anc::Limits;
 use crate::packet::{Head, Summary, MAX_PACKET};
 use crate::refusal::Refusal;
 
@@ -65,10 +65,11 @@ where
     /// The whole text.
     pub fn text(&mut self) -> String {
         let mut text = String::new();
-        for count in [MAX_RECORDS, MAX_RECORDS + 1] {
+        let most = Limits::PACKET;
+        for count in [most.records, most.records + 1] {
             self.written(&mut text, &format!("records {count}"), &records(count));
         }
-        for count in [MAX_CELLS, MAX_CELLS + 1] {
+        for count in [most.cells, most.cells + 1] {
             self.written(&mut text, &format!("cells {count}"), &cells(count));
         }
         let packet = self.packet(&A).unwrap_or_default();
@@ -101,7 +102,7 @@ where
     }
 
     fn read_back(&mut self, octets: &[u8]) -> Result<String, Refusal> {
-        let mut cells = vec![0; MAX_CELLS];
+        let mut cells = vec![0; Limits::PACKET.cells];
         let summary = (self.read)(octets, &mut cells)?;
         let sum = cells[..summary.cells]
             .iter()

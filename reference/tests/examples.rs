@@ -99,7 +99,7 @@ fn other_listings() {
         marker: false,
         ..head(number, timestamp, 2)
     };
-    let big: Vec<u16> = (0..60)
+    let big: Vec<u16> = (0..70)
         .flat_map(|_| [vec![0, 0, 0, 0, 0, 0, 0, 255], vec![0; 255]].concat())
         .collect();
     let foreign = Head {
@@ -177,17 +177,17 @@ fn limits_of_the_writer() {
         write(&head(0, 0, 0), &records(256), &mut out),
         Err(Refusal::plain(21))
     );
-    // 62 records of 263 cells and one of 78: 16,384 cells.
+    // 124 records of 263 cells and one of 156: 32,768 cells.
     let mut cells = Vec::new();
-    for n in [255; 62].into_iter().chain([70]) {
+    for n in [255; 124].into_iter().chain([148]) {
         cells.extend([0, 0, 0, 0, 0, 0, 0, n]);
         cells.extend(vec![0x3FF; n as usize]);
     }
-    assert_eq!(cells.len(), 16_384);
+    assert_eq!(cells.len(), 32_768);
     assert!(write(&head(0, 0, 0), &cells, &mut out).is_ok());
     cells.push(0);
-    cells[62 * 263 + 7] = 71;
-    assert_eq!(cells.len(), 16_385);
+    cells[124 * 263 + 7] = 149;
+    assert_eq!(cells.len(), 32_769);
     assert_eq!(
         write(&head(0, 0, 0), &cells, &mut out),
         Err(Refusal::plain(21))

@@ -2,6 +2,7 @@
 
 use reference::anc::packet_octets;
 use reference::depacketizer::{arrive, open, Answer, State, FILLING, LOST, READY};
+use reference::file::Version;
 use reference::packet::{self, Head};
 use reference::random::{Anc, Parts};
 use reference::{file, Refusal};
@@ -195,22 +196,31 @@ fn writing_24_20_21_23() {
         list[8 * index + 40] = 1024;
         assert_eq!(write(&HEAD, &list, 0), Some((20, index)));
     }
-    let many = record(0).repeat(256);
-    let long = record(255).repeat(63);
-    assert_eq!(long.len(), 16_569);
-    for list in [many, long] {
+    // 21 before 23: by records, by cells; of a packet, of a field.
+    let long = record(255).repeat(125);
+    assert_eq!(long.len(), 32_875);
+    for (list, of_a_field) in [
+        (record(0).repeat(256), 23),
+        (record(0).repeat(4_095), 23),
+        (record(0).repeat(4_096), 21),
+        (long, 21),
+    ] {
         assert_eq!(write(&HEAD, &list, 0), Some((21, 0)));
-        assert_eq!(file_write(2, &list, 0), Some((21, 0)));
+        assert_eq!(file_write(2, &list, 0), Some((of_a_field, 0)));
     }
     let list = [record(1), record(30)].concat();
     let need = packet_octets(1) + packet_octets(30);
-    for room in [0, 5, 6, 19, 20, 21, need] {
+    for room in [0, 5, 6, 7, 19, 20, 21, need] {
         assert_eq!(write(&HEAD, &list, room), Some((23, 0)));
     }
     assert_eq!(write(&HEAD, &list, need + 19), Some((23, 0)));
     assert_eq!(write(&HEAD, &list, need + 20), None);
-    assert_eq!(file_write(3, &list, need + 5), Some((23, 0)));
-    assert_eq!(file_write(3, &list, need + 6), None);
+    for room in [0, 6, 7, need + 6] {
+        assert_eq!(file_write(3, &list, room), Some((23, 0)));
+    }
+    assert_eq!(file_write(3, &list, need + 7), None);
+    assert_eq!(file_write(3, &[], 6), Some((23, 0)));
+    assert_eq!(file_write(3, &[], 7), None);
     assert_eq!(write(&HEAD, &[], 19), Some((23, 0)));
     assert_eq!(write(&HEAD, &[], 20), None);
 }
@@ -219,7 +229,7 @@ fn writing_24_20_21_23() {
 #[test]
 fn most_octets_of_a_list() {
     let most = (0..256).map(|n| packet_octets(n) as f64 / (8 + n) as f64);
-    assert!(most.fold(0.0, f64::max) * 16_384.0 + 20.0 < 65_535.0);
+    assert!(most.fold(0.0, f64::max) * 32_768.0 + 20.0 < 65_535.0);
 }
 
 fn sound() -> State {
@@ -261,11 +271,11 @@ fn depacketizer_35_then_1_to_13_then_30_31_32() {
     };
     let unsound = [
         State {
-            records: 256,
+            records: 4_096,
             ..sound()
         },
         State {
-            cells: 16_385,
+            cells: 32_769,
             ..sound()
         },
         State {
@@ -302,28 +312,18 @@ fn depacketizer_35_then_1_to_13_then_30_31_32() {
         assert_eq!(refused(state, &good), Some((35, 0)), "{state:?}");
         assert_eq!(refused(state, &[]), Some((35, 0)));
     }
-    assert_eq!(
-        refusal_of(
-            State {
-                cells: 16_385,
-                ..sound()
-            },
-            &good,
-            20_000
-        ),
-        Some((35, 0))
-    );
-    assert_eq!(
-        refusal_of(
-            State {
-                cells: 16_384,
-                ..sound()
-            },
-            &good,
-            20_000
-        ),
-        None
-    );
+    for (records, cells, refusal) in [
+        (4_095, 32_768, None),
+        (4_096, 32_768, Some((35, 0))),
+        (4_095, 32_769, Some((35, 0))),
+    ] {
+        let state = State {
+            records,
+            cells,
+            ..sound()
+        };
+        assert_eq!(refusal_of(state, &good, 40_000), refusal);
+    }
     assert_eq!(
         refused(
             State {
@@ -402,20 +402,39 @@ fn file_read(file: &[u8], offset: usize, room: usize) -> Option<(u8, usize)> {
     Some((number, index))
 }
 
-fn file_of(f: u8, count: u8, anc: &[Anc]) -> Vec<u8> {
-    let mut file = file::START.to_vec();
-    file.extend(reference::random::file_field(7, f, count, anc));
+fn file_of(version: Version, f: u8, count: u16, anc: &[Anc]) -> Vec<u8> {
+    let mut file = version.start().to_vec();
+    file.extend(reference::random::file_field(version, 7, f, count, anc));
     file
 }
 
 #[test]
-fn file_reading() {
+fn file_50_and_51() {
     for start in ["", "A", "AN", "ANG\0\x01", "anf\0\x01"] {
         assert_eq!(file_read(start.as_bytes(), 0, 0), Some((50, 0)));
     }
-    for start in ["ANF", "ANF\0", "ANF\0\0", "ANF\0\x02", "ANF\x01\x01"] {
+    let versions = [
+        "ANF\0\0",
+        "ANF\0\x03",
+        "ANF\x01\x01",
+        "ANF\x02\0",
+        "ANF\x01\x02",
+    ];
+    for start in ["ANF", "ANF\0"].into_iter().chain(versions) {
         assert_eq!(file_read(start.as_bytes(), 0, 0), Some((51, 0)));
     }
+}
+
+#[test]
+fn file_reading() {
+    for version in [Version::One, Version::Two] {
+        file_reading_of(version);
+    }
+}
+
+fn file_reading_of(version: Version) {
+    let head = version.field_head();
+    let file_of = |f, count, anc: &[Anc]| file_of(version, f, count, anc);
     let anc = |counts: &[u16]| parts(counts).anc;
     let good = file_of(2, 3, &anc(&[0, 3, 12]));
     assert_eq!(file_read(&good, 5, 39), None);
@@ -425,14 +444,15 @@ fn file_reading() {
     }
     assert_eq!(file_read(&good, good.len(), 99), Some((54, 0)));
     assert_eq!(file_read(&good[..5], 5, 99), Some((54, 0)));
-    for size in 6..11 {
+    for size in 6..5 + head {
         assert_eq!(file_read(&good[..size], 5, 99), Some((52, 0)));
     }
     assert_eq!(file_read(&good, good.len() - 1, 99), Some((52, 0)));
     for f in [1, 4, 0x80, 0xC0, 255] {
         assert_eq!(file_read(&file_of(f, 9, &anc(&[])), 5, 99), Some((53, 0)));
     }
-    assert_eq!(file_read(&good[..5 + 6 + 11], 5, 99), Some((9, 0)));
+    assert_eq!(file_read(&good[..5 + head], 5, 99), Some((9, 0)));
+    assert_eq!(file_read(&good[..5 + head + 11], 5, 99), Some((9, 0)));
     assert_eq!(file_read(&good[..good.len() - 1], 5, 99), Some((9, 2)));
     assert_eq!(
         file_read(&file_of(0, 4, &anc(&[0, 3, 12])), 5, 99),
@@ -447,9 +467,26 @@ fn file_reading() {
         }
         assert_eq!(file_read(&file_of(0, 3, &anc), 5, 0), Some((number, index)));
     }
-    let long = anc(&[255; 63]);
-    assert_eq!(file_read(&file_of(0, 63, &long), 5, 0), Some((21, 0)));
-    assert_eq!(file_read(&file_of(0, 62, &long), 5, 0), Some((14, 0)));
+    let long = anc(&[255; 125]);
+    assert_eq!(file_read(&file_of(0, 125, &long), 5, 0), Some((21, 0)));
+    assert_eq!(file_read(&file_of(0, 124, &long), 5, 0), Some((14, 0)));
+    // The packets come before the limits: 11 where 21 is due as well.
+    let mut bad = long;
+    bad[124].words[9] ^= 1;
+    assert_eq!(file_read(&file_of(0, 125, &bad), 5, 0), Some((11, 124)));
+}
+
+/// The limits of a field, and a count that needs both octets.
+#[test]
+fn file_21_by_records() {
+    let two = |count, anc: &[Anc]| file_of(Version::Two, 0, count, anc);
+    let many = vec![Anc::of(&record(0)); 4_096];
+    assert_eq!(file_read(&two(4_095, &many[1..]), 5, 32_760), None);
+    assert_eq!(file_read(&two(4_095, &many[1..]), 5, 32_759), Some((14, 0)));
+    assert_eq!(file_read(&two(4_096, &many), 5, 0), Some((21, 0)));
+    assert_eq!(file_read(&two(4_097, &many), 5, 0), Some((9, 4_096)));
+    assert_eq!(file_read(&two(65_535, &many), 5, 0), Some((9, 4_096)));
+    assert_eq!(file_read(&two(256, &many[..255]), 5, 0), Some((9, 255)));
 }
 
 #[test]
@@ -458,7 +495,7 @@ fn file_beginning_and_53() {
     assert_eq!(file::begin(&mut out[..4]), Err(Refusal::plain(23)));
     assert_eq!(out, [0x5A; 7]);
     assert_eq!(file::begin(&mut out), Ok(5));
-    assert_eq!(&out, b"ANF\0\x01ZZ");
+    assert_eq!(&out, b"ANF\0\x02ZZ");
     for f in [1, 4, 255] {
         assert_eq!(file_write(f, &[9], 0), Some((53, 0)));
     }

@@ -12,13 +12,13 @@ fn records_written_and_read() {
         let head = head(&mut r);
         let records = round % 20;
         let cells = match round % 100 {
-            0 => list_of_cells(&mut r, 16_384),
+            0 => list_of_cells(&mut r, 32_768),
             1 => (0..255).flat_map(|_| record(&mut r, 2)).collect(),
             _ => list(&mut r, records),
         };
-        let mut out = vec![0x5A; 30_000];
+        let mut out = vec![0x5A; 65_535];
         let size = write(&head, &cells, &mut out).unwrap();
-        let mut back = vec![0; 16_384];
+        let mut back = vec![0; 32_768];
         let summary = read(&out[..size], &mut back).unwrap();
         assert_eq!(summary.head(), head);
         assert_eq!(back[..summary.cells], cells);
@@ -67,7 +67,7 @@ fn rewriting() {
         }
         let mut cells = vec![0; 60_000];
         let summary = read(&octets, &mut cells).unwrap();
-        if summary.cells > 16_384 {
+        if summary.cells > 32_768 {
             continue;
         }
         let mut out = vec![0; 65_535];
@@ -102,14 +102,20 @@ fn parameters_written_and_read() {
 #[test]
 fn fields_written_and_read() {
     let mut r = Random::new(15);
-    for _ in 0..1_000 {
+    for round in 0..1_000 {
         let fields: Vec<(u32, u8, Vec<u16>)> = (0..r.below(6))
             .map(|_| {
                 let records = r.below(12);
-                (r.draw() as u32, r.pick(&[0, 2, 3]), list(&mut r, records))
+                let cells = match round % 50 {
+                    0 => list_of_cells(&mut r, 32_768),
+                    1 => (0..4_095).flat_map(|_| record(&mut r, 0)).collect(),
+                    2 => (0..256).flat_map(|_| record(&mut r, 100)).collect(),
+                    _ => list(&mut r, records),
+                };
+                (r.draw() as u32, r.pick(&[0, 2, 3]), cells)
             })
             .collect();
-        let mut file = vec![0; 100_000];
+        let mut file = vec![0; 300_000];
         let mut end = file::begin(&mut file).unwrap();
         for (timestamp, f, cells) in &fields {
             end += file::write(*timestamp, *f, cells, &mut file[end..]).unwrap();
@@ -117,7 +123,7 @@ fn fields_written_and_read() {
         file.truncate(end);
         let mut at = 5;
         for (timestamp, f, cells) in &fields {
-            let mut back = vec![0; 16_384];
+            let mut back = vec![0; 32_768];
             let field = file::read(&file, at, &mut back).unwrap();
             assert_eq!((field.timestamp, field.f), (*timestamp, *f));
             assert_eq!(field.records, split_records(cells).len());

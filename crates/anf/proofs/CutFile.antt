@@ -21,10 +21,12 @@ use Rattle.wire.proofs.Window.{bitsAt-slice}
 use Rattle.wire.proofs.ResultLaws.{Passed, judge-accepts, judge-passes}
 use Rattle.wire.proofs.SizeLaws.{length-anc}
 use Rattle.wire.proofs.AncLaws.{accepts-iff, count-read, below-run}
+use Rattle.anf.specs.declared.format.Version.{Version}
+use Rattle.anf.specs.declared.format.Version.the-variants as version
 use Rattle.anf.specs.File.{fileHeadSize, nameSize, fieldHeaderSize, FieldContent, fileHead, fieldHeaderFields, fieldOctets, fieldSize, fieldsOctets, fileOctets, WellFormedField, fieldHeaderChecks, readFront, fileChecks, readField, endOfFile, noField, fieldThen, readFrom, readFile}
 use Rattle.anf.specs.Cut.{cutPacket, cutEnd, cutFields, cutFile}
-use Rattle.anf.proofs.FrontLaws.{length-field, HeaderFound, header-found}
-use Rattle.anf.proofs.FileLaws.{length-head, below-fields, field-read, head-passes, at-end, at-field, Reading, ends, goes, reading-is}
+use Rattle.anf.proofs.FrontLaws.{header-bits, header-least, length-field, HeaderFound, header-found}
+use Rattle.anf.proofs.FileLaws.{length-head, IsFile, below-fields, field-read, head-passes, at-end, at-field, Reading, ends, goes, reading-is}
 
 -- octets that are left read as before
 cut-bits : (s : List ℕ) (m k n : ℕ) → k + n ≤ 8 * m → bitsAt (take m s) k n ≡ bitsAt s k n
@@ -107,137 +109,142 @@ run-cut i [] w m h = absurd (omega arith)
 run-cut i (r ∷ rs) w m h = run-next i r rs m (w .0) (λ j l. run-cut (i + 1) rs (w .1) j l) h (leb (ancSize rfc8331 (length (r .words))) m) refl
 
 -- a field that is cut
-module _ (k : FieldContent) (w : WellFormedField k) (m : ℕ) (some : 0 < m) (cut : m < fieldSize (k .records)) where
+module _ (v : Version) (k : FieldContent) (w : WellFormedField v k) (m : ℕ) (some : 0 < m) (cut : m < fieldSize v (k .records)) where
   -- in its header
-  cut-header : m < fieldHeaderSize → readFront (take m (fieldOctets k)) ≡ refuse 52 0
+  cut-header : m < fieldHeaderSize v → readFront v (take m (fieldOctets v k)) ≡ refuse 52 0
   unfolding readFront fieldHeaderChecks
   cut-header h =
-      let s = take m (fieldOctets k) in
-      let a : leb fieldHeaderSize (length s) ≡ false = lt-leb fieldHeaderSize (length s) (omega (arith, length-take-le m (fieldOctets k) (omega (arith, length-field k)))) in
+      let s = take m (fieldOctets v k) in
+      let a : leb (fieldHeaderSize v) (length s) ≡ false = lt-leb (fieldHeaderSize v) (length s) (omega (arith, length-take-le m (fieldOctets v k) (omega (arith, length-field v k)))) in
       rw a
 
   -- behind it
-  cut-run : fieldHeaderSize ≤ m → readFront (take m (fieldOctets k)) ≡ refuse 9 (cutPacket (m - fieldHeaderSize) (k .records))
+  cut-run : fieldHeaderSize v ≤ m → readFront v (take m (fieldOctets v k)) ≡ refuse 9 (cutPacket (m - fieldHeaderSize v) (k .records))
   unfolding readFront
   cut-run h =
       let rs = k .records in
-      let fs = fieldHeaderFields (k .timestamp) (k .f) (length rs) in
-      let s = take m (fieldOctets k) in
-      let t = take (m - fieldHeaderSize) (runOctets rfc8331 rs) in
-      let lp : length (pack fs) ≡ fieldHeaderSize = length-pack [] fs fieldHeaderSize refl in
+      let fs = fieldHeaderFields v (k .timestamp) (k .f) (length rs) in
+      let s = take m (fieldOctets v k) in
+      let t = take (m - fieldHeaderSize v) (runOctets rfc8331 rs) in
+      let lp : length (pack fs) ≡ fieldHeaderSize v = length-pack [] fs (fieldHeaderSize v) (header-bits v) in
       let parts : s ≡ pack fs ++ t = beyond (pack fs) (runOctets rfc8331 rs) m (omega arith) ∙ ap (λ (x : ℕ). pack fs ++ take (m - x) (runOctets rfc8331 rs)) lp in
-      let f : HeaderFound s k t = header-found s k t w parts in
-      let r = run-cut 0 rs (w .records) (m - fieldHeaderSize) (omega arith) in
-      judge-passes 0 (fieldHeaderChecks s) _ (f .passed) ∙ rw (f .count, f .behind, r, zero-add (cutPacket (m - fieldHeaderSize) rs))
+      let f : HeaderFound v s k t = header-found v s k t w parts in
+      let r = run-cut 0 rs (w .records) (m - fieldHeaderSize v) (omega arith) in
+      judge-passes 0 (fieldHeaderChecks v s) _ (f .passed) ∙ rw (f .count, f .behind, r, zero-add (cutPacket (m - fieldHeaderSize v) rs))
 
-  field-cut : readFront (take m (fieldOctets k)) ≡ refused (cutEnd m k)
-  field-cut = let z : eqb m 0 ≡ false = ne-eqb m 0 (λ (e : m ≡ 0). omega arith) in rw z (go (leb fieldHeaderSize m) refl)
+  field-cut : readFront v (take m (fieldOctets v k)) ≡ refused (cutEnd v m k)
+  field-cut = let z : eqb m 0 ≡ false = ne-eqb m 0 (λ (e : m ≡ 0). omega arith) in rw z (go (leb (fieldHeaderSize v) m) refl)
     where
-      go : (t : Bool) → leb fieldHeaderSize m ≡ t
-          → readFront (take m (fieldOctets k)) ≡ refused (cond t (record { number = 9; index = cutPacket (m - fieldHeaderSize) (k .records) }) (record { number = 52; index = 0 }))
-      go true e = cut-run (leb-true fieldHeaderSize m e)
-      go false e = cut-header (leb-false fieldHeaderSize m e)
+      go : (t : Bool) → leb (fieldHeaderSize v) m ≡ t
+          → readFront v (take m (fieldOctets v k)) ≡ refused (cond t (record { number = 9; index = cutPacket (m - fieldHeaderSize v) (k .records) }) (record { number = 52; index = 0 }))
+      go true e = cut-run (leb-true (fieldHeaderSize v) m e)
+      go false e = cut-header (leb-false (fieldHeaderSize v) m e)
 
 -- fields that are cut, behind what stands before them
-fields-cut : (s pre : List ℕ) (ks : List FieldContent) (m : ℕ) → Each WellFormedField ks → s ≡ pre ++ take m (fieldsOctets ks) → Passed (fileChecks s) → fileHeadSize ≤ length pre
-    → Reading s (length pre) (cutFields m ks .fields) (cutFields m ks .end)
-fields-cut s pre [] m w e p l = ends (at-end s pre (take m []) e p l (ap length (take-nil m)))
-fields-cut s pre (k ∷ ks) m w e p l = go (leb (fieldSize (k .records)) m) refl (λ q j d g. fields-cut s q ks j (w .1) d p g)
+fields-cut : (v : Version) → (s pre : List ℕ) (ks : List FieldContent) (m : ℕ) → Each (WellFormedField v) ks → s ≡ pre ++ take m (fieldsOctets v ks) → IsFile v s → fileHeadSize ≤ length pre
+    → Reading s (length pre) (cutFields v m ks .fields) (cutFields v m ks .end)
+fields-cut v s pre [] m w e p l = ends (at-end v s pre (take m []) e p l (ap length (take-nil m)))
+fields-cut v s pre (k ∷ ks) m w e p l = go (leb (fieldSize v (k .records)) m) refl (λ q j d g. fields-cut v s q ks j (w .1) d p g)
   where
-    go : (t : Bool) → leb (fieldSize (k .records)) m ≡ t
-        → ((q : List ℕ) (j : ℕ) → s ≡ q ++ take j (fieldsOctets ks) → fileHeadSize ≤ length q → Reading s (length q) (cutFields j ks .fields) (cutFields j ks .end))
-        → let r = cond t (fieldThen k (cutFields (m - fieldSize (k .records)) ks)) (noField (cutEnd m k)) in Reading s (length pre) (r .fields) (r .end)
+    go : (t : Bool) → leb (fieldSize v (k .records)) m ≡ t
+        → ((q : List ℕ) (j : ℕ) → s ≡ q ++ take j (fieldsOctets v ks) → fileHeadSize ≤ length q → Reading s (length q) (cutFields v j ks .fields) (cutFields v j ks .end))
+        → let r = cond t (fieldThen k (cutFields v (m - fieldSize v (k .records)) ks)) (noField (cutEnd v m k)) in Reading s (length pre) (r .fields) (r .end)
     go true h more =
-        let o = fieldOctets k in
-        let size = fieldSize (k .records) in
-        let lo : length o ≡ size = length-field k in
+        let o = fieldOctets v k in
+        let size = fieldSize v (k .records) in
+        let lo : length o ≡ size = length-field v k in
         let a = leb-true size m h in
-        let t = take (m - size) (fieldsOctets ks) in
-        let left : take m (o ++ fieldsOctets ks) ≡ o ++ t = beyond o (fieldsOctets ks) m (omega arith) ∙ ap (λ (x : ℕ). o ++ take (m - x) (fieldsOctets ks)) lo in
+        let t = take (m - size) (fieldsOctets v ks) in
+        let left : take m (o ++ fieldsOctets v ks) ≡ o ++ t = beyond o (fieldsOctets v ks) m (omega arith) ∙ ap (λ (x : ℕ). o ++ take (m - x) (fieldsOctets v ks)) lo in
         let parts : s ≡ pre ++ (o ++ t) = e ∙ ap (λ (x : List ℕ). pre ++ x) left in
         let one : readField s (length pre) ≡ accepted (k, length pre + size) =
-        at-field s pre (o ++ t) parts p l (omega (arith, length-append o t))
-        ∙ ap (λ x. x then λ k. accepted (k, length pre + fieldSize (k .records))) (field-read k (w .0) t (below-take 256 (m - size) (fieldsOctets ks) (below-fields ks))) in
+        at-field v s pre (o ++ t) parts p l (omega (arith, length-append o t, header-least v))
+        ∙ ap (λ x. x then λ k. accepted (k, length pre + fieldSize v (k .records))) (field-read v k (w .0) t (below-take 256 (m - size) (fieldsOctets v ks) (below-fields v ks))) in
         let next : length (pre ++ o) ≡ length pre + size = length-append pre o ∙ ap (λ (x : ℕ). length pre + x) lo in
-        goes one (subst (λ (x : ℕ). Reading s x (cutFields (m - size) ks .fields) (cutFields (m - size) ks .end)) next (more (pre ++ o) (m - size) (parts ∙ sym (append-assoc pre o t)) (omega arith)))
+        goes one (subst (λ (x : ℕ). Reading s x (cutFields v (m - size) ks .fields) (cutFields v (m - size) ks .end)) next (more (pre ++ o) (m - size) (parts ∙ sym (append-assoc pre o t)) (omega arith)))
     go false h more =
-        let o = fieldOctets k in
-        let size = fieldSize (k .records) in
+        let o = fieldOctets v k in
+        let size = fieldSize v (k .records) in
         let a = leb-false size m h in
-        let left : take m (o ++ fieldsOctets ks) ≡ take m o = take-append-le m o (fieldsOctets ks) (omega (arith, length-field k)) in
+        let left : take m (o ++ fieldsOctets v ks) ≡ take m o = take-append-le m o (fieldsOctets v ks) (omega (arith, length-field v k)) in
         let parts : s ≡ pre ++ take m o = e ∙ ap (λ (x : List ℕ). pre ++ x) left in
         ends (stops m a parts)
       where
-        stops : (m : ℕ) → m < fieldSize (k .records) → s ≡ pre ++ take m (fieldOctets k) → readField s (length pre) ≡ refused (cutEnd m k)
-        stops zero a parts = at-end s pre [] parts p l refl
+        stops : (m : ℕ) → m < fieldSize v (k .records) → s ≡ pre ++ take m (fieldOctets v k) → readField s (length pre) ≡ refused (cutEnd v m k)
+        stops zero a parts = at-end v s pre [] parts p l refl
         stops (suc m) a parts =
-            at-field s pre (take (suc m) (fieldOctets k)) parts p l (omega (arith, length-take-le (suc m) (fieldOctets k) (omega (arith, length-field k))))
-            ∙ ap (λ x. x then λ k. accepted (k, length pre + fieldSize (k .records))) (field-cut k (w .0) (suc m) (omega arith) a)
+            at-field v s pre (take (suc m) (fieldOctets v k)) parts p l (omega (arith, length-take-le (suc m) (fieldOctets v k) (omega (arith, length-field v k))))
+            ∙ ap (λ x. x then λ k. accepted (k, length pre + fieldSize v (k .records))) (field-cut v k (w .0) (suc m) (omega arith) a)
 
 -- a file that is cut behind its head
-behind-head : (ks : List FieldContent) → Each WellFormedField ks → (m : ℕ) → readFile (fileHead ++ take m (fieldsOctets ks)) ≡ cutFields m ks
-behind-head ks w m =
-    let s = fileHead ++ take m (fieldsOctets ks) in
-    let p = head-passes (take m (fieldsOctets ks)) (below-take 256 m (fieldsOctets ks) (below-fields ks)) in
-    let r = fields-cut s fileHead ks m w refl p (omega (arith, length-head)) in
-    reading-is (subst (λ (x : ℕ). Reading s x (cutFields m ks .fields) (cutFields m ks .end)) length-head r) (suc (length s)) (omega arith)
+behind-head : (v : Version) → (ks : List FieldContent) → Each (WellFormedField v) ks → (m : ℕ) → readFile (fileHead v ++ take m (fieldsOctets v ks)) ≡ cutFields v m ks
+behind-head v ks w m =
+    let s = fileHead v ++ take m (fieldsOctets v ks) in
+    let p = head-passes v (take m (fieldsOctets v ks)) (below-take 256 m (fieldsOctets v ks) (below-fields v ks)) in
+    let r = fields-cut v s (fileHead v) ks m w refl p (omega (arith, length-head v)) in
+    reading-is (subst (λ (x : ℕ). Reading s x (cutFields v m ks .fields) (cutFields v m ks .end)) (length-head v) r) (suc (length s)) (omega arith)
 
 -- a file that is cut in its head
-in-head : (ks : List FieldContent) (n : ℕ) → n < fileHeadSize → readFile (take n (fileOctets ks)) ≡ cutFile n ks
+in-head : (v : Version) → (ks : List FieldContent) (n : ℕ) → n < fileHeadSize → readFile (take n (fileOctets v ks)) ≡ cutFile v n ks
 unfolding toBits num bits octets fieldBits bitsAt fileChecks readField readFrom
-in-head ks zero h = refl
-in-head ks (suc zero) h = refl
-in-head ks (suc (suc zero)) h = refl
-in-head ks (suc (suc (suc zero))) h = refl
-in-head ks (suc (suc (suc (suc zero)))) h = refl
-in-head ks (suc (suc (suc (suc (suc n))))) h = absurd (omega arith)
+in-head version.One ks zero h = refl
+in-head version.Two ks zero h = refl
+in-head version.One ks (suc zero) h = refl
+in-head version.Two ks (suc zero) h = refl
+in-head version.One ks (suc (suc zero)) h = refl
+in-head version.Two ks (suc (suc zero)) h = refl
+in-head version.One ks (suc (suc (suc zero))) h = refl
+in-head version.Two ks (suc (suc (suc zero))) h = refl
+in-head version.One ks (suc (suc (suc (suc zero)))) h = refl
+in-head version.Two ks (suc (suc (suc (suc zero)))) h = refl
+in-head v ks (suc (suc (suc (suc (suc n))))) h = absurd (omega arith)
 
 -- A CUT FILE reads as the fields that stand whole in it, and ends in the refusal of the place of the cut
-pub cut-file : (ks : List FieldContent) → Each WellFormedField ks → (n : ℕ) → readFile (take n (fileOctets ks)) ≡ cutFile n ks
-cut-file ks w n = go (leb fileHeadSize n) refl
+pub cut-file : (v : Version) → (ks : List FieldContent) → Each (WellFormedField v) ks → (n : ℕ) → readFile (take n (fileOctets v ks)) ≡ cutFile v n ks
+cut-file v ks w n = go (leb fileHeadSize n) refl
   where
-    go : (t : Bool) → leb fileHeadSize n ≡ t → readFile (take n (fileOctets ks)) ≡ cutFile n ks
-    go false e = in-head ks n (leb-false fileHeadSize n e)
+    go : (t : Bool) → leb fileHeadSize n ≡ t → readFile (take n (fileOctets v ks)) ≡ cutFile v n ks
+    go false e = in-head v ks n (leb-false fileHeadSize n e)
     go true e =
         let l = leb-true fileHeadSize n e in
         let b : leb nameSize n ≡ true = le-leb nameSize n (omega arith) in
-        let parts = beyond fileHead (fieldsOctets ks) n (omega (arith, length-head)) ∙ ap (λ (x : ℕ). fileHead ++ take (n - x) (fieldsOctets ks)) length-head in
-        ap readFile parts ∙ behind-head ks w (n - fileHeadSize) ∙ rw (b, e)
+        let parts = beyond (fileHead v) (fieldsOctets v ks) n (omega (arith, length-head v)) ∙ ap (λ (x : ℕ). fileHead v ++ take (n - x) (fieldsOctets v ks)) (length-head v) in
+        ap readFile parts ∙ behind-head v ks w (n - fileHeadSize) ∙ rw (b, e)
 
 -- fields that are not cut
-uncut : (ks : List FieldContent) → cutFields (length (fieldsOctets ks)) ks ≡ record { fields = ks; end = endOfFile }
-uncut [] = refl
-uncut (k ∷ ks) =
-    let size = fieldSize (k .records) in
-    let n = length (fieldsOctets (k ∷ ks)) in
-    let e : n ≡ size + length (fieldsOctets ks) = length-append (fieldOctets k) (fieldsOctets ks) ∙ ap (λ (x : ℕ). x + length (fieldsOctets ks)) (length-field k) in
+uncut : (v : Version) → (ks : List FieldContent) → cutFields v (length (fieldsOctets v ks)) ks ≡ record { fields = ks; end = endOfFile }
+uncut v [] = refl
+uncut v (k ∷ ks) =
+    let size = fieldSize v (k .records) in
+    let n = length (fieldsOctets v (k ∷ ks)) in
+    let e : n ≡ size + length (fieldsOctets v ks) = length-append (fieldOctets v k) (fieldsOctets v ks) ∙ ap (λ (x : ℕ). x + length (fieldsOctets v ks)) (length-field v k) in
     let a : leb size n ≡ true = le-leb size n (omega arith) in
-    let d : n - size ≡ length (fieldsOctets ks) = omega arith in
-    rw (a, d) (ap (fieldThen k) (uncut ks))
+    let d : n - size ≡ length (fieldsOctets v ks) = omega arith in
+    rw (a, d) (ap (fieldThen k) (uncut v ks))
 
 -- A WHOLE FILE, the head and then any well-formed fields one after the other, reads as exactly those fields in order, and then 54
-pub whole-file : (ks : List FieldContent) → Each WellFormedField ks → readFile (fileOctets ks) ≡ record { fields = ks; end = endOfFile }
-whole-file ks w =
-    let all = take-all (length (fieldsOctets ks)) (fieldsOctets ks) (le-refl (length (fieldsOctets ks))) in
-    ap (λ (x : List ℕ). readFile (fileHead ++ x)) (sym all) ∙ behind-head ks w (length (fieldsOctets ks)) ∙ uncut ks
+pub whole-file : (v : Version) → (ks : List FieldContent) → Each (WellFormedField v) ks → readFile (fileOctets v ks) ≡ record { fields = ks; end = endOfFile }
+whole-file v ks w =
+    let all = take-all (length (fieldsOctets v ks)) (fieldsOctets v ks) (le-refl (length (fieldsOctets v ks))) in
+    ap (λ (x : List ℕ). readFile (fileHead v ++ x)) (sym all) ∙ behind-head v ks w (length (fieldsOctets v ks)) ∙ uncut v ks
 
 -- NOTHING IS INVENTED: the fields of a cut file are the first of the file's fields
-fields-prefix : (m : ℕ) (ks : List FieldContent) → cutFields m ks .fields ≡ take (length (cutFields m ks .fields)) ks
-fields-prefix m [] = refl
-fields-prefix m (k ∷ ks) = go (leb (fieldSize (k .records)) m) (fields-prefix (m - fieldSize (k .records)) ks)
+fields-prefix : (v : Version) → (m : ℕ) (ks : List FieldContent) → cutFields v m ks .fields ≡ take (length (cutFields v m ks .fields)) ks
+fields-prefix v m [] = refl
+fields-prefix v m (k ∷ ks) = go (leb (fieldSize v (k .records)) m) (fields-prefix v (m - fieldSize v (k .records)) ks)
   where
-    go : (t : Bool) → let r = cutFields (m - fieldSize (k .records)) ks in r .fields ≡ take (length (r .fields)) ks
-        → let s = cond t (fieldThen k r) (noField (cutEnd m k)) in s .fields ≡ take (length (s .fields)) (k ∷ ks)
+    go : (t : Bool) → let r = cutFields v (m - fieldSize v (k .records)) ks in r .fields ≡ take (length (r .fields)) ks
+        → let s = cond t (fieldThen k r) (noField (cutEnd v m k)) in s .fields ≡ take (length (s .fields)) (k ∷ ks)
     go true h = ap (λ (x : List FieldContent). k ∷ x) h
     go false h = refl
 
-pub cut-prefix : (ks : List FieldContent) → Each WellFormedField ks → (n : ℕ)
-    → readFile (take n (fileOctets ks)) .fields ≡ take (length (readFile (take n (fileOctets ks)) .fields)) ks
-cut-prefix ks w n = rw (cut-file ks w n) (go (leb nameSize n) (leb fileHeadSize n))
+pub cut-prefix : (v : Version) → (ks : List FieldContent) → Each (WellFormedField v) ks → (n : ℕ)
+    → readFile (take n (fileOctets v ks)) .fields ≡ take (length (readFile (take n (fileOctets v ks)) .fields)) ks
+cut-prefix v ks w n = rw (cut-file v ks w n) (go (leb nameSize n) (leb fileHeadSize n))
   where
     go : (a b : Bool)
-        → let r = cond a (cond b (cutFields (n - fileHeadSize) ks) (noField (record { number = 51; index = 0 }))) (noField (record { number = 50; index = 0 })) in
+        → let r = cond a (cond b (cutFields v (n - fileHeadSize) ks) (noField (record { number = 51; index = 0 }))) (noField (record { number = 50; index = 0 })) in
         r .fields ≡ take (length (r .fields)) ks
-    go true true = fields-prefix (n - fileHeadSize) ks
+    go true true = fields-prefix v (n - fileHeadSize) ks
     go true false = refl
     go false b = refl

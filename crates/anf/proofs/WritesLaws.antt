@@ -18,7 +18,7 @@ use Rattle.wire.proofs.AncLaws.{length-run}
 use Rattle.wire.proofs.CellLaws.{list-iff}
 use Rattle.wire.proofs.WritingLaws.{passes}
 use Rattle.wire.proofs.Demand2.{run-cells}
-use Rattle.anf.specs.File.{fieldSize, fileFOk, roomChecks, fieldRecords}
+use Rattle.anf.specs.File.{writtenVersion, fieldSize, fileFOk, roomChecks, fieldRecords}
 
 -- a field within its limits is small
 pub small : (cells : List ℕ) (rs : List Record) → readList cells ≡ accepted rs → length cells ≤ maxFieldCells → 2 * runSize rfc8331 rs ≤ 3 * maxFieldCells
@@ -30,7 +30,7 @@ pub record Writes (f : ℕ) (cells : List ℕ) (room : ℕ) (rs : List Record) :
   pub reads : readList cells ≡ accepted rs
   pub few : length rs ≤ maxFieldRecords
   pub short : length cells ≤ maxFieldCells
-  pub enough : fieldSize rs ≤ room
+  pub enough : fieldSize writtenVersion rs ≤ room
 
 pub writes : (f : ℕ) (cells : List ℕ) (room : ℕ) (rs : List Record) → fieldRecords f cells room ≡ accepted rs → Writes f cells room rs
 writes f cells room rs e =
@@ -42,5 +42,5 @@ writes f cells room rs e =
       reads = p .reads;
       few = leb-true (length rs) maxFieldRecords (w .0);
       short = leb-true (length cells) maxFieldCells (w .1);
-      enough = leb-true (fieldSize rs) room (l .1 .0);
+      enough = leb-true (fieldSize writtenVersion rs) room (l .1 .0);
     }

@@ -7,6 +7,7 @@ use lib.ListN.{length}
 use Rattle.wire.specs.declared.refusal.Refusal.{Refusal}
 use Rattle.wire.specs.Layout.{rfc8331}
 use Rattle.wire.specs.Anc.{Record, ancSize}
+use Rattle.anf.specs.declared.format.Version.{Version}
 use Rattle.anf.specs.File.{nameSize, fileHeadSize, fieldHeaderSize, FieldContent, fieldSize, FileRead, endOfFile, noField, fieldThen}
 
 -- "the ANC packet for 9 to 12": the index of the first packet that is not whole, where `m` octets of the packets stand
@@ -16,21 +17,21 @@ cutPacket m (r ∷ rs) =
     let size = ancSize rfc8331 (length (r .words)) in cond (leb size m) (suc (cutPacket (m - size) rs)) 0
 
 -- where `m` octets of a field stand, not all: 54 "end of file" if none, 52 "file field header cut", 9 "ANC packet cut"
-abbrev pub cutEnd : ℕ → FieldContent → Refusal
-cutEnd m k =
+abbrev pub cutEnd : Version → ℕ → FieldContent → Refusal
+cutEnd v m k =
     cond (eqb m 0) endOfFile
-    (cond (leb fieldHeaderSize m) (record { number = 9; index = cutPacket (m - fieldHeaderSize) (k .records) }) (record { number = 52; index = 0 }))
+    (cond (leb (fieldHeaderSize v) m) (record { number = 9; index = cutPacket (m - fieldHeaderSize v) (k .records) }) (record { number = 52; index = 0 }))
 
 -- where `m` octets of the fields stand: those that are whole, and why the next is not read
-abbrev pub cutFields : ℕ → List FieldContent → FileRead
-cutFields m [] = noField endOfFile
-cutFields m (k ∷ ks) =
-    let size = fieldSize (k .records) in
-    cond (leb size m) (fieldThen k (cutFields (m - size) ks)) (noField (cutEnd m k))
+abbrev pub cutFields : Version → ℕ → List FieldContent → FileRead
+cutFields v m [] = noField endOfFile
+cutFields v m (k ∷ ks) =
+    let size = fieldSize v (k .records) in
+    cond (leb size m) (fieldThen k (cutFields v (m - size) ks)) (noField (cutEnd v m k))
 
 -- where `n` octets of the file stand: 50 "under 3 octets", 51 "under 5 octets", or its fields
-abbrev pub cutFile : ℕ → List FieldContent → FileRead
-cutFile n ks =
+abbrev pub cutFile : Version → ℕ → List FieldContent → FileRead
+cutFile v n ks =
     cond (leb nameSize n)
-    (cond (leb fileHeadSize n) (cutFields (n - fileHeadSize) ks) (noField (record { number = 51; index = 0 })))
+    (cond (leb fileHeadSize n) (cutFields v (n - fileHeadSize) ks) (noField (record { number = 51; index = 0 })))
     (noField (record { number = 50; index = 0 }))

@@ -19,7 +19,7 @@ pub extern "C" fn jibhotran_file_begin(out: &mut [u8], answer: &mut [u64]) -> u8
     if answer.len() < ANSWER_SIZE {
         return ROW_TOO_SHORT;
     }
-    let written = fieldfile::begin(out);
+    let written = fieldfile_writer::begin(out);
     reply_written(written, answer)
 }
 
@@ -39,7 +39,7 @@ pub extern "C" fn jibhotran_file_write(
     if answer.len() < ANSWER_SIZE {
         return ROW_TOO_SHORT;
     }
-    let written = fieldfile::write_field(Timestamp(timestamp), f, cells, out);
+    let written = fieldfile_writer::write_field(Timestamp(timestamp), f, cells, out);
     reply_written(written, answer)
 }
 

@@ -1,3 +1,2 @@
 pub mod HeadFields
 pub mod ReadLaws
-pub mod WriteLaws

@@ -4,35 +4,37 @@ ghost use Prim.Native.Nat.{_+_, _<_, _^_};
 ghost use lib.ListN.{length};
 ghost use Rattle.wire.specs.Result.{_then_, accepted};
 ghost use Rattle.fieldfile.specs.Answers.{readOf};
-ghost use Rattle.anf.specs.File.{fieldHeaderSize, fieldSize, readField, readFront};
+ghost use Rattle.anf.specs.File.{fieldSize, readField, readFront};
 use crate::field::FieldRead;
 use crate::field::Summary;
+use crate::rules::within_limits;
 use crate::stages::check_file;
 use crate::stages::check_header;
 use crate::stages::check_offset;
+use crate::version::count_at;
+use crate::version::version_at;
 use anc::check::Run;
 use anc::check::check_run;
-use anf::format::COUNT_AT;
 use anf::format::F_AT;
+use anf::format::Version;
 use stage::Stage;
 use wire::count::OctetCount;
-use wire::limit::MAX_FIELD_CELLS;
 use wire::number::Timestamp;
 use wire::refusal::Refusal;
 use words::octet::quad_at;
 
-// 52, 53, 9 to 12, 21, of the field at the front of the octets, which stand at `at` of their file; a field's header has `header` octets there.
-fn check_front(octets: &[u8], at: OctetCount, header: OctetCount) -> FieldRead
-    requires { ⌜ (at .0 + length (now octets) < 2 ^ 64) × (header .0 ≡ fieldHeaderSize) ⌝ }
-    ensures { λ r. ⌜ r ≡ readOf (readFront (now (octets .entry)) then λ k. accepted (k, at .0 + fieldSize (k .records))) ⌝ }
+// 52, 53, 9 to 12, 21, of the field at the front of the octets, which stand at `at` of a file of this version.
+fn check_front(octets: &[u8], at: OctetCount, version: Version) -> FieldRead
+    requires { ⌜ at .0 + length (now octets) < 2 ^ 64 ⌝ }
+    ensures { λ r. ⌜ r ≡ readOf (readFront version (now (octets .entry)) then λ k. accepted (k, at .0 + fieldSize version (k .records))) ⌝ }
 {
-    let stage = check_header(octets, header);
+    let stage = check_header(octets, version);
     let Stage::Passed(header) = stage else {
         return FieldRead::Refused(stage.refusal());
     };
-    let count = octets[COUNT_AT];
+    let count = count_at(octets, version);
     let size = header.0;
-    let run = check_run(&octets[size..], count as usize);
+    let run = check_run(&octets[size..], count);
     let Run::Accepted {
         octets: used,
         cells,
@@ -40,8 +42,7 @@ fn check_front(octets: &[u8], at: OctetCount, header: OctetCount) -> FieldRead
     else {
         return FieldRead::Refused(run.refusal());
     };
-    // One count octet cannot say more records than a field may have.
-    if cells > MAX_FIELD_CELLS {
+    if !within_limits(count, cells) {
         return FieldRead::Refused(Refusal {
             number: Refusal::OVER_LIMIT,
             index: 0,
@@ -61,7 +62,7 @@ pub fn check(file: &[u8], at: OctetCount) -> FieldRead
     ensures { λ r. ⌜ r ≡ readOf (readField (now (file .entry)) (at .0)) ⌝ }
 {
     let stage = check_file(file);
-    let Stage::Passed(header) = stage else {
+    let Stage::Passed(_) = stage else {
         return FieldRead::Refused(stage.refusal());
     };
     let stage = check_offset(file, at);
@@ -69,5 +70,5 @@ pub fn check(file: &[u8], at: OctetCount) -> FieldRead
         return FieldRead::Refused(stage.refusal());
     };
     let start = from.0;
-    check_front(&file[start..], from, header)
+    check_front(&file[start..], from, version_at(file))
 }

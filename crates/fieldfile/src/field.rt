@@ -7,7 +7,7 @@ use wire::refusal::Refusal;
 pub struct Summary {
     pub timestamp: Timestamp,
     pub f: u8,
-    pub records: u8,
+    pub records: usize,
     pub cells: usize,
     pub next: OctetCount,
 }

@@ -7,13 +7,16 @@ ghost use lib.ListN.{length};
 ghost use Rattle.wire.specs.Bits.{bitsAt};
 ghost use Rattle.wire.specs.Result.{accepted, judge};
 ghost use Rattle.stage.specs.Answers.{stageOf};
-ghost use Rattle.anf.specs.File.{fieldHeaderChecks, fieldHeaderSize, fileChecks, fileFOk, fileHeadSize, fileName, nameBits, nameSize, offsetChecks};
+ghost use Rattle.anf.specs.File.{fieldHeaderChecks, fieldHeaderSize, fileChecks, fileHeadSize, fileName, isVersion, nameBits, nameSize, offsetChecks};
+use crate::rules::f_ok;
+use crate::version::header_size;
 use anf::format::F_AT;
 use anf::format::HEAD_SIZE;
-use anf::format::HEADER_SIZE;
 use anf::format::NAME;
 use anf::format::NAME_SIZE;
-use anf::format::VERSION;
+use anf::format::VERSION_1;
+use anf::format::VERSION_2;
+use anf::format::Version;
 use stage::Stage;
 use wire::count::OctetCount;
 use wire::refusal::Refusal;
@@ -28,9 +31,16 @@ fn name_ok(file: &[u8]) -> bool
     (wide(file[0]) * 256 + wide(file[1])) * 256 + wide(file[2]) == NAME
 }
 
-// 50, 51: the octets of a field's header in this file.
+// A version that is read (02, K2).
+fn version_ok(number: usize) -> bool
+    ensures { λ r. ⌜ r ≡ isVersion number ⌝ }
+{
+    (number == VERSION_1) | (number == VERSION_2)
+}
+
+// 50, 51: the octets of the head.
 pub(crate) fn check_file(file: &[u8]) -> Stage
-    ensures { λ r. ⌜ r ≡ stageOf (judge 0 (fileChecks (now (file .entry))) (accepted fieldHeaderSize)) ⌝ }
+    ensures { λ r. ⌜ r ≡ stageOf (judge 0 (fileChecks (now (file .entry))) (accepted fileHeadSize)) ⌝ }
 {
     if file.len() < NAME_SIZE {
         return Stage::refuse(Refusal::NOT_ANF);
@@ -41,10 +51,10 @@ pub(crate) fn check_file(file: &[u8]) -> Stage
     if file.len() < HEAD_SIZE {
         return Stage::refuse(Refusal::FILE_VERSION_WRONG);
     }
-    if pair_at(file, NAME_SIZE) != VERSION {
+    if !version_ok(pair_at(file, NAME_SIZE)) {
         return Stage::refuse(Refusal::FILE_VERSION_WRONG);
     }
-    Stage::Passed(OctetCount(HEADER_SIZE))
+    Stage::Passed(OctetCount(HEAD_SIZE))
 }
 
 // The offset is behind the head, and not past the end.
@@ -67,23 +77,16 @@ pub(crate) fn check_offset(file: &[u8], at: OctetCount) -> Stage
     Stage::Passed(at)
 }
 
-// F is 0, 2 or 3.
-pub(crate) fn f_ok(f: u8) -> bool
-    ensures { λ r. ⌜ r ≡ fileFOk f ⌝ }
+// 52, 53, of the field at the front of the octets: the octets of its header.
+pub(crate) fn check_header(octets: &[u8], version: Version) -> Stage
+    ensures { λ r. ⌜ r ≡ stageOf (judge 0 (fieldHeaderChecks version (now (octets .entry))) (accepted (fieldHeaderSize version))) ⌝ }
 {
-    (f == 0) | ((f == 2) | (f == 3))
-}
-
-// 52, 53, of the field at the front of the octets, whose header has `header` octets.
-pub(crate) fn check_header(octets: &[u8], header: OctetCount) -> Stage
-    requires { ⌜ header .0 ≡ fieldHeaderSize ⌝ }
-    ensures { λ r. ⌜ r ≡ stageOf (judge 0 (fieldHeaderChecks (now (octets .entry))) (accepted fieldHeaderSize)) ⌝ }
-{
-    if octets.len() < header.0 {
+    let header = header_size(version);
+    if octets.len() < header {
         return Stage::refuse(Refusal::FIELD_HEADER_CUT);
     }
     if !f_ok(octets[F_AT]) {
         return Stage::refuse(Refusal::FILE_F_INVALID);
     }
-    Stage::Passed(header)
+    Stage::Passed(OctetCount(header))
 }

@@ -1,5 +1,7 @@
 // Writes a field file with the records A and B of 01, "Marked examples", to disk, reads it back through the entry points and
-// prints it: its octets in hex, then each field and its cells up to 54, and then some of the other refusals.
+// prints it: its octets in hex, then each field and its cells up to 54, and then some of the other refusals. Then the same of a
+// version 1 file, which this program wrote before there was a version 2 (02, K2).
+use anf::format::HEAD_SIZE;
 use fieldfile::field::FieldRead;
 use printing::number;
 use printing::print_cells;
@@ -12,7 +14,7 @@ use wire::written::Written;
 // Writes the first octets of a file.
 fn begin(to: i32) {
     let mut out = [0u8; 64];
-    let begun = fieldfile::begin(&mut out);
+    let begun = fieldfile_writer::begin(&mut out);
     match begun {
         Written::Refused(refusal) => print_refusal(refusal),
         Written::Octets(at) => {
@@ -27,7 +29,7 @@ fn begin(to: i32) {
 // Writes a field behind what was written.
 fn append(to: i32, time: u32, f: u8, cells: &[u16]) {
     let mut out = [0u8; 64];
-    let written = fieldfile::write_field(Timestamp(time), f, cells, &mut out);
+    let written = fieldfile_writer::write_field(Timestamp(time), f, cells, &mut out);
     match written {
         Written::Refused(refusal) => print_refusal(refusal),
         Written::Octets(size) => {
@@ -94,20 +96,40 @@ fn write_file(to: i32) {
     append(to, 0x01020304, 3, &both);
 }
 
-// The two fields and the end, offsets that no field can have, a cut file, and another one.
-fn show_file(file: &[u8]) {
+// The file, its two fields and the end.
+fn show_fields(file: &[u8]) {
     print_octets(file);
-    let second = show(file, 5);
+    let second = show(file, HEAD_SIZE);
     let end = show(file, second);
     show(file, end);
+}
+
+// Offsets that no field can have, a cut file, and another one.
+fn show_refused(file: &[u8]) {
     show(file, 4);
     show(file, file.len());
     if file.len() > 22 {
-        show(&file[..22], 5);
-        show(&file[..10], 5);
-        show(&file[..4], 5);
+        show(&file[..22], HEAD_SIZE);
+        show(&file[..10], HEAD_SIZE);
+        show(&file[..4], HEAD_SIZE);
     }
-    show(&b"not a field file"[..], 5);
+    show(&b"not a field file"[..], HEAD_SIZE);
+}
+
+// Reads a file and shows it; `all` for refusals too.
+fn read_back(path: &[u8], all: bool) {
+    let back = os::open_read(path);
+    if back < 0 {
+        os::fail(path);
+        return;
+    }
+    let mut file = [0u8; 256];
+    let got = io::read_full(back, &mut file);
+    libc::close(back);
+    show_fields(&file[..got]);
+    if all {
+        show_refused(&file[..got]);
+    }
 }
 
 fn main() {
@@ -119,13 +141,6 @@ fn main() {
     }
     write_file(made);
     libc::close(made);
-    let back = os::open_read(path);
-    if back < 0 {
-        os::fail(path);
-        return;
-    }
-    let mut file = [0u8; 256];
-    let got = io::read_full(back, &mut file);
-    libc::close(back);
-    show_file(&file[..got]);
+    read_back(path, true);
+    read_back(b"version1.anf", false);
 }

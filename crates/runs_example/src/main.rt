@@ -10,6 +10,9 @@ use rtp::packet::Head;
 use rtp::packet::Read;
 use std::num::wrapping_add_u16;
 use wire::layout::FRONT_SIZE;
+use wire::limit::MAX_CELLS;
+use wire::limit::MAX_PACKET;
+use wire::limit::MAX_RECORDS;
 use wire::number::PacketNumber;
 use wire::number::Timestamp;
 use wire::written::Written;
@@ -197,12 +200,12 @@ fn run_changes(out: &mut [u8], cells: &mut [u16]) {
 }
 
 fn main() {
-    let mut list = [0u16; 16385];
-    let mut out = [0u8; 65535];
-    let mut cells = [0u16; 16384];
-    run_records(255, &mut list, &mut out, &mut cells);
-    run_records(256, &mut list, &mut out, &mut cells);
-    run_cells(16384, &mut list, &mut out, &mut cells);
-    run_cells(16385, &mut list, &mut out, &mut cells);
+    let mut list = [0u16; MAX_CELLS + 1];
+    let mut out = [0u8; MAX_PACKET];
+    let mut cells = [0u16; MAX_CELLS];
+    run_records(MAX_RECORDS, &mut list, &mut out, &mut cells);
+    run_records(MAX_RECORDS + 1, &mut list, &mut out, &mut cells);
+    run_cells(MAX_CELLS, &mut list, &mut out, &mut cells);
+    run_cells(MAX_CELLS + 1, &mut list, &mut out, &mut cells);
     run_changes(&mut out, &mut cells);
 }

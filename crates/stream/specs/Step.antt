@@ -144,7 +144,7 @@ taken p r c =
       append = true;
     }
 
--- "A start or join that takes the field past 255 records, 16,384 cells or the store: answer overfull, the field dropped."
+-- "A start or join that takes the field past .. records, .. cells or the store: answer overfull, the field dropped" (01; limits: 02, K2)
 abbrev pub fits : (records cells room : ℕ) → Bool
 fits r c room = leb r maxFieldRecords && (leb c maxFieldCells && leb c room)
 
@@ -272,8 +272,8 @@ isLost phase.Lost = true
 isLost phase.Ready = false
 isLost phase.Filling = false
 
--- 35: "keeper state says over 255 records, over 16,384 cells, more cells than the store has, records or cells when not
--- filling, or ready or filling before a first arrival"
+-- 35: "keeper state says over .. records, over .. cells, more cells than the store has, records or cells when not filling, or ready
+-- or filling before a first arrival" (01; limits: 02, K2)
 abbrev pub sound : State → ℕ → Bool
 sound st room =
     fits (st .records) (st .cells) room

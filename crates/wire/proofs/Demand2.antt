@@ -252,6 +252,6 @@ run-cells L (r ∷ rs) =
 payload-small : (L : Layout) → payloadHeaderSize L ≤ 8
 payload-small rfc8331 = omega arith
 
--- what fits 16384 cells fits a packet, so 22 is never given
+-- what fits a packet's cells fits a packet, so 22 is never given
 pub never-22 : (L : Layout) (k : Content) → length (listOf (k .records)) ≤ maxCells → length (contentOctets L k) ≤ maxPacket
 never-22 L k l = omega (arith, run-cells L (k .records), payload-small L, length-packet L (plain k))

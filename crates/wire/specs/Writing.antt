@@ -10,19 +10,19 @@ use Rattle.wire.specs.Anc.{Record}
 use Rattle.wire.specs.Cells.{readList}
 use Rattle.wire.specs.Packet.{maxPacket, Packet, packetOctets, Content}
 
--- records and cells that a packet may have (01, refusal 21)
+-- 21 of a packet: "over 255 records or 32,768 cells for an RTP packet" (02, K2)
 abbrev pub maxRecords : ℕ
 maxRecords = 255
 
 abbrev pub maxCells : ℕ
-maxCells = 16384
+maxCells = 32768
 
--- records and cells that a field may have (01, refusals 21 of a file and 35; "overfull")
+-- 21 of a field, 35 and "overfull": "A field may hold 4,095 records and 32,768 cells" (02, K2)
 abbrev pub maxFieldRecords : ℕ
-maxFieldRecords = maxRecords
+maxFieldRecords = 4095
 
 abbrev pub maxFieldCells : ℕ
-maxFieldCells = maxCells
+maxFieldCells = 32768
 
 -- 24: "payload type over 127"
 abbrev pub maxType : ℕ

@@ -10,6 +10,7 @@ use std::hint::black_box;
 use std::time::Instant;
 
 use differential::{Archive, Head, Side, ANSWER, STATE};
+use reference::anc::Limits;
 use reference::depacketizer::{self, State};
 use reference::packet;
 use reference::random::{record, Parts, Random};
@@ -18,7 +19,7 @@ use reference::realistic::{Packets, PACKETS};
 const ROUNDS: usize = 100;
 /// Octets that one side goes through in a round, about.
 const OCTETS: usize = 2_000_000;
-const CELLS: usize = 16_384;
+const CELLS: usize = Limits::PACKET.cells;
 const MOST: usize = 65_535;
 
 struct Packet {

@@ -10,13 +10,13 @@
 //! the sum of the cells read, modulo 65,536.
 //!
 //! Every packet has source 1, payload type 112, M set, number 7, timestamp
-//! 1000 and F 2. The writer is lent 65,535 octets, the reader 16,384 cells.
+//! 1000 and F 2. The writer is lent 65,535 octets, the reader 32,768 cells.
 //! The lines, in order:
 //!
 //! - `records 255`, `records 256`: a list of that many records A (cells
 //!   0 9 0 0 0 0x41 0x05 0) is written and, if it was, the packet is read.
-//! - `cells 16384`, `cells 16385`: the same for a list of 62 records of 255
-//!   words and one of 70 words, or of 71. Their first seven cells are those
+//! - `cells 32768`, `cells 32769`: the same for a list of 124 records of 255
+//!   words and one of 148 words, or of 149. Their first seven cells are those
 //!   of record A. The words count on through the whole list from 0, modulo
 //!   1,024: the first record's are 0 to 254, the second's begin with 255.
 //! - `padding 0`: the packet of one record A, with 0x20 added to its first

@@ -1,7 +1,7 @@
 //! States, streams and what arrives of them.
 
 use super::*;
-use crate::anc::MAX_CELLS;
+use crate::anc::Limits;
 use crate::depacketizer::{State, FILLING, LOST, READY};
 use crate::packet::{check, Head};
 
@@ -19,14 +19,16 @@ pub fn arrive_case(r: &mut Random) -> ArriveCase {
         0 => damaged_packet(r),
         _ => arrival_at(r, &state),
     };
+    let most = Limits::FIELD.cells;
     let cells = match r.below(8) {
         0 => r.below(300),
         1 => state.cells,
         2 => state.cells.saturating_sub(1 + r.below(5)),
-        3 => state.cells.saturating_add(r.below(64)).min(MAX_CELLS + 64),
-        _ => MAX_CELLS + r.below(2000),
+        3 => state.cells.saturating_add(r.below(64)),
+        4 => most + r.below(2000),
+        _ => state.cells.saturating_add(3000),
     };
-    let store = (0..cells.min(20_000)).map(|_| 0xA5A5).collect();
+    let store = vec![0xA5A5; cells.min(most + 2000)];
     ArriveCase {
         state,
         octets,
@@ -61,8 +63,8 @@ pub fn state(r: &mut Random) -> State {
     if phase == FILLING {
         state.timestamp = r.below(3) as u32;
         state.f = r.pick(&[0, 2, 3]);
-        state.records = r.pick(&[0, 1, 2, 250, 254, 255]);
-        state.cells = r.pick(&[0, 8, 20, 300, 16_300, 16_376, 16_384]);
+        state.records = r.pick(&[0, 1, 2, 255, 256, 4_090, 4_094, 4_095]);
+        state.cells = r.pick(&[0, 8, 20, 300, 16_384, 32_700, 32_760, 32_768]);
     }
     if r.one_in(10) {
         spoil_state(r, &mut state);
@@ -72,8 +74,8 @@ pub fn state(r: &mut Random) -> State {
 
 pub(super) fn spoil_state(r: &mut Random, state: &mut State) {
     match r.below(6) {
-        0 => state.records = r.pick(&[256, 1, usize::MAX]),
-        1 => state.cells = r.pick(&[16_385, 8, usize::MAX]),
+        0 => state.records = r.pick(&[4_096, 1, usize::MAX]),
+        1 => state.cells = r.pick(&[32_769, 8, usize::MAX]),
         2 => state.heard = false,
         3 => state.phase = LOST,
         4 => state.phase = READY,
@@ -255,7 +257,7 @@ pub(super) fn wild_packet(r: &mut Random, mut head: Head, heavy: bool) -> Vec<u8
     }
     let mut parts = parts(r);
     if heavy {
-        let (records, n) = r.pick(&[(100, 0), (60, 100), (20, 255), (128, 5)]);
+        let (records, n) = r.pick(&[(255, 0), (120, 100), (40, 255), (255, 5)]);
         parts.anc = (0..records).map(|_| Anc::of(&record(r, n))).collect();
     }
     parts.head = head;

@@ -1,7 +1,7 @@
 //! Records in cells, and lists of them, valid and damaged.
 
 use super::*;
-use crate::anc::{MAX_CELLS, MAX_RECORDS, RECORD_HEAD};
+use crate::anc::{Limits, RECORD_HEAD};
 use crate::packet::Head;
 
 pub fn word_count(r: &mut Random) -> usize {
@@ -101,18 +101,19 @@ pub(super) fn record_starts(cells: &[u16]) -> Vec<usize> {
     starts
 }
 
-/// A list at or over the limits: 255 and 256 records, 16,384 cells and one
-/// more; a large one may be damaged near its end.
-pub fn large_list(r: &mut Random) -> Vec<u16> {
+/// A list at or over the limits: as many records and one more, as many cells
+/// and one more, more records than a packet has; a large one may be damaged
+/// near its end.
+pub fn large_list(r: &mut Random, most: Limits) -> Vec<u16> {
     let mut cells = match r.below(6) {
-        0 => (0..MAX_RECORDS).flat_map(|_| record(r, 0)).collect(),
-        1 => (0..MAX_RECORDS + 1).flat_map(|_| record(r, 0)).collect(),
-        2 => (0..260 + r.below(80)).flat_map(|_| record(r, 1)).collect(),
-        3 => list_of_cells(r, MAX_CELLS),
-        4 => list_of_cells(r, MAX_CELLS + 1),
+        0 => (0..most.records).flat_map(|_| record(r, 0)).collect(),
+        1 => (0..most.records + 1).flat_map(|_| record(r, 0)).collect(),
+        2 => (0..256 + r.below(80)).flat_map(|_| record(r, 1)).collect(),
+        3 => list_of_cells(r, most.cells),
+        4 => list_of_cells(r, most.cells + 1),
         _ => {
             let over = r.below(2000);
-            list_of_cells(r, MAX_CELLS + over)
+            list_of_cells(r, most.cells + over)
         }
     };
     if r.one_in(6) {
@@ -122,11 +123,11 @@ pub fn large_list(r: &mut Random) -> Vec<u16> {
     cells
 }
 
-pub(super) fn any_list(r: &mut Random) -> Vec<u16> {
+pub(super) fn any_list(r: &mut Random, most: Limits) -> Vec<u16> {
     let records = record_count(r);
     match r.below(12) {
         0..5 => list(r, records),
-        5 if r.one_in(3) => large_list(r),
+        5 if r.one_in(3) => large_list(r, most),
         _ => damaged_list(r),
     }
 }
@@ -153,7 +154,7 @@ pub fn write_case(r: &mut Random) -> WriteCase {
     if r.one_in(12) {
         head.f = r.pick(&[1, 4, 5, 255]);
     }
-    let cells = any_list(r);
+    let cells = any_list(r, Limits::PACKET);
     let room = r.room(20 + needed_octets(&cells));
     WriteCase { head, cells, room }
 }

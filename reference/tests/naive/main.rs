@@ -1,7 +1,6 @@
 //! The rules once more, bit by bit and without any care for speed, compared
 //! with the library on random inputs: answers, refusals and lent memory.
 
-use reference::anc::{MAX_CELLS, MAX_RECORDS};
 use reference::depacketizer::{arrive, Answer, State, FILLING, LOST, READY};
 use reference::packet::{self, Head, Summary};
 use reference::random::*;
@@ -171,21 +170,21 @@ fn naive_list(cells: &[u16]) -> Refused<Vec<&[u16]>> {
     Ok(records)
 }
 
-/// ANC packets of a list in writing: 20, 21.
-fn naive_packets(cells: &[u16]) -> Refused<(Vec<u8>, u8)> {
+/// ANC packets of a list in writing, and how many: 20, 21.
+fn naive_packets(cells: &[u16], most: usize) -> Refused<(Vec<u8>, usize)> {
     let records = naive_list(cells)?;
-    if records.len() > 255 || cells.len() > 16_384 {
+    if records.len() > most || cells.len() > 32_768 {
         return Err((21, 0));
     }
     let octets = records.iter().flat_map(|record| Anc::of(record).octets());
-    Ok((octets.collect(), records.len() as u8))
+    Ok((octets.collect(), records.len()))
 }
 
 fn naive_write(head: &Head, cells: &[u16]) -> Refused<Vec<u8>> {
     if head.payload_type > 127 || ![0, 2, 3].contains(&head.f) {
         return Err((24, 0));
     }
-    naive_packets(cells)?;
+    naive_packets(cells, 255)?;
     Ok(Parts::plain(*head, cells).assemble())
 }
 
@@ -216,9 +215,9 @@ fn file_writer() {
     for _ in 0..20_000 {
         let case = field_case(&mut r);
         let written = match case.f {
-            0 | 2 | 3 => naive_packets(&case.cells).map(|(packets, count)| {
+            0 | 2 | 3 => naive_packets(&case.cells, 4_095).map(|(packets, count)| {
                 let mut octets = case.timestamp.to_be_bytes().to_vec();
-                octets.extend([case.f, count]);
+                octets.extend([case.f, (count / 256) as u8, (count % 256) as u8]);
                 octets.extend(packets);
                 octets
             }),
@@ -236,31 +235,36 @@ fn naive_field(file: &[u8], offset: usize) -> Refused<(file::Field, Vec<u16>)> {
     if file.len() < 3 || &file[..3] != b"ANF" {
         return Err((50, 0));
     }
-    if file.len() < 5 || bits(file, 24, 16) != 1 {
+    if file.len() < 5 || ![1, 2].contains(&bits(file, 24, 16)) {
         return Err((51, 0));
     }
+    // The count's octets are as many as the version's number.
+    let width = bits(file, 24, 16) as usize;
     if offset < 5 || offset > file.len() {
         return Err((55, 0));
     }
-    match file.len() - offset {
-        0 => return Err((54, 0)),
-        1..6 => return Err((52, 0)),
-        _ => {}
+    let left = file.len() - offset;
+    if left == 0 {
+        return Err((54, 0));
+    }
+    if left < 5 + width {
+        return Err((52, 0));
     }
     let at = &file[offset..];
     if ![0, 2, 3].contains(&at[4]) {
         return Err((53, 0));
     }
-    let (cells, used) = naive_run(&at[6..], at[5] as usize)?;
-    if cells.len() > 16_384 {
+    let count = bits(at, 40, 8 * width) as usize;
+    let (cells, used) = naive_run(&at[5 + width..], count)?;
+    if count > 4_095 || cells.len() > 32_768 {
         return Err((21, 0));
     }
     let field = file::Field {
         timestamp: bits(at, 0, 32) as u32,
         f: at[4],
-        records: at[5] as usize,
+        records: count,
         cells: cells.len(),
-        next: offset + 6 + used,
+        next: offset + 5 + width + used,
     };
     Ok((field, cells))
 }
@@ -288,8 +292,8 @@ fn file_reader() {
 fn naive_arrive(s: State, octets: &[u8], store: &[u16]) -> (State, Refused<Answer>, Vec<u16>) {
     let unchanged = store.to_vec();
     let (r, c) = (s.records, s.cells);
-    let unsound = r > 255
-        || c > 16_384
+    let unsound = r > 4_095
+        || c > 32_768
         || c > store.len()
         || (s.phase != FILLING && (r != 0 || c != 0))
         || (!s.heard && s.phase != LOST);
@@ -332,7 +336,7 @@ fn naive_arrive(s: State, octets: &[u8], store: &[u16]) -> (State, Refused<Answe
         return (after, Ok(Answer::Mixed), unchanged);
     }
     let (records, all) = (r + p.records as usize, c + cells.len());
-    if records > MAX_RECORDS || all > MAX_CELLS || all > store.len() {
+    if records > 4_095 || all > 32_768 || all > store.len() {
         return (after, Ok(Answer::Overfull), unchanged);
     }
     let written = overwritten(store, c, &cells);
@@ -382,7 +386,7 @@ fn depacketizer_over_wild_packets() {
         };
         let mut state =
             reference::depacketizer::open(first.0.source, first.0.payload_type).unwrap();
-        let size = r.pick(&[0, 40, 200, 1000, 16_384, 20_000]);
+        let size = r.pick(&[0, 40, 200, 1000, 32_767, 32_768, 40_000]);
         let mut store = vec![0x5A5A; size];
         for octets in &packets {
             state = compare_arrival(state, octets, &mut store);
@@ -431,7 +435,7 @@ fn naive_record(record: &[u16]) -> String {
 fn naive_listing(mut input: &[u8]) -> String {
     let mut lines = vec!["fieldlist 1".to_string()];
     let mut depacketizer: Option<State> = None;
-    let mut store = vec![0; 16_384];
+    let mut store = vec![0; 32_768];
     while !input.is_empty() {
         let size = match input.len() {
             1 => usize::MAX,

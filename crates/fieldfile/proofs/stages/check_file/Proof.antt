@@ -2,11 +2,9 @@
 -- Each return knows the tests before it, in the order of the definition.
 use borrow.Author.Needs.{needs}
 use mathlib.Core.Path.{ap, sym, _∙_}
-use Prim.Native.Nat.{ℕ}
-use borrow.Author.Tests.{le-leb, lt-leb, eq-eqb, ne-eqb, not-true, not-false}
-use lib.Dec.{eqb}
+use borrow.Author.Tests.{le-leb, lt-leb, not-true, not-false}
 use lib.ListN.{length}
-use Rattle.anf.specs.File.{nameSize, fileHeadSize, fileVersion, fileChecks}
+use Rattle.anf.specs.File.{nameSize, fileHeadSize, isVersion, fileChecks}
 use Rattle.fieldfile.proofs.stages.check_file.Statement.{statement}
 use Rattle.fieldfile.proofs.stages.check_file.Tie as tie
 
@@ -37,25 +35,25 @@ returns-3 c =
 returns-4 : tie.Need-returns-4
 unfolding fileChecks
 returns-4 c =
-    let s = c .before .before .before .before .before .before .before .before .args .file .now in
-    let h1 = le-leb nameSize (length s) (c .before .before .before .before .before .before .if1 .left) in
-    let h2 = sym (c .before .before .before .before .before .name-ok .ensures) ∙ not-false _ (c .before .before .before .before .if2 .left) in
-    let h3 = le-leb fileHeadSize (length s) (c .before .before .before .if3 .left) in
-    let h4 = ap (λ (x : ℕ). eqb x fileVersion) (sym (c .before .before .pair-at .ensures)) ∙ ne-eqb _ fileVersion (c .before .if4 .taken) in
+    let s = c .before .before .before .before .before .before .before .before .before .args .file .now in
+    let h1 = le-leb nameSize (length s) (c .before .before .before .before .before .before .before .if1 .left) in
+    let h2 = sym (c .before .before .before .before .before .before .name-ok .ensures) ∙ not-false _ (c .before .before .before .before .before .if2 .left) in
+    let h3 = le-leb fileHeadSize (length s) (c .before .before .before .before .if3 .left) in
+    let h4 = ap isVersion (sym (c .before .before .before .pair-at .ensures)) ∙ sym (c .before .before .version-ok .ensures) ∙ not-true _ (c .before .if4 .taken) in
     rw (c .refuse4 .ensures, h1, h2, h3, h4)
 
 returns-5 : tie.Need-returns-5
 unfolding fileChecks
 returns-5 c =
-    let s = c .before .before .before .before .before .before .before .args .file .now in
-    let h1 = le-leb nameSize (length s) (c .before .before .before .before .before .if1 .left) in
-    let h2 = sym (c .before .before .before .before .name-ok .ensures) ∙ not-false _ (c .before .before .before .if2 .left) in
-    let h3 = le-leb fileHeadSize (length s) (c .before .before .if3 .left) in
-    let h4 = ap (λ (x : ℕ). eqb x fileVersion) (sym (c .before .pair-at .ensures)) ∙ eq-eqb _ fileVersion (c .if4 .left) in
+    let s = c .before .before .before .before .before .before .before .before .args .file .now in
+    let h1 = le-leb nameSize (length s) (c .before .before .before .before .before .before .if1 .left) in
+    let h2 = sym (c .before .before .before .before .before .name-ok .ensures) ∙ not-false _ (c .before .before .before .before .if2 .left) in
+    let h3 = le-leb fileHeadSize (length s) (c .before .before .before .if3 .left) in
+    let h4 = ap isVersion (sym (c .before .before .pair-at .ensures)) ∙ sym (c .before .version-ok .ensures) ∙ not-false _ (c .if4 .left) in
     rw (h1, h2, h3, h4)
 
 pub check-file-spec : {M : Type 1} → statement M
 check-file-spec =
     tie.close
     (tie.spec (λ c κs. search needs) returns (λ c κs. search needs) (λ c κs. search needs) returns-2 (λ c κs. search needs) returns-3
-    (λ c κs. search needs) (λ c κs. search needs) returns-4 returns-5)
+    (λ c κs. search needs) (λ c κs. search needs) (λ c κs. search needs) returns-4 returns-5)

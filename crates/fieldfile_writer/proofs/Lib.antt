@@ -1,0 +1,2 @@
+pub mod HeadOctets
+pub mod WriteLaws

@@ -1,0 +1,53 @@
+// Field files written (01, "Field file"; 02, K2): version 2.
+//
+// `begin` and `write_field` are the entry points. A refusal leaves the octets to write to as they were.
+ghost use mathlib.Core.Path.{_≡_};
+ghost use lib.ListN.{length};
+ghost use Rattle.wire.specs.Written.{octetsAfter, writtenOf};
+ghost use Rattle.anf.specs.File.{writeField, writeHead};
+
+pub mod writing;
+
+use anf::format::HEAD_SIZE;
+use anf::format::HEADER_SIZE_2;
+use cells::check::Listed;
+use cells::write::write_run;
+use wire::count::OctetCount;
+use wire::number::Timestamp;
+use wire::refusal::Refusal;
+use wire::written::Written;
+use words::octet::copy;
+use writing::measure;
+use writing::write_header;
+
+// `ANF` and version 2.
+const HEAD: [u8; HEAD_SIZE] = [0x41, 0x4E, 0x46, 0, 2];
+
+// Writes `ANF` and the version to the first octets of `out`.
+pub fn begin(out: &mut [u8]) -> Written
+    ensures { λ r. ⌜ r ≡ writtenOf (writeHead (length (now (out .entry)))) ⌝ }
+    ensures { λ r. ⌜ now (out .exit) ≡ octetsAfter (writeHead (length (now (out .entry)))) (now (out .entry)) ⌝ }
+{
+    if out.len() < HEAD_SIZE {
+        return Written::Refused(Refusal {
+            number: Refusal::ROOM_TOO_SMALL,
+            index: 0,
+        });
+    }
+    copy(&HEAD, out);
+    Written::Octets(OctetCount(HEAD_SIZE))
+}
+
+// Writes a field with the records of the cells into the first octets of `out`, for a file that `begin` began.
+pub fn write_field(timestamp: Timestamp, f: u8, cells: &[u16], out: &mut [u8]) -> Written
+    ensures { λ r. ⌜ r ≡ writtenOf (writeField (timestamp .0) f (now (cells .entry)) (length (now (out .entry)))) ⌝ }
+    ensures { λ r. ⌜ now (out .exit) ≡ octetsAfter (writeField (timestamp .0) f (now (cells .entry)) (length (now (out .entry)))) (now (out .entry)) ⌝ }
+{
+    let listed = measure(f, cells, out.len());
+    let Listed::Records { count, octets } = listed else {
+        return Written::Refused(listed.refusal());
+    };
+    write_header(timestamp, f, count as u16, out);
+    write_run(cells, &mut out[HEADER_SIZE_2..]);
+    Written::Octets(OctetCount(HEADER_SIZE_2 + octets.0))
+}
