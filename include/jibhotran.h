@@ -1,5 +1,5 @@
 /*
- * Jibhotran: RTP packets with ANC payload (RFC 8331), fields, SDP format parameters and field files.
+ * Jibhotran: RTP packets with ANC payload (RFC 8331 and its drafts of 2015), fields, SDP format parameters and field files.
  *
  * Written by hand; `differential/` tests it against the archive. Nothing here allocates, and nothing is kept between calls.
  *
@@ -8,6 +8,9 @@
  * `answer` takes what a call returns beside that: on acceptance the numbers that are named at the function, on a refusal the refusal's
  * index in answer[0]; the rest of the row stays. A row of fewer than JIBHOTRAN_ANSWER numbers is refused by JIBHOTRAN_ROW, and nothing is
  * written at all. On a refusal the other lent memory is unchanged, but for the late count (refusal 32).
+ *
+ * `layout` is the packets' layout, JIBHOTRAN_RFC8331 or JIBHOTRAN_DRAFTS, which the octets do not tell. Another number is refused by
+ * JIBHOTRAN_LAYOUT, after JIBHOTRAN_ROW and before all else, and nothing is written at all.
  *
  * A pointer and its length must name memory that may be read, or written where it is not const; memory that is written must not overlap
  * any other that is lent to the same call. Where the length is 0, the pointer is not followed, but it must not be null.
@@ -29,6 +32,13 @@ extern "C" {
 /* A row for the answer or the state is too short. */
 #define JIBHOTRAN_ROW 255
 
+/* No layout has the number that is given as one. */
+#define JIBHOTRAN_LAYOUT 254
+
+/* Layouts: RFC 8331, and the drafts of 2015 (source documents 000 and 001), which have no F, S and StreamNum. */
+#define JIBHOTRAN_RFC8331 0
+#define JIBHOTRAN_DRAFTS 1
+
 /* Answers of `jibhotran_arrive`. */
 #define JIBHOTRAN_SKIPPED 0
 #define JIBHOTRAN_HELD 1
@@ -39,24 +49,33 @@ extern "C" {
 /* Not a VPID code. */
 #define JIBHOTRAN_NO_VPID 256
 
-/* Reads a packet, its records into cells. answer: source, payload type, marker, packet number, timestamp, F, records, cells. */
-uint8_t jibhotran_read(const uint8_t *octets, size_t octets_len, uint16_t *cells, size_t cells_len, uint64_t *answer, size_t answer_len);
+/*
+ * Reads a packet of the layout, its records into cells. answer: source, payload type, marker, packet number, timestamp, F, records, cells.
+ * Of a packet of the drafts F is 0, and so are S and StreamNum of its records.
+ */
+uint8_t jibhotran_read(uint8_t layout, const uint8_t *octets, size_t octets_len, uint16_t *cells, size_t cells_len, uint64_t *answer,
+                       size_t answer_len);
 
-/* Writes a packet with the records of the cells; a marker other than 0 marks it. answer: octets. */
-uint8_t jibhotran_write(uint32_t source, uint8_t payload_type, uint8_t marker, uint32_t number, uint32_t timestamp, uint8_t f,
-                        const uint16_t *cells, size_t cells_len, uint8_t *out, size_t out_len, uint64_t *answer, size_t answer_len);
+/*
+ * Writes a packet of the layout with the records of the cells; a marker other than 0 marks it. answer: octets.
+ * F, S or StreamNum not 0 is refused by 25 in the drafts' layout.
+ */
+uint8_t jibhotran_write(uint8_t layout, uint32_t source, uint8_t payload_type, uint8_t marker, uint32_t number, uint32_t timestamp,
+                        uint8_t f, const uint16_t *cells, size_t cells_len, uint8_t *out, size_t out_len, uint64_t *answer,
+                        size_t answer_len);
 
 /* The state of a depacketizer just opened. answer: nothing. */
 uint8_t jibhotran_open(uint32_t source, uint8_t payload_type, uint64_t *state, size_t state_len, uint64_t *answer, size_t answer_len);
 
 /*
- * One arrival. answer: one of JIBHOTRAN_SKIPPED to JIBHOTRAN_WHOLE, timestamp, F, records, cells; the last four are 0 unless the field is whole.
+ * One arrival, a packet of the layout. answer: one of JIBHOTRAN_SKIPPED to JIBHOTRAN_WHOLE, timestamp, F, records, cells; the last four
+ * are 0 unless the field is whole.
  * While a field is gathered, each call is lent the same store, untouched.
  * state: source, payload type, phase (0 lost, 1 ready, 2 filling), heard (0 or 1), last, timestamp, F, records, cells, fresh, late, missing.
  * Numbers that no state has are refused by 35.
  */
-uint8_t jibhotran_arrive(uint64_t *state, size_t state_len, const uint8_t *octets, size_t octets_len, uint16_t *store, size_t store_len,
-                         uint64_t *answer, size_t answer_len);
+uint8_t jibhotran_arrive(uint8_t layout, uint64_t *state, size_t state_len, const uint8_t *octets, size_t octets_len, uint16_t *store,
+                         size_t store_len, uint64_t *answer, size_t answer_len);
 
 /* Reads SDP format parameters, the pairs into octets, DID then SDID. answer: pairs, whether there is a VPID code, the code. */
 uint8_t jibhotran_sdp_read(const uint8_t *text, size_t text_len, uint8_t *pairs, size_t pairs_len, uint64_t *answer, size_t answer_len);

@@ -10,10 +10,10 @@ pub struct Archive;
 
 #[rustfmt::skip]
 extern "C" {
-    fn jibhotran_read(octets: *const u8, octets_len: usize, cells: *mut u16, cells_len: usize, answer: *mut u64, answer_len: usize) -> u8;
-    fn jibhotran_write(source: u32, payload_type: u8, marker: u8, number: u32, timestamp: u32, f: u8, cells: *const u16, cells_len: usize, out: *mut u8, out_len: usize, answer: *mut u64, answer_len: usize) -> u8;
+    fn jibhotran_read(layout: u8, octets: *const u8, octets_len: usize, cells: *mut u16, cells_len: usize, answer: *mut u64, answer_len: usize) -> u8;
+    fn jibhotran_write(layout: u8, source: u32, payload_type: u8, marker: u8, number: u32, timestamp: u32, f: u8, cells: *const u16, cells_len: usize, out: *mut u8, out_len: usize, answer: *mut u64, answer_len: usize) -> u8;
     fn jibhotran_open(source: u32, payload_type: u8, state: *mut u64, state_len: usize, answer: *mut u64, answer_len: usize) -> u8;
-    fn jibhotran_arrive(state: *mut u64, state_len: usize, octets: *const u8, octets_len: usize, store: *mut u16, store_len: usize, answer: *mut u64, answer_len: usize) -> u8;
+    fn jibhotran_arrive(layout: u8, state: *mut u64, state_len: usize, octets: *const u8, octets_len: usize, store: *mut u16, store_len: usize, answer: *mut u64, answer_len: usize) -> u8;
     fn jibhotran_sdp_read(text: *const u8, text_len: usize, pairs: *mut u8, pairs_len: usize, answer: *mut u64, answer_len: usize) -> u8;
     fn jibhotran_sdp_write(pairs: *const u8, pairs_len: usize, vpid: u16, out: *mut u8, out_len: usize, answer: *mut u64, answer_len: usize) -> u8;
     fn jibhotran_file_begin(out: *mut u8, out_len: usize, answer: *mut u64, answer_len: usize) -> u8;
@@ -40,11 +40,13 @@ macro_rules! call {
 }
 
 impl Side for Archive {
-    fn read(octets: &[u8], cells: &mut [u16], answer: &mut [u64]) -> u8 {
-        call!(jibhotran_read(in octets, mut cells, mut answer))
+    #[inline]
+    fn read(layout: u8, octets: &[u8], cells: &mut [u16], answer: &mut [u64]) -> u8 {
+        call!(jibhotran_read(layout, in octets, mut cells, mut answer))
     }
 
-    fn write(head: &Head, cells: &[u16], out: &mut [u8], answer: &mut [u64]) -> u8 {
+    #[inline]
+    fn write(layout: u8, head: &Head, cells: &[u16], out: &mut [u8], answer: &mut [u64]) -> u8 {
         let Head {
             source,
             payload_type,
@@ -54,7 +56,7 @@ impl Side for Archive {
             f,
         } = *head;
         call!(jibhotran_write(
-            source, payload_type, marker, number, timestamp, f, in cells, mut out, mut answer
+            layout, source, payload_type, marker, number, timestamp, f, in cells, mut out, mut answer
         ))
     }
 
@@ -62,8 +64,15 @@ impl Side for Archive {
         call!(jibhotran_open(source, payload_type, mut state, mut answer))
     }
 
-    fn arrive(state: &mut [u64], octets: &[u8], store: &mut [u16], answer: &mut [u64]) -> u8 {
-        call!(jibhotran_arrive(mut state, in octets, mut store, mut answer))
+    #[inline]
+    fn arrive(
+        layout: u8,
+        state: &mut [u64],
+        octets: &[u8],
+        store: &mut [u16],
+        answer: &mut [u64],
+    ) -> u8 {
+        call!(jibhotran_arrive(layout, mut state, in octets, mut store, mut answer))
     }
 
     fn sdp_read(text: &[u8], pairs: &mut [u8], answer: &mut [u64]) -> u8 {

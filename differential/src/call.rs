@@ -11,9 +11,11 @@ use crate::{Archive, Head, Model, Pair, Side};
 #[derive(Clone, Debug, PartialEq, Eq)]
 pub enum Call {
     Read {
+        layout: u8,
         octets: Vec<u8>,
     },
     Write {
+        layout: u8,
         head: Head,
         cells: Vec<u16>,
     },
@@ -22,6 +24,7 @@ pub enum Call {
         payload_type: u8,
     },
     Arrive {
+        layout: u8,
         octets: Vec<u8>,
     },
     SdpRead {
@@ -113,13 +116,17 @@ impl Call {
         let room = memory.cells.get_mut();
         let out = memory.octets.get_mut();
         match self {
-            Call::Read { octets } => S::read(octets, room, answer),
-            Call::Write { head, cells } => S::write(head, cells, out, answer),
+            Call::Read { layout, octets } => S::read(*layout, octets, room, answer),
+            Call::Write {
+                layout,
+                head,
+                cells,
+            } => S::write(*layout, head, cells, out, answer),
             Call::Open {
                 source,
                 payload_type,
             } => S::open(*source, *payload_type, state, answer),
-            Call::Arrive { octets } => S::arrive(state, octets, room, answer),
+            Call::Arrive { layout, octets } => S::arrive(*layout, state, octets, room, answer),
             Call::SdpRead { text } => S::sdp_read(text, out, answer),
             Call::SdpWrite { pairs, vpid } => S::sdp_write(pairs, *vpid, out, answer),
             Call::FileBegin => S::file_begin(out, answer),

@@ -3,10 +3,11 @@
 
 use reference::depacketizer::State;
 use reference::random::{self, Random};
+use reference::Layout;
 
 use crate::call::{Call, Lengths, Memory};
-use crate::model::row_of;
-use crate::{Head, Pair, ANSWER, NO_VPID, STATE};
+use crate::model::{number_of, row_of};
+use crate::{Head, Pair, ANSWER, DRAFTS, NO_VPID, RFC8331, STATE};
 
 pub type Case = (Call, Memory);
 
@@ -29,10 +30,25 @@ fn lent(r: &mut Random, cells: usize, octets: usize) -> Memory {
     Memory::new(lengths, r)
 }
 
+/// A number that no layout has.
+pub fn no_layout(r: &mut Random) -> u8 {
+    (DRAFTS + 1).saturating_add(r.octet())
+}
+
+/// The layout told: mostly the one that an input was made for, at times the
+/// other, or a number that no layout has.
+pub fn told(r: &mut Random, layout: Layout) -> u8 {
+    match r.below(40) {
+        0 => no_layout(r),
+        1 => r.pick(&[RFC8331, DRAFTS]),
+        _ => number_of(layout),
+    }
+}
+
 pub fn read(r: &mut Random) -> Case {
     let case = random::read_case(r);
-    let octets = case.octets;
-    (Call::Read { octets }, lent(r, case.room, 0))
+    let (layout, octets) = (told(r, case.layout), case.octets);
+    (Call::Read { layout, octets }, lent(r, case.room, 0))
 }
 
 /// Marked by 1 as often as by another number.
@@ -53,8 +69,12 @@ pub fn write(r: &mut Random) -> Case {
         timestamp: case.head.timestamp,
         f: case.head.f,
     };
-    let cells = case.cells;
-    (Call::Write { head, cells }, lent(r, 0, case.room))
+    let call = Call::Write {
+        layout: told(r, case.layout),
+        head,
+        cells: case.cells,
+    };
+    (call, lent(r, 0, case.room))
 }
 
 pub fn open(r: &mut Random) -> Case {
@@ -84,8 +104,8 @@ pub fn arrive(r: &mut Random) -> Case {
     for (into, number) in memory.state.get_mut().iter_mut().zip(row) {
         *into = number;
     }
-    let octets = case.octets;
-    (Call::Arrive { octets }, memory)
+    let (layout, octets) = (told(r, case.layout), case.octets);
+    (Call::Arrive { layout, octets }, memory)
 }
 
 /// Which numbers of a state row have a bound, and the bound's width: the

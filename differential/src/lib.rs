@@ -18,6 +18,11 @@ pub const ANSWER: usize = 8;
 pub const STATE: usize = 12;
 /// A row is too short.
 pub const ROW: u8 = 255;
+/// A layout's number is that of neither.
+pub const LAYOUT: u8 = 254;
+/// The layouts' numbers: RFC 8331's, and that of the drafts of 2015.
+pub const RFC8331: u8 = 0;
+pub const DRAFTS: u8 = 1;
 /// The first number that is no VPID code.
 pub const NO_VPID: u16 = 256;
 /// Answers of `arrive`.
@@ -48,10 +53,16 @@ pub struct Pair {
 
 /// The boundary's eleven functions over slices.
 pub trait Side {
-    fn read(octets: &[u8], cells: &mut [u16], answer: &mut [u64]) -> u8;
-    fn write(head: &Head, cells: &[u16], out: &mut [u8], answer: &mut [u64]) -> u8;
+    fn read(layout: u8, octets: &[u8], cells: &mut [u16], answer: &mut [u64]) -> u8;
+    fn write(layout: u8, head: &Head, cells: &[u16], out: &mut [u8], answer: &mut [u64]) -> u8;
     fn open(source: u32, payload_type: u8, state: &mut [u64], answer: &mut [u64]) -> u8;
-    fn arrive(state: &mut [u64], octets: &[u8], store: &mut [u16], answer: &mut [u64]) -> u8;
+    fn arrive(
+        layout: u8,
+        state: &mut [u64],
+        octets: &[u8],
+        store: &mut [u16],
+        answer: &mut [u64],
+    ) -> u8;
     fn sdp_read(text: &[u8], pairs: &mut [u8], answer: &mut [u64]) -> u8;
     fn sdp_write(pairs: &[u8], vpid: u16, out: &mut [u8], answer: &mut [u64]) -> u8;
     fn file_begin(out: &mut [u8], answer: &mut [u64]) -> u8;

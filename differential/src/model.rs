@@ -1,9 +1,10 @@
 //! The boundary over the reference: its rows, and nothing else of its own.
 
 use reference::depacketizer::{arrive, open, Answer, State, FILLING};
-use reference::{file, packet, sdp, Refusal};
+use reference::{file, packet, sdp, Layout, Refusal};
 
-use crate::{Head, Pair, Side, ANSWER, HELD, MIXED, OVERFULL, ROW, SKIPPED, STATE, WHOLE};
+use crate::{Head, Pair, Side, ANSWER, DRAFTS, HELD, LAYOUT, MIXED, OVERFULL, RFC8331, ROW};
+use crate::{SKIPPED, STATE, WHOLE};
 
 pub struct Model;
 
@@ -19,6 +20,21 @@ fn settle<const N: usize>(outcome: Result<[u64; N], Refusal>, answer: &mut [u64]
             number
         }
     }
+}
+
+/// A layout's number, as a caller tells it.
+pub fn number_of(layout: Layout) -> u8 {
+    match layout {
+        Layout::Rfc8331 => RFC8331,
+        Layout::Draft2015 => DRAFTS,
+    }
+}
+
+/// None where no layout has the number.
+fn layout_of(number: u8) -> Option<Layout> {
+    Layout::ALL
+        .into_iter()
+        .find(|&layout| number_of(layout) == number)
 }
 
 /// A state's numbers in the order of the row.
@@ -82,11 +98,14 @@ fn values_of(answer: Answer) -> Result<[u64; 5], Refusal> {
 }
 
 impl Side for Model {
-    fn read(octets: &[u8], cells: &mut [u16], answer: &mut [u64]) -> u8 {
+    fn read(layout: u8, octets: &[u8], cells: &mut [u16], answer: &mut [u64]) -> u8 {
         if answer.len() < ANSWER {
             return ROW;
         }
-        let values = packet::read(octets, cells).map(|read| {
+        let Some(layout) = layout_of(layout) else {
+            return LAYOUT;
+        };
+        let values = packet::read(layout, octets, cells).map(|read| {
             [
                 read.source as u64,
                 read.payload_type as u64,
@@ -101,10 +120,13 @@ impl Side for Model {
         settle(values, answer)
     }
 
-    fn write(head: &Head, cells: &[u16], out: &mut [u8], answer: &mut [u64]) -> u8 {
+    fn write(layout: u8, head: &Head, cells: &[u16], out: &mut [u8], answer: &mut [u64]) -> u8 {
         if answer.len() < ANSWER {
             return ROW;
         }
+        let Some(layout) = layout_of(layout) else {
+            return LAYOUT;
+        };
         let head = packet::Head {
             source: head.source,
             payload_type: head.payload_type,
@@ -113,7 +135,7 @@ impl Side for Model {
             timestamp: head.timestamp,
             f: head.f,
         };
-        let octets = packet::write(&head, cells, out);
+        let octets = packet::write(layout, &head, cells, out);
         settle(octets.map(|octets| [octets as u64]), answer)
     }
 
@@ -128,14 +150,23 @@ impl Side for Model {
         settle(opened, answer)
     }
 
-    fn arrive(state: &mut [u64], octets: &[u8], store: &mut [u16], answer: &mut [u64]) -> u8 {
+    fn arrive(
+        layout: u8,
+        state: &mut [u64],
+        octets: &[u8],
+        store: &mut [u16],
+        answer: &mut [u64],
+    ) -> u8 {
         if answer.len() < ANSWER || state.len() < STATE {
             return ROW;
         }
+        let Some(layout) = layout_of(layout) else {
+            return LAYOUT;
+        };
         let Some(before) = state_of(state) else {
             return settle::<0>(Err(Refusal::plain(35)), answer);
         };
-        let (after, outcome) = arrive(before, octets, store);
+        let (after, outcome) = arrive(before, layout, octets, store);
         state[..STATE].copy_from_slice(&row_of(&after));
         settle(values_of(outcome), answer)
     }

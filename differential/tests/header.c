@@ -9,11 +9,11 @@ typedef uint8_t octet;
 typedef uint16_t cell;
 typedef uint64_t number;
 
-static octet (*const packet_read)(const octet *, size_t, cell *, size_t, number *, size_t) = jibhotran_read;
-static octet (*const packet_write)(uint32_t, octet, octet, uint32_t, uint32_t, octet, const cell *, size_t, octet *, size_t, number *,
+static octet (*const packet_read)(octet, const octet *, size_t, cell *, size_t, number *, size_t) = jibhotran_read;
+static octet (*const packet_write)(octet, uint32_t, octet, octet, uint32_t, uint32_t, octet, const cell *, size_t, octet *, size_t, number *,
                                    size_t) = jibhotran_write;
 static octet (*const opened)(uint32_t, octet, number *, size_t, number *, size_t) = jibhotran_open;
-static octet (*const arrive)(number *, size_t, const octet *, size_t, cell *, size_t, number *, size_t) = jibhotran_arrive;
+static octet (*const arrive)(octet, number *, size_t, const octet *, size_t, cell *, size_t, number *, size_t) = jibhotran_arrive;
 static octet (*const sdp_read)(const octet *, size_t, octet *, size_t, number *, size_t) = jibhotran_sdp_read;
 static octet (*const sdp_write)(const octet *, size_t, uint16_t, octet *, size_t, number *, size_t) = jibhotran_sdp_write;
 static octet (*const file_begin)(octet *, size_t, number *, size_t) = jibhotran_file_begin;
@@ -51,26 +51,46 @@ static void result(const char *name, octet given, size_t values) {
 }
 
 static void packets(octet packet[2][32]) {
+    const octet rfc = JIBHOTRAN_RFC8331;
     cell back[8];
-    result("write 7", packet_write(1, 112, 1, 7, 1000, 2, record_a, 8, packet[0], 32, answer, 8), 2);
+    result("write 7", packet_write(rfc, 1, 112, 1, 7, 1000, 2, record_a, 8, packet[0], 32, answer, 8), 2);
     octets("packet", packet[0], 32);
-    result("write 8", packet_write(1, 112, 1, 8, 2501, 3, record_a, 8, packet[1], 32, answer, 8), 2);
-    result("read", packet_read(packet[0], 32, back, 8, answer, 8), 8);
+    result("write 8", packet_write(rfc, 1, 112, 1, 8, 2501, 3, record_a, 8, packet[1], 32, answer, 8), 2);
+    result("read", packet_read(rfc, packet[0], 32, back, 8, answer, 8), 8);
     cells("cells", back, 8);
-    result("read 11 octets", packet_read(packet[0], 11, back, 8, answer, 8), 2);
-    result("short row", packet_read(packet[0], 32, back, 8, answer, JIBHOTRAN_ANSWER - 1), 2);
+    result("read 11 octets", packet_read(rfc, packet[0], 11, back, 8, answer, 8), 2);
+    result("short row", packet_read(rfc, packet[0], 32, back, 8, answer, JIBHOTRAN_ANSWER - 1), 2);
+    result("no layout", packet_read(2, packet[0], 32, back, 8, answer, 8), 2);
+    result("no layout", packet_write(2, 1, 112, 1, 7, 1000, 2, record_a, 8, packet[0], 32, answer, 8), 2);
 }
 
-static void depacketizer(octet packet[2][32]) {
+/* The same record in a packet of the drafts, which carries no F. */
+static void old_packets(octet packet[26]) {
+    const octet drafts = JIBHOTRAN_DRAFTS;
+    cell back[8];
+    result("old write", packet_write(drafts, 1, 112, 1, 9, 4002, 2, record_a, 8, packet, 26, answer, 8), 2);
+    result("old write", packet_write(drafts, 1, 112, 1, 9, 4002, 0, record_a, 8, packet, 26, answer, 8), 2);
+    octets("packet", packet, 26);
+    result("old read", packet_read(drafts, packet, 26, back, 8, answer, 8), 8);
+    cells("cells", back, 8);
+    result("read", packet_read(JIBHOTRAN_RFC8331, packet, 26, back, 8, answer, 8), 2);
+}
+
+static void depacketizer(octet packet[2][32], octet old[26]) {
+    const octet rfc = JIBHOTRAN_RFC8331;
     number state[JIBHOTRAN_STATE];
     cell store[16];
     result("short state", opened(1, 112, state, JIBHOTRAN_STATE - 1, answer, 8), 1);
     result("open", opened(1, 112, state, JIBHOTRAN_STATE, answer, 8), 1);
     numbers("state", state, JIBHOTRAN_STATE);
-    result("arrive 7", arrive(state, JIBHOTRAN_STATE, packet[0], 32, store, 16, answer, 8), 6);
-    result("arrive 8", arrive(state, JIBHOTRAN_STATE, packet[1], 32, store, 16, answer, 8), 6);
+    result("arrive 7", arrive(rfc, state, JIBHOTRAN_STATE, packet[0], 32, store, 16, answer, 8), 6);
+    result("arrive 8", arrive(rfc, state, JIBHOTRAN_STATE, packet[1], 32, store, 16, answer, 8), 6);
     cells("store", store, 8);
-    result("arrive 8", arrive(state, JIBHOTRAN_STATE, packet[1], 32, store, 16, answer, 8), 2);
+    result("arrive 8", arrive(rfc, state, JIBHOTRAN_STATE, packet[1], 32, store, 16, answer, 8), 2);
+    numbers("state", state, JIBHOTRAN_STATE);
+    result("no layout", arrive(2, state, JIBHOTRAN_STATE, old, 26, store, 16, answer, 8), 2);
+    result("arrive 9", arrive(rfc, state, JIBHOTRAN_STATE, old, 26, store, 16, answer, 8), 2);
+    result("old arrive 9", arrive(JIBHOTRAN_DRAFTS, state, JIBHOTRAN_STATE, old, 26, store, 16, answer, 8), 6);
     numbers("state", state, JIBHOTRAN_STATE);
 }
 
@@ -100,12 +120,14 @@ static void file(void) {
 }
 
 int main(void) {
-    octet packet[2][32];
+    octet packet[2][32], old[26];
     printf("%d %d %d %d\n", JIBHOTRAN_ANSWER, JIBHOTRAN_STATE, JIBHOTRAN_ROW, JIBHOTRAN_NO_VPID);
+    printf("%d %d %d\n", JIBHOTRAN_LAYOUT, JIBHOTRAN_RFC8331, JIBHOTRAN_DRAFTS);
     printf("%d %d %d %d %d\n", JIBHOTRAN_SKIPPED, JIBHOTRAN_HELD, JIBHOTRAN_MIXED, JIBHOTRAN_OVERFULL, JIBHOTRAN_WHOLE);
     result("before", 0, 1);
     packets(packet);
-    depacketizer(packet);
+    old_packets(old);
+    depacketizer(packet, old);
     parameters();
     file();
     return 0;

@@ -1,21 +1,30 @@
 //! Random calls of each entry point on both sides, and which refusals they
-//! met: exactly those that 01 lets the entry give, each at least once.
+//! met: exactly those that 01 and 02 let the entry give in the layout told,
+//! each at least once.
 
 use std::collections::BTreeSet;
 
-use differential::call::{compare, compare_wanted, Lengths, Memory};
+use differential::call::{compare, compare_wanted, Call, Lengths, Memory};
 use differential::inputs::{self, Case};
-use differential::ROW;
+use differential::{DRAFTS, LAYOUT, RFC8331, ROW};
 use reference::coverage::Coverage;
 use reference::random::Random;
 
-/// What each entry gives: 0 for an answer, 01's numbers, 255 for short rows.
-const GIVEN: [(&str, &[u8]); 9] = [
+/// What each entry gives: 0 for an answer, the papers' numbers, 255 for short
+/// rows, 254 where it is told no layout.
+const GIVEN: [(&str, &[u8]); 15] = [
     (
         "read",
         &[0, 1, 2, 3, 4, 5, 6, 7, 8, 9, 10, 11, 12, 13, 14, ROW],
     ),
+    (
+        "read old",
+        &[0, 1, 2, 3, 4, 5, 7, 8, 9, 10, 11, 12, 13, 14, 15, ROW],
+    ),
+    ("read none", &[LAYOUT, ROW]),
     ("write", &[0, 20, 21, 23, 24, ROW]),
+    ("write old", &[0, 20, 21, 23, 24, 25, ROW]),
+    ("write none", &[LAYOUT, ROW]),
     ("open", &[0, 24, ROW]),
     (
         "arrive",
@@ -23,6 +32,13 @@ const GIVEN: [(&str, &[u8]); 9] = [
             0, 1, 2, 3, 4, 5, 6, 7, 8, 9, 10, 11, 12, 13, 30, 31, 32, 35, ROW,
         ],
     ),
+    (
+        "arrive old",
+        &[
+            0, 1, 2, 3, 4, 5, 7, 8, 9, 10, 11, 12, 13, 15, 30, 31, 32, 35, ROW,
+        ],
+    ),
+    ("arrive none", &[LAYOUT, ROW]),
     ("sdp_read", &[0, 40, 41, 42, 43, 44, ROW]),
     ("sdp_write", &[0, 41, 43, 44, ROW]),
     ("file_begin", &[0, 23, ROW]),
@@ -34,21 +50,40 @@ const GIVEN: [(&str, &[u8]); 9] = [
 ];
 
 /// Numbers whose index says where; the SDP writer's index is always 0.
-const INDEXED: [u8; 8] = [9, 10, 11, 12, 20, 41, 42, 43];
+const INDEXED: [u8; 9] = [9, 10, 11, 12, 15, 20, 41, 42, 43];
 
-fn differ(entry: &'static str, seed: u64, rounds: usize, draw: fn(&mut Random) -> Case) {
+/// The entry with the layout told: that of the drafts is the old one.
+fn under(entries: &[&'static str], call: &Call) -> &'static str {
+    match call {
+        Call::Read { layout, .. } | Call::Write { layout, .. } | Call::Arrive { layout, .. } => {
+            match *layout {
+                RFC8331 => entries[0],
+                DRAFTS => entries[1],
+                _ => entries[2],
+            }
+        }
+        _ => entries[0],
+    }
+}
+
+fn differ(entries: &[&'static str], seed: u64, rounds: usize, draw: fn(&mut Random) -> Case) {
     let mut r = Random::new(seed);
     let mut met = Coverage::default();
     for _ in 0..rounds {
         let (call, memory) = draw(&mut r);
         let (number, after) = compare(&call, &memory);
         let index = match number {
-            0 | ROW => 0,
+            0 | LAYOUT | ROW => 0,
             _ => after.answer.get()[0] as usize,
         };
-        met.count(entry, number, index);
+        met.count(under(entries, &call), number, index);
     }
-    let numbers: BTreeSet<u8> = met.counts.keys().map(|&(_, number, _)| number).collect();
+    entries.iter().for_each(|entry| check(entry, &met));
+}
+
+fn check(entry: &str, met: &Coverage) {
+    let these = met.counts.keys().filter(|(name, _, _)| *name == entry);
+    let numbers: BTreeSet<u8> = these.map(|&(_, number, _)| number).collect();
     let given = GIVEN.iter().find(|(name, _)| *name == entry).unwrap().1;
     assert_eq!(numbers, given.iter().copied().collect(), "{entry}");
     for number in numbers {
@@ -59,7 +94,8 @@ fn differ(entry: &'static str, seed: u64, rounds: usize, draw: fn(&mut Random) -
     }
 }
 
-/// The table above has every number of 01 but 22, which cannot be given.
+/// The table above has every number of 01 and 02 but 22, which cannot be
+/// given.
 #[test]
 fn every_number_is_some_entrys() {
     let given: BTreeSet<u8> = GIVEN
@@ -67,56 +103,59 @@ fn every_number_is_some_entrys() {
         .flat_map(|(_, numbers)| *numbers)
         .copied()
         .collect();
-    let of_01 = (1..=14)
-        .chain([20, 21, 23, 24, 30, 31, 32, 35])
+    let of_the_papers = (1..=15)
+        .chain([20, 21, 23, 24, 25, 30, 31, 32, 35])
         .chain(40..=44)
         .chain(50..=55);
-    assert_eq!(given, of_01.chain([0, ROW]).collect());
+    assert_eq!(given, of_the_papers.chain([0, LAYOUT, ROW]).collect());
 }
 
 #[test]
 fn packets_read() {
-    differ("read", 101, 200_000, inputs::read);
+    let entries = ["read", "read old", "read none"];
+    differ(&entries, 101, 300_000, inputs::read);
 }
 
 #[test]
 fn packets_written() {
-    differ("write", 102, 150_000, inputs::write);
+    let entries = ["write", "write old", "write none"];
+    differ(&entries, 102, 200_000, inputs::write);
 }
 
 #[test]
 fn depacketizers_opened() {
-    differ("open", 103, 20_000, inputs::open);
+    differ(&["open"], 103, 20_000, inputs::open);
 }
 
 #[test]
 fn single_arrivals() {
-    differ("arrive", 104, 150_000, inputs::arrive);
+    let entries = ["arrive", "arrive old", "arrive none"];
+    differ(&entries, 104, 200_000, inputs::arrive);
 }
 
 #[test]
 fn parameters_read() {
-    differ("sdp_read", 105, 200_000, inputs::sdp_read);
+    differ(&["sdp_read"], 105, 200_000, inputs::sdp_read);
 }
 
 #[test]
 fn parameters_written() {
-    differ("sdp_write", 106, 100_000, inputs::sdp_write);
+    differ(&["sdp_write"], 106, 100_000, inputs::sdp_write);
 }
 
 #[test]
 fn files_begun() {
-    differ("file_begin", 107, 10_000, inputs::file_begin);
+    differ(&["file_begin"], 107, 10_000, inputs::file_begin);
 }
 
 #[test]
 fn fields_written() {
-    differ("file_write", 108, 100_000, inputs::file_write);
+    differ(&["file_write"], 108, 100_000, inputs::file_write);
 }
 
 #[test]
 fn fields_read() {
-    differ("file_read", 109, 100_000, inputs::file_read);
+    differ(&["file_read"], 109, 100_000, inputs::file_read);
 }
 
 /// Both answers, and no other.

@@ -1,18 +1,18 @@
-//! Every refusal number of 01 through the archive, by hand, with its index.
-//! What is lent stays as it was, but for the index and, at 32, the late
-//! count.
+//! Every refusal number of 01 and 02 through the archive, by hand, with its
+//! index, in both layouts. What is lent stays as it was, but for the index
+//! and, at 32, the late count.
 
 use std::collections::BTreeSet;
 
 use differential::call::{compare, Call, Lengths, Memory};
-use differential::model::row_of;
+use differential::model::{number_of, row_of};
 use differential::{Head, ANSWER, NO_VPID, STATE};
-use reference::anc::packet_octets;
 use reference::depacketizer::{open, State, FILLING, LOST, READY};
 use reference::file::Version;
 use reference::packet;
-use reference::random::{file_field, Parts, Random};
+use reference::random::{file_field, Anc, Parts, Random};
 use reference::runs::{cells, changed, records, A, HEAD};
+use reference::Layout::{self, Draft2015, Rfc8331};
 
 /// A call that is lent so many cells and octets, its number and index. The
 /// state is that of `sound` unless the case is about states.
@@ -53,82 +53,161 @@ fn sound() -> State {
 }
 
 /// A packet of records of so many words each.
-fn parts(counts: &[usize]) -> Parts {
+fn parts(layout: Layout, counts: &[usize]) -> Parts {
     let list: Vec<u16> = counts.iter().flat_map(|&n| cells(8 + n)).collect();
-    Parts::plain(HEAD, &list)
+    Parts::of(layout, HEAD, &list)
 }
 
-fn damaged(counts: &[usize], damage: impl Fn(&mut Parts)) -> Vec<u8> {
-    let mut parts = parts(counts);
+fn damaged(layout: Layout, counts: &[usize], damage: impl Fn(&mut Parts)) -> Vec<u8> {
+    let mut parts = parts(layout, counts);
     damage(&mut parts);
     parts.assemble()
 }
 
-fn packet_of_a() -> Vec<u8> {
-    parts(&[0]).assemble()
+fn packet_of_a(layout: Layout) -> Vec<u8> {
+    parts(layout, &[0]).assemble()
 }
 
-/// Octets that the packet reader and an arrival refuse alike: 1 to 13.
-fn packets() -> Vec<(u8, &'static str, Vec<u8>, u64)> {
-    [header_packets(), anc_packets()].concat()
+/// A number, what the case is, the octets, the index.
+type Octets = (u8, &'static str, Vec<u8>, u64);
+
+/// Octets that the packet reader and an arrival refuse alike: 1 to 13 and 15.
+fn packets(layout: Layout) -> Vec<Octets> {
+    let own = match layout {
+        Rfc8331 => rfc_packets(),
+        Draft2015 => draft_packets(),
+    };
+    [header_packets(layout), anc_packets(layout), own].concat()
 }
 
 // A case a line.
 #[rustfmt::skip]
-fn header_packets() -> Vec<(u8, &'static str, Vec<u8>, u64)> {
-    let a = packet_of_a();
+fn header_packets(layout: Layout) -> Vec<Octets> {
+    let a = packet_of_a(layout);
+    let head = layout.payload_header();
+    let damaged = |counts: &[usize], damage: &dyn Fn(&mut Parts)| damaged(layout, counts, damage);
+    let padded = |count: usize| Some(vec![count as u8]);
     let extended = |words: u8| [&changed(&a, 0, 0x10)[..12], &[0, 0, 0, words]].concat();
     vec![
-        (1, "65,536 octets", [&a[..], &[0; 65_504]].concat(), 0),
+        (1, "65,536 octets", [&a[..], &vec![0; 65_536 - a.len()]].concat(), 0),
         (2, "no octets", Vec::new(), 0),
         (2, "11 octets, version 0", vec![0; 11], 0),
         (2, "a contributing source cut", changed(&a[..15], 0, 1), 0),
         (2, "the extension's head cut", changed(&a[..15], 0, 0x10), 0),
         (2, "the extension's words cut", extended(1), 0),
         (3, "version 3", changed(&a, 0, 0x40), 0),
-        (4, "padding 0", changed(&a, 0, 0x20), 0),
-        (4, "padding 22 of 21", damaged(&[0], |p| p.padding = Some(vec![22])), 0),
-        (5, "7 payload octets", a[..19].to_vec(), 0),
-        (5, "padding takes all", damaged(&[], |p| p.padding = Some(vec![9])), 0),
-        (6, "F 1", damaged(&[0], |p| p.head.f = 1), 0),
-        (7, "Length 11", damaged(&[0], |p| p.length = Some(11)), 0),
-        (8, "ANC_Count 0", damaged(&[0], |p| p.count = Some(0)), 0),
+        (4, "padding 0", damaged(&[0], &|p| p.padding = padded(0)), 0),
+        (4, "padding over all", damaged(&[0], &|p| p.padding = padded(a.len() - 12 + 2)), 0),
+        (5, "no payload", a[..12].to_vec(), 0),
+        (5, "an octet under the payload header", a[..12 + head - 1].to_vec(), 0),
+        (5, "padding takes all", damaged(&[], &|p| p.padding = padded(head + 1)), 0),
+        (5, "padding takes one", damaged(&[], &|p| p.padding = padded(2)), 0),
+        (7, "the payload header alone", a[..12 + head].to_vec(), 0),
+        (7, "Length one less", damaged(&[0], &|p| p.length = Some(layout.packet_octets(0) as u16 - 1)), 0),
+        (7, "Length of the payload", damaged(&[0], &|p| p.length = Some((a.len() - 12) as u16)), 0),
+        (7, "Length wrong, ANC_Count 0", damaged(&[0], &|p| (p.length, p.count) = (Some(1), Some(0))), 0),
+        (8, "ANC_Count 0", damaged(&[0], &|p| p.count = Some(0)), 0),
     ]
 }
 
 // A case a line.
 #[rustfmt::skip]
-fn anc_packets() -> Vec<(u8, &'static str, Vec<u8>, u64)> {
+fn anc_packets(layout: Layout) -> Vec<Octets> {
+    let damaged = |counts: &[usize], damage: &dyn Fn(&mut Parts)| damaged(layout, counts, damage);
+    let least = layout.smallest_packet();
+    let left = |octets: usize| move |p: &mut Parts| (p.count, p.extra) = (Some(3), vec![0; octets]);
     vec![
-        (9, "no octets left", damaged(&[0, 3], |p| p.count = Some(3)), 2),
-        (9, "size, the first", damaged(&[5], |p| p.cut = 1), 0),
-        (9, "size, the fourth", damaged(&[0, 1, 2, 30], |p| p.cut = 5), 3),
-        (10, "DID", damaged(&[0], |p| p.anc[0].words[0] ^= 0x200), 0),
-        (10, "SDID", damaged(&[0, 4], |p| p.anc[1].words[1] ^= 1), 1),
-        (10, "Data_Count", damaged(&[9, 9, 9], |p| p.anc[2].words[2] ^= 0x100), 2),
-        (11, "a word", damaged(&[3, 4], |p| p.anc[0].words[5] ^= 0x100), 0),
-        (11, "b9 of the checksum", damaged(&[0; 255], |p| p.anc[254].words[3] ^= 0x200), 254),
-        (12, "the first", damaged(&[0, 0], |p| p.anc[0].alignment = 1), 0),
-        (12, "the fifth", damaged(&[7; 6], |p| p.anc[4].alignment = 2), 4),
-        (13, "4 octets", damaged(&[0, 2], |p| p.extra = vec![0; 4]), 0),
+        (9, "no octets left", damaged(&[0, 3], &left(0)), 2),
+        (9, "one under the smallest left", damaged(&[0, 3], &left(least - 1)), 2),
+        (10, "the smallest left, all zero", damaged(&[0, 3], &left(least)), 2),
+        (9, "size, the first", damaged(&[5], &|p| p.cut = 1), 0),
+        (9, "size, the fourth", damaged(&[0, 1, 2, 30], &|p| p.cut = 5), 3),
+        (10, "DID", damaged(&[0], &|p| p.anc[0].words[0] ^= 0x200), 0),
+        (10, "SDID", damaged(&[0, 4], &|p| p.anc[1].words[1] ^= 1), 1),
+        (10, "Data_Count", damaged(&[9, 9, 9], &|p| p.anc[2].words[2] ^= 0x100), 2),
+        (10, "before the size", damaged(&[9, 9], &|p| (p.anc[1].words[0], p.cut) = (0, 1)), 1),
+        (11, "a word", damaged(&[3, 4], &|p| p.anc[0].words[5] ^= 0x100), 0),
+        (11, "b9 of the checksum", damaged(&[0; 255], &|p| p.anc[254].words[3] ^= 0x200), 254),
+        (11, "b8 of the checksum", damaged(&[4, 4], &|p| p.anc[1].words[7] ^= 0x300), 1),
+        (12, "the first", damaged(&[0, 0], &|p| p.anc[0].alignment = 1), 0),
+        (12, "the fifth", damaged(&[5; 6], &|p| p.anc[4].alignment = 2), 4),
+        (13, "an octet", damaged(&[0, 2], &|p| p.extra = vec![0]), 0),
+        (13, "4 octets", damaged(&[0, 2], &|p| p.extra = vec![0; 4]), 0),
+        (13, "ANC_Count one less", damaged(&[0, 2], &|p| p.count = Some(1)), 0),
     ]
 }
 
-fn of_packets() -> Vec<Refused> {
+/// F, a packet of the drafts, and 01's numbers.
+// A case a line.
+#[rustfmt::skip]
+fn rfc_packets() -> Vec<Octets> {
+    let a = packet_of_a(Rfc8331);
+    let left = |octets| damaged(Rfc8331, &[0], |p| (p.count, p.extra) = (Some(2), vec![0; octets]));
+    vec![
+        (4, "padding 0, record A's last octet", changed(&a, 0, 0x20), 0),
+        (5, "7 payload octets", a[..19].to_vec(), 0),
+        (6, "F 1", damaged(Rfc8331, &[0], |p| p.head.f = 1), 0),
+        (7, "the drafts' packet", packet_of_a(Draft2015), 0),
+        (7, "Length 11", damaged(Rfc8331, &[0], |p| p.length = Some(11)), 0),
+        (9, "11 octets left", left(11), 1),
+        (10, "12 octets left", left(12), 1),
+    ]
+}
+
+/// R bits: 15 after 10 and both 9, before 11 and 12. And a packet of RFC
+/// 8331, and 02's numbers.
+// A case a line.
+#[rustfmt::skip]
+fn draft_packets() -> Vec<Octets> {
+    let damaged = |counts: &[usize], damage: &dyn Fn(&mut Parts)| damaged(Draft2015, counts, damage);
+    let r = |index: usize, r: u32| move |p: &mut Parts| p.anc[index].r = r;
+    let all = |anc: &mut Anc| {
+        (anc.r, anc.alignment) = (3, 1);
+        anc.words[3] ^= 1;
+    };
+    let a = packet_of_a(Draft2015);
+    let left = |octets| damaged(&[0], &|p| (p.count, p.extra) = (Some(2), vec![0; octets]));
+    vec![
+        (5, "4 payload octets", a[..16].to_vec(), 0),
+        (7, "5 payload octets", a[..17].to_vec(), 0),
+        (7, "RFC 8331's packet", packet_of_a(Rfc8331), 0),
+        (7, "payload less 8", damaged(&[0], &|p| p.length = Some(6)), 0),
+        (9, "8 octets left", left(8), 1),
+        (10, "9 octets left", left(9), 1),
+        (15, "the first bit", damaged(&[0], &r(0, 2)), 0),
+        (15, "the second bit", damaged(&[0, 3], &r(1, 1)), 1),
+        (15, "both bits", damaged(&[4; 200], &r(199, 3)), 199),
+        (15, "before 11 and 12", damaged(&[0, 5, 5], &|p| all(&mut p.anc[1])), 1),
+        (15, "before 13", damaged(&[5, 6], &|p| (p.anc[1].r, p.extra) = (1, vec![0])), 1),
+        (15, "before a later 10", damaged(&[5, 6], &|p| (p.anc[0].r, p.anc[1].words[0]) = (1, 0)), 0),
+        (11, "before a later 15", damaged(&[5, 6], &|p| (p.anc[0].words[4], p.anc[1].r) = (0x3FF, 1)), 0),
+        (12, "before a later 15", damaged(&[0, 6], &|p| (p.anc[0].alignment, p.anc[1].r) = (1, 1)), 0),
+        (10, "before 15", damaged(&[5, 6], &|p| (p.anc[1].words[2], p.anc[1].r) = (0, 1)), 1),
+        (9, "size, before 15", damaged(&[5, 6], &|p| (p.cut, p.anc[1].r) = (1, 1)), 1),
+    ]
+}
+
+fn of_packets(layout: Layout) -> Vec<Refused> {
     let mut table = Vec::new();
-    for (number, what, octets, index) in packets() {
+    let told = number_of(layout);
+    let read = |octets: Vec<u8>| Call::Read {
+        layout: told,
+        octets,
+    };
+    for (number, what, octets, index) in packets(layout) {
         let arrival = Call::Arrive {
+            layout: told,
             octets: octets.clone(),
         };
-        table.push(refused(number, what, Call::Read { octets }, 3_000, index));
+        table.push(refused(number, what, read(octets), 3_000, index));
         table.push(refused(number, what, arrival, 3_000, index));
     }
-    let octets = parts(&[3, 4]).assemble();
-    table.push(refused(14, "22 cells", Call::Read { octets }, 22, 0));
+    let octets = parts(layout, &[3, 4]).assemble();
+    table.push(refused(14, "22 cells", read(octets), 22, 0));
     table
 }
 
-fn write(payload_type: u8, f: u8, cells: Vec<u16>) -> Call {
+fn write(layout: Layout, payload_type: u8, f: u8, cells: Vec<u16>) -> Call {
     let head = Head {
         source: 1,
         payload_type,
@@ -137,7 +216,12 @@ fn write(payload_type: u8, f: u8, cells: Vec<u16>) -> Call {
         timestamp: 9,
         f,
     };
-    Call::Write { head, cells }
+    let layout = number_of(layout);
+    Call::Write {
+        layout,
+        head,
+        cells,
+    }
 }
 
 fn field(f: u8, cells: Vec<u16>) -> Call {
@@ -172,55 +256,81 @@ fn lists() -> Vec<(&'static str, Vec<u16>, u64)> {
     ]
 }
 
-fn of_lists() -> Vec<Refused> {
+/// Lists in a packet, and the octets that record A takes and an empty list:
+/// 24, 20, 21, 23.
+// A case a line.
+#[rustfmt::skip]
+fn of_written(layout: Layout, a: usize, empty: usize) -> Vec<Refused> {
+    let of = |number, what, payload_type, f, list, lent, index| {
+        refused(number, what, write(layout, payload_type, f, list), lent, index)
+    };
+    let mut table = vec![
+        of(21, "256 records", 112, 0, records(256), 9, 0),
+        of(21, "32,769 cells", 112, 0, cells(32_769), 9, 0),
+        of(23, "record A, an octet too few", 112, 0, A.to_vec(), a - 1, 0),
+        of(23, "an empty list, an octet too few", 112, 0, Vec::new(), empty - 1, 0),
+        of(23, "no octets", 112, 0, A.to_vec(), 0, 0),
+        of(24, "type 128", 128, 0, vec![9], 0, 0),
+        of(24, "F 1", 112, 1, vec![9], 0, 0),
+        of(24, "F 4", 112, 4, vec![9], 0, 0),
+    ];
+    for (what, list, index) in lists() {
+        table.push(of(20, what, 112, 0, list.clone(), 9, index));
+        table.push(of(20, what, 112, 3, list, 9, index));
+    }
+    table
+}
+
+/// What the drafts do not carry: 25 after 24, 20 and 21 and before 23, index
+/// 0 wherever it is found.
+fn of_not_carried() -> Vec<Refused> {
+    let with = |at: usize, cell: u16| {
+        let mut list = records(5);
+        list[8 * 3 + at] = cell;
+        list
+    };
+    let cut = |list: Vec<u16>| list[..39].to_vec();
+    let many = |list: Vec<u16>| [list, records(251)].concat();
+    let of = |number, what, f, list, index| {
+        refused(number, what, write(Draft2015, 112, f, list), 0, index)
+    };
+    let mut table = vec![
+        of(25, "F 2, no records", 2, Vec::new(), 0),
+        of(25, "F 3", 3, A.to_vec(), 0),
+        of(24, "F 4, S 1", 4, with(3, 1), 0),
+        of(20, "S 2", 0, with(3, 2), 3),
+        of(20, "StreamNum 128", 2, with(4, 128), 3),
+    ];
+    for (at, cell) in [(3, 1), (4, 1), (4, 127)] {
+        table.push(of(25, "S or StreamNum", 0, with(at, cell), 0));
+        table.push(of(25, "F too", 2, with(at, cell), 0));
+        table.push(of(20, "the last cut", 0, cut(with(at, cell)), 4));
+        table.push(of(21, "256 records", 3, many(with(at, cell)), 0));
+    }
+    table
+}
+
+fn of_fields() -> Vec<Refused> {
     let mut table = Vec::new();
     for (what, list, index) in lists() {
-        table.push(refused(20, what, write(112, 2, list.clone()), 9, index));
         table.push(refused(20, what, field(2, list), 9, index));
     }
-    let over = cells(32_769);
-    table.push(refused(
-        21,
-        "256 records",
-        write(112, 2, records(256)),
-        9,
-        0,
-    ));
-    table.push(refused(
-        21,
-        "32,769 cells",
-        write(112, 2, over.clone()),
-        9,
-        0,
-    ));
-    table.push(refused(21, "4,096 records", field(2, records(4_096)), 9, 0));
-    table.push(refused(21, "32,769 cells", field(2, over), 9, 0));
-    table.push(refused(
-        23,
-        "31 of 32 octets",
-        write(112, 2, A.to_vec()),
-        31,
-        0,
-    ));
-    table.push(refused(
-        23,
-        "19 of 20 octets",
-        write(112, 2, Vec::new()),
-        19,
-        0,
-    ));
-    table.push(refused(23, "18 of 19 octets", field(2, A.to_vec()), 18, 0));
-    table.push(refused(23, "4 of 5 octets", Call::FileBegin, 4, 0));
-    table.push(refused(24, "type 128", write(128, 2, vec![9]), 0, 0));
-    table.push(refused(24, "F 1", write(112, 1, vec![9]), 0, 0));
-    table.push(refused(24, "F 4", write(112, 4, vec![9]), 0, 0));
+    table.extend([
+        refused(21, "4,096 records", field(2, records(4_096)), 9, 0),
+        refused(21, "32,769 cells", field(2, cells(32_769)), 9, 0),
+        refused(23, "18 of 19 octets", field(2, A.to_vec()), 18, 0),
+        refused(23, "4 of 5 octets", Call::FileBegin, 4, 0),
+        refused(53, "F 1", field(1, vec![9]), 0, 0),
+    ]);
+    table
+}
+
+fn of_opened() -> Vec<Refused> {
     let opened = Call::Open {
         source: 1,
         payload_type: 128,
     };
-    table.push(refused(24, "open type 128", opened, 0, 0));
-    table.push(refused(53, "F 1", field(1, vec![9]), 0, 0));
-    table
+    vec![refused(24, "open type 128", opened, 0, 0)]
 }
 
 // A case a line.
@@ -247,16 +357,18 @@ fn states() -> Vec<(u8, &'static str, State)> {
 
 /// 30, 31 and 32 at the packet of record A; 35 at one that 12 refuses, since
 /// the state comes first.
-fn of_states() -> Vec<Refused> {
+fn of_states(layout: Layout) -> Vec<Refused> {
     let entry = |(number, what, state): (u8, &'static str, State)| {
+        let a = packet_of_a(layout);
         let octets = match number {
-            35 => changed(&packet_of_a(), 31, 1),
-            _ => packet_of_a(),
+            35 => changed(&a, a.len() - 1, 1),
+            _ => a,
         };
         let store = if state.cells == 32_769 { 40_000 } else { 100 };
+        let layout = number_of(layout);
         Refused {
             state,
-            ..refused(number, what, Call::Arrive { octets }, store, 0)
+            ..refused(number, what, Call::Arrive { layout, octets }, store, 0)
         }
     };
     states().into_iter().map(entry).collect()
@@ -291,7 +403,7 @@ fn of_parameters() -> Vec<Refused> {
 
 /// A file of one field: F, count, and the ANC packets of a damaged packet.
 fn file_of(version: Version, f: u8, count: u16, damage: impl Fn(&mut Parts)) -> Vec<u8> {
-    let mut parts = parts(&[0, 5, 13]);
+    let mut parts = parts(Rfc8331, &[0, 5, 13]);
     damage(&mut parts);
     let mut file = version.start().to_vec();
     file.extend(file_field(version, 9, f, count, &parts.anc));
@@ -332,15 +444,21 @@ fn of_files(version: Version) -> Vec<Refused> {
     ]
 }
 
-fn parts_of_cells(count: usize) -> Vec<reference::random::Anc> {
+fn parts_of_cells(count: usize) -> Vec<Anc> {
     reference::random::anc_of(&cells(count))
 }
 
 fn table() -> Vec<Refused> {
     [
-        of_packets(),
-        of_lists(),
-        of_states(),
+        of_packets(Rfc8331),
+        of_packets(Draft2015),
+        of_written(Rfc8331, 32, 20),
+        of_written(Draft2015, 26, 17),
+        of_not_carried(),
+        of_fields(),
+        of_opened(),
+        of_states(Rfc8331),
+        of_states(Draft2015),
         of_parameters(),
         of_files(Version::One),
         of_files(Version::Two),
@@ -374,17 +492,18 @@ fn every_number_with_its_index() {
 #[test]
 fn the_table_has_every_number() {
     let numbers: BTreeSet<u8> = table().iter().map(|case| case.number).collect();
-    let of_01 = (1..=14)
-        .chain([20, 21, 23, 24, 30, 31, 32, 35])
+    let of_the_papers = (1..=15)
+        .chain([20, 21, 23, 24, 25, 30, 31, 32, 35])
         .chain(40..=44)
         .chain(50..=55);
-    assert_eq!(numbers, of_01.collect());
+    assert_eq!(numbers, of_the_papers.collect());
 }
 
-/// 22 cannot be given: no record has more than three octets to two cells, so
-/// 32,768 cells take at most 49,172 octets.
+/// 22 cannot be given: no record has more than three octets to two cells in
+/// either layout, so 32,768 cells take at most 49,172 octets.
 #[test]
 fn no_list_gives_22() {
-    assert!((0..256).all(|n| 2 * packet_octets(n) <= 3 * (8 + n)));
+    let least = |layout: Layout| (0..256).all(|n| 2 * layout.packet_octets(n) <= 3 * (8 + n));
+    assert!(Layout::ALL.into_iter().all(least));
     const { assert!(20 + 3 * 32_768 / 2 < packet::MAX_PACKET) };
 }

@@ -1,13 +1,15 @@
-//! What the boundary adds: rows too short, rows longer than need be, and
-//! numbers that are no state.
+//! What the boundary adds: rows too short, rows longer than need be, numbers
+//! that no layout has, and numbers that are no state.
 
 use differential::call::{compare, Call, Lengths, Memory};
 use differential::inputs::BOUNDED;
-use differential::model::row_of;
-use differential::{Head, ANSWER, NO_VPID, ROW, STATE};
+use differential::model::{number_of, row_of};
+use differential::{Head, ANSWER, DRAFTS, LAYOUT, NO_VPID, RFC8331, ROW, STATE};
 use reference::depacketizer::open;
+use reference::packet;
 use reference::random::Random;
 use reference::runs::{A, HEAD};
+use reference::Layout;
 
 fn head(payload_type: u8) -> Head {
     Head {
@@ -16,13 +18,16 @@ fn head(payload_type: u8) -> Head {
         marker: HEAD.marker as u8,
         number: HEAD.number,
         timestamp: HEAD.timestamp,
-        f: HEAD.f,
+        f: 0,
     }
 }
 
-fn packet() -> Vec<u8> {
-    let mut out = vec![0; 32];
-    assert_eq!(reference::packet::write(&HEAD, &A, &mut out), Ok(32));
+/// Record A's packet.
+fn packet(layout: Layout) -> Vec<u8> {
+    let mut out = vec![0; 40];
+    let head = packet::Head { f: 0, ..HEAD };
+    let size = packet::write(layout, &head, &A, &mut out).unwrap();
+    out.truncate(size);
     out
 }
 
@@ -34,39 +39,65 @@ fn file() -> Vec<u8> {
 }
 
 /// For each function with a row a call that is accepted and one that is
-/// refused, where the rows are long enough.
+/// refused, where the rows are long enough; in both layouts, and told none.
 fn calls() -> Vec<(Call, u8)> {
-    let a = packet();
-    [
-        both(
-            |octets| Call::Read { octets },
-            [a.clone(), a[..11].to_vec()],
-            2,
-        ),
-        both(write, [112, 128], 24),
+    let mut calls = [
         both(opened, [112, 128], 24),
-        both(
-            |octets| Call::Arrive { octets },
-            [a.clone(), a[..11].to_vec()],
-            2,
-        ),
         both(text, ["DID_SDID={0x41,0x05};VPID_Code=7", ";"], 41),
         both(pairs, [2, 3], 41),
         both(field, [2, 1], 53),
         both(|at| Call::FileRead { file: file(), at }, [5, 4], 55),
         vec![(Call::FileBegin, 0)],
     ]
-    .concat()
+    .concat();
+    for made in Layout::ALL {
+        let [own, none] = [number_of(made), 2 + number_of(made)];
+        let octets = packet(made);
+        let cut = octets[..11].to_vec();
+        for (call, number) in [
+            both(|octets| read(own, octets), [octets.clone(), cut.clone()], 2),
+            both(|octets| arrive(own, octets), [octets.clone(), cut], 2),
+            both(|payload_type| write(own, payload_type), [112, 128], 24),
+        ]
+        .concat()
+        {
+            calls.extend([(told(&call, none), LAYOUT), (call, number)]);
+        }
+    }
+    calls
+}
+
+/// The call with another layout.
+fn told(call: &Call, told: u8) -> Call {
+    let mut call = call.clone();
+    match &mut call {
+        Call::Read { layout, .. } | Call::Write { layout, .. } | Call::Arrive { layout, .. } => {
+            *layout = told
+        }
+        _ => {}
+    }
+    call
 }
 
 fn both<T>(call: impl Fn(T) -> Call, [good, bad]: [T; 2], number: u8) -> Vec<(Call, u8)> {
     vec![(call(good), 0), (call(bad), number)]
 }
 
-fn write(payload_type: u8) -> Call {
-    let cells = A.to_vec();
-    let head = head(payload_type);
-    Call::Write { head, cells }
+fn read(layout: u8, octets: Vec<u8>) -> Call {
+    Call::Read { layout, octets }
+}
+
+fn arrive(layout: u8, octets: Vec<u8>) -> Call {
+    Call::Arrive { layout, octets }
+}
+
+fn write(layout: u8, payload_type: u8) -> Call {
+    let (head, cells) = (head(payload_type), A.to_vec());
+    Call::Write {
+        layout,
+        head,
+        cells,
+    }
 }
 
 fn opened(payload_type: u8) -> Call {
@@ -146,24 +177,68 @@ fn rows_long_enough() {
             let memory = lent(ANSWER + more, STATE + more, &mut r);
             let (given, after) = compare(&call, &memory);
             assert_eq!(given, number, "{call:?}");
-            let kept = if number == 0 { ANSWER } else { 1 };
+            let kept = match number {
+                0 => ANSWER,
+                LAYOUT => 0,
+                _ => 1,
+            };
             assert_eq!(after.answer.get()[kept..], memory.answer.get()[kept..]);
             assert_eq!(after.state.get()[STATE..], memory.state.get()[STATE..]);
         }
     }
 }
 
-/// 35 and nothing changed but the index. Each number is the state's own, so
-/// that a cut to its width would be accepted.
+/// A number of no layout, every one of them, with the rows long enough, longer
+/// and each by itself too short: 254 and, first, 255. Nothing is written.
+#[test]
+fn numbers_that_are_no_layout() {
+    let mut r = Random::new(306);
+    let octets = packet(Layout::Rfc8331);
+    for layout in DRAFTS + 1..=255 {
+        for (answer, state, number) in [
+            (ANSWER, STATE, LAYOUT),
+            (ANSWER + 3, STATE + 3, LAYOUT),
+            (ANSWER - 1, STATE, ROW),
+            (0, STATE, ROW),
+        ] {
+            for call in [
+                read(layout, octets.clone()),
+                arrive(layout, octets.clone()),
+                write(layout, 112),
+                // Refused in any layout.
+                read(layout, Vec::new()),
+                arrive(layout, Vec::new()),
+                write(layout, 128),
+            ] {
+                let memory = lent(answer, state, &mut r);
+                assert_eq!(compare(&call, &memory), (number, memory), "{call:?}");
+            }
+        }
+        let memory = lent(ANSWER, STATE - 1, &mut r);
+        let call = arrive(layout, octets.clone());
+        assert_eq!(compare(&call, &memory), (ROW, memory), "{call:?}");
+    }
+}
+
+/// 35 and nothing changed but the index; told no layout, 254 and nothing
+/// changed. Each number is the state's own, so that a cut to its width would
+/// be accepted.
 #[test]
 fn numbers_that_are_no_state() {
     let mut r = Random::new(304);
-    let octets = packet();
+    let octets = Layout::ALL.map(packet);
     let mut refused = |at: usize, number: u64| {
-        for octets in [octets.clone(), Vec::new()] {
+        for (layout, octets) in [
+            (RFC8331, octets[0].clone()),
+            (DRAFTS, octets[1].clone()),
+            (DRAFTS, octets[0].clone()),
+            (RFC8331, Vec::new()),
+        ] {
             let mut memory = lent(ANSWER, STATE, &mut r);
             memory.state.get_mut()[at] = number;
-            let (given, after) = compare(&Call::Arrive { octets }, &memory);
+            let none = compare(&arrive(2, octets.clone()), &memory);
+            assert_eq!(none, (LAYOUT, memory.clone()), "{at} {number}");
+            let (given, after) = compare(&arrive(layout, octets), &memory);
             memory.answer.get_mut()[0] = 0;
             assert_eq!((given, after), (35, memory), "{at} {number}");
         }
@@ -185,7 +260,6 @@ fn numbers_that_are_no_state() {
 #[test]
 fn largest_numbers_of_a_state() {
     let mut r = Random::new(305);
-    let octets = packet();
     for (at, number, given) in [
         (0, u32::MAX as u64, 30),
         (1, 255, 31),
@@ -195,7 +269,9 @@ fn largest_numbers_of_a_state() {
     ] {
         let mut memory = lent(ANSWER, STATE, &mut r);
         memory.state.get_mut()[at] = number;
-        let octets = octets.clone();
-        assert_eq!(compare(&Call::Arrive { octets }, &memory).0, given);
+        for layout in Layout::ALL {
+            let call = arrive(number_of(layout), packet(layout));
+            assert_eq!(compare(&call, &memory).0, given);
+        }
     }
 }

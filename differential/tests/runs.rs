@@ -1,17 +1,23 @@
-//! The cases that 01 says are run only: through both sides, and as the text
-//! of the reference's program `runs`.
+//! The cases that 01 says are run only: through both sides and in both
+//! layouts, and as the text of the reference's program `runs`, which is in
+//! RFC 8331's.
 
 use differential::call::{compare, Call, Lengths, Memory};
-use differential::model::row_of;
-use differential::{Archive, Head, Side, ANSWER, STATE};
+use differential::model::{number_of, row_of};
+use differential::{Archive, Head, Side, ANSWER, RFC8331, STATE};
 use reference::depacketizer::{open, State, READY};
 use reference::packet::{self, Summary};
-use reference::random::Random;
-use reference::runs::{cells, changed, records, Sides, A, A_AT, A_OCTETS, HEAD};
-use reference::Refusal;
+use reference::random::{Parts, Random};
+use reference::runs::{cells, changed, records, reference_text, Sides, A, A_OCTETS, HEAD};
+use reference::{Layout, Refusal};
 
-fn head() -> Head {
-    boundary_head(&HEAD)
+/// The drafts' layout carries no F.
+fn head(layout: Layout) -> packet::Head {
+    let f = match layout {
+        Layout::Rfc8331 => HEAD.f,
+        Layout::Draft2015 => 0,
+    };
+    packet::Head { f, ..HEAD }
 }
 
 fn boundary_head(head: &packet::Head) -> Head {
@@ -34,7 +40,7 @@ fn settle<T>(number: u8, answer: &[u64], value: impl Fn() -> T) -> Result<T, Ref
 
 fn archive_read(octets: &[u8], cells: &mut [u16]) -> Result<Summary, Refusal> {
     let mut answer = [0; ANSWER];
-    let number = Archive::read(octets, cells, &mut answer);
+    let number = Archive::read(RFC8331, octets, cells, &mut answer);
     settle(number, &answer, || Summary {
         source: answer[0] as u32,
         payload_type: answer[1] as u8,
@@ -49,7 +55,7 @@ fn archive_read(octets: &[u8], cells: &mut [u16]) -> Result<Summary, Refusal> {
 
 fn archive_write(head: &packet::Head, cells: &[u16], out: &mut [u8]) -> Result<usize, Refusal> {
     let mut answer = [0; ANSWER];
-    let number = Archive::write(&boundary_head(head), cells, out, &mut answer);
+    let number = Archive::write(RFC8331, &boundary_head(head), cells, out, &mut answer);
     settle(number, &answer, || answer[0] as usize)
 }
 
@@ -60,12 +66,7 @@ fn the_text_is_the_same() {
         write: archive_write,
     }
     .text();
-    let theirs = Sides {
-        read: packet::read,
-        write: packet::write,
-    }
-    .text();
-    assert_eq!(ours, theirs);
+    assert_eq!(ours, reference_text());
     assert_eq!(ours.lines().count(), 5 + 8 * A_OCTETS);
     let begins = "records 255: written 3080 read 255 2040 20145\nrecords 256: refused 21 0\n";
     assert!(ours.starts_with(begins));
@@ -82,67 +83,102 @@ fn lent(cells: usize, octets: usize, r: &mut Random) -> Memory {
     Memory::new(lengths, r)
 }
 
-/// Writes a list as a packet and as a field and reads both back.
-fn there_and_back(list: &[u16], r: &mut Random) -> [u8; 4] {
-    let (head, cells) = (head(), list.to_vec());
-    let (written, after) = compare(&Call::Write { head, cells }, &lent(0, 60_000, r));
+/// Writes a list as a packet and reads it back.
+fn packet_and_back(layout: Layout, list: &[u16], r: &mut Random) -> [u8; 2] {
+    let head = boundary_head(&head(layout));
+    let (layout, cells) = (number_of(layout), list.to_vec());
+    let call = Call::Write {
+        layout,
+        head,
+        cells,
+    };
+    let (written, after) = compare(&call, &lent(0, 60_000, r));
     let size = after.answer.get()[0] as usize;
     let octets = after.octets.get()[..size].to_vec();
-    let (read, back) = compare(&Call::Read { octets }, &lent(32_770, 0, r));
+    let (read, back) = compare(&Call::Read { layout, octets }, &lent(32_770, 0, r));
     assert!(read != 0 || back.cells.get()[..list.len()] == *list);
+    [written, read]
+}
 
+/// The same as a field of a file.
+fn field_and_back(list: &[u16], r: &mut Random) -> [u8; 2] {
     let (timestamp, f, cells) = (9, 3, list.to_vec());
     let call = Call::FileWrite {
         timestamp,
         f,
         cells,
     };
-    let (field, after) = compare(&call, &lent(0, 60_000, r));
+    let (written, after) = compare(&call, &lent(0, 60_000, r));
     let size = after.answer.get()[0] as usize;
     let file = [b"ANF\0\x02", &after.octets.get()[..size]].concat();
-    let (field_read, back) = compare(&Call::FileRead { file, at: 5 }, &lent(32_770, 0, r));
-    assert!(field_read != 0 || back.cells.get()[..list.len()] == *list);
-    [written, read, field, field_read]
+    let (read, back) = compare(&Call::FileRead { file, at: 5 }, &lent(32_770, 0, r));
+    assert!(read != 0 || back.cells.get()[..list.len()] == *list);
+    [written, read]
 }
 
 /// What is refused leaves an index of 0, so nothing is there to be read.
 #[test]
 fn the_limits_of_a_list() {
     let mut r = Random::new(401);
-    let accepted = [0, 0, 0, 0];
-    let field_alone = [21, 2, 0, 0];
-    let refused = [21, 2, 21, 54];
-    assert_eq!(there_and_back(&records(255), &mut r), accepted);
-    assert_eq!(there_and_back(&records(256), &mut r), field_alone);
-    assert_eq!(there_and_back(&records(4_095), &mut r), field_alone);
-    assert_eq!(there_and_back(&records(4_096), &mut r), refused);
-    assert_eq!(there_and_back(&cells(32_768), &mut r), accepted);
-    assert_eq!(there_and_back(&cells(32_769), &mut r), refused);
+    for (list, in_packet, in_field) in [
+        (records(255), true, true),
+        (records(256), false, true),
+        (records(4_095), false, true),
+        (records(4_096), false, false),
+        (cells(32_768), true, true),
+        (cells(32_769), false, false),
+    ] {
+        for layout in Layout::ALL {
+            let expected = if in_packet { [0, 0] } else { [21, 2] };
+            assert_eq!(packet_and_back(layout, &list, &mut r), expected);
+        }
+        let expected = if in_field { [0, 0] } else { [21, 54] };
+        assert_eq!(field_and_back(&list, &mut r), expected);
+    }
+}
+
+/// A packet written by the reference.
+fn written(layout: Layout, head: &packet::Head, list: &[u16]) -> Vec<u8> {
+    let mut octets = vec![0; 60_000];
+    let size = packet::write(layout, head, list, &mut octets).unwrap();
+    octets.truncate(size);
+    octets
+}
+
+/// A depacketizer that is ready for the packet of `HEAD`'s number, and a
+/// store.
+fn ready(store: usize, r: &mut Random) -> Memory {
+    let state = State {
+        phase: READY,
+        heard: true,
+        last: HEAD.number - 1,
+        ..open(HEAD.source, HEAD.payload_type).unwrap()
+    };
+    let mut memory = lent(store, 0, r);
+    memory.state.get_mut().copy_from_slice(&row_of(&state));
+    memory
+}
+
+fn arrive(layout: Layout, octets: Vec<u8>, memory: &Memory) -> (u8, Memory) {
+    let layout = number_of(layout);
+    compare(&Call::Arrive { layout, octets }, memory)
 }
 
 /// Fields at and over the limits of cells and of the store, one packet each.
 #[test]
 fn the_limits_of_a_field() {
     let mut r = Random::new(402);
-    let ready = State {
-        phase: READY,
-        heard: true,
-        last: HEAD.number - 1,
-        ..open(HEAD.source, HEAD.payload_type).unwrap()
-    };
     for (list, store, kind) in [
         (records(255), 2_040, 4),
         (records(255), 2_039, 3),
         (cells(32_768), 32_768, 4),
         (cells(32_768), 32_767, 3),
     ] {
-        let mut octets = vec![0; 60_000];
-        let size = packet::write(&HEAD, &list, &mut octets).unwrap();
-        octets.truncate(size);
-        let mut memory = lent(store, 0, &mut r);
-        memory.state.get_mut().copy_from_slice(&row_of(&ready));
-        let (number, after) = compare(&Call::Arrive { octets }, &memory);
-        assert_eq!((number, after.answer.get()[0]), (0, kind));
+        for layout in Layout::ALL {
+            let octets = written(layout, &head(layout), &list);
+            let (number, after) = arrive(layout, octets, &ready(store, &mut r));
+            assert_eq!((number, after.answer.get()[0]), (0, kind));
+        }
     }
 }
 
@@ -150,31 +186,20 @@ fn the_limits_of_a_field() {
 #[test]
 fn the_records_of_a_field() {
     let mut r = Random::new(404);
-    for (last, kind) in [(15, 4), (16, 3)] {
-        let opened = State {
-            phase: READY,
-            heard: true,
-            last: HEAD.number - 1,
-            ..open(HEAD.source, HEAD.payload_type).unwrap()
-        };
-        let mut memory = lent(32_768, 0, &mut r);
-        memory.state.get_mut().copy_from_slice(&row_of(&opened));
+    for (layout, last, kind) in Layout::ALL
+        .into_iter()
+        .flat_map(|layout| [(layout, 15, 4), (layout, 16, 3)])
+    {
+        let mut memory = ready(32_768, &mut r);
         for k in 0..17 {
             let (number, marker) = (HEAD.number + k, k == 16);
             let head = packet::Head {
                 number,
                 marker,
-                ..HEAD
+                ..head(layout)
             };
-            let mut octets = vec![0; 4_000];
-            let size = packet::write(
-                &head,
-                &records(if marker { last } else { 255 }),
-                &mut octets,
-            )
-            .unwrap();
-            octets.truncate(size);
-            let (number, after) = compare(&Call::Arrive { octets }, &memory);
+            let list = records(if marker { last } else { 255 });
+            let (number, after) = arrive(layout, written(layout, &head, &list), &memory);
             let expected = if marker { kind } else { 1 };
             assert_eq!((number, after.answer.get()[0]), (0, expected));
             memory = after;
@@ -182,45 +207,53 @@ fn the_records_of_a_field() {
     }
 }
 
-fn packet_of_a() -> Vec<u8> {
-    let mut out = vec![0; A_AT + A_OCTETS];
-    assert_eq!(packet::write(&HEAD, &A, &mut out), Ok(A_AT + A_OCTETS));
-    out
-}
-
+/// P set over a last octet of 0: that of record A's alignment in RFC 8331's
+/// layout, and one that follows the records in either.
 #[test]
 fn padding_0() {
     let mut r = Random::new(403);
-    let octets = changed(&packet_of_a(), 0, 0x20);
-    assert_eq!(octets[31], 0);
-    let (number, after) = compare(&Call::Read { octets }, &lent(40, 0, &mut r));
-    assert_eq!((number, after.answer.get()[0]), (4, 0));
+    let [rfc, old] = Layout::ALL;
+    let followed = |layout| [written(layout, &head(layout), &A), vec![0]].concat();
+    for (layout, octets) in [
+        (rfc, written(rfc, &HEAD, &A)),
+        (rfc, followed(rfc)),
+        (old, followed(old)),
+    ] {
+        assert_eq!(octets.last(), Some(&0));
+        let (layout, octets) = (number_of(layout), changed(&octets, 0, 0x20));
+        let (number, after) = compare(&Call::Read { layout, octets }, &lent(40, 0, &mut r));
+        assert_eq!((number, after.answer.get()[0]), (4, 0));
+    }
 }
 
 /// Each bit of the whole packet, record A's among them, read and arrived.
+/// C, line, offset, S and StreamNum are free: 32 bits, in the drafts 24. A
+/// bit of the three header words is 10, an R bit 15, of the checksum 11, of
+/// the alignment 12.
 #[test]
 fn each_bit_changed() {
-    let mut r = Random::new(404);
-    let packet = packet_of_a();
+    let mut r = Random::new(405);
     let state = row_of(&open(HEAD.source, HEAD.payload_type).unwrap());
-    let mut of_a = [0; 256];
-    for bit in 0..8 * packet.len() {
-        let octets = changed(&packet, bit / 8, 0x80 >> (bit % 8));
-        let mut memory = lent(40, 0, &mut r);
-        let (number, _) = compare(
-            &Call::Read {
+    for (layout, expected) in [
+        (Layout::Rfc8331, [32, 30, 0, 10, 24]),
+        (Layout::Draft2015, [24, 30, 2, 10, 6]),
+    ] {
+        let packet = Parts::of(layout, HEAD, &A).assemble();
+        let mut of_a = [0; 256];
+        for bit in 0..8 * packet.len() {
+            let octets = changed(&packet, bit / 8, 0x80 >> (bit % 8));
+            let mut memory = lent(40, 0, &mut r);
+            let call = Call::Read {
+                layout: number_of(layout),
                 octets: octets.clone(),
-            },
-            &memory,
-        );
-        if bit >= 8 * A_AT {
-            of_a[number as usize] += 1;
+            };
+            let (number, _) = compare(&call, &memory);
+            if bit >= 8 * (12 + layout.payload_header()) {
+                of_a[number as usize] += 1;
+            }
+            memory.state.get_mut().copy_from_slice(&state);
+            arrive(layout, octets, &memory);
         }
-        memory.state.get_mut().copy_from_slice(&state);
-        compare(&Call::Arrive { octets }, &memory);
+        assert_eq!([0, 10, 15, 11, 12].map(|number| of_a[number]), expected);
     }
-    // C, line, offset, S and StreamNum are free: 32 bits. A bit of the three
-    // header words is 10, of the checksum 11, of the alignment 12.
-    assert_eq!(of_a[0], 32);
-    assert_eq!([of_a[10], of_a[11], of_a[12]], [30, 10, 24]);
 }

@@ -2,10 +2,12 @@
 //! a call that is accepted.
 
 use differential::call::{compare, compare_wanted, Call, Lengths, Memory};
-use differential::{Head, Pair, ANSWER};
-use reference::anc::packet_octets;
-use reference::random::{record, Parts, Random};
+use differential::model::{number_of, row_of};
+use differential::{Head, Pair, ANSWER, DRAFTS, LAYOUT, RFC8331, STATE};
+use reference::depacketizer::open;
+use reference::random::{carried, record, Parts, Random};
 use reference::runs::{changed, A, HEAD};
+use reference::Layout;
 
 const TEXT: &[u8] = b"DID_SDID={0x4a,0x5}; x-1=y;VPID_Code=132";
 
@@ -19,18 +21,22 @@ fn lent(cells: usize, octets: usize) -> Memory {
     Memory::new(lengths, &mut Random::new(701))
 }
 
-fn read(octets: Vec<u8>, memory: &Memory) -> u8 {
-    compare(&Call::Read { octets }, memory).0
+fn read(layout: Layout, octets: Vec<u8>, memory: &Memory) -> u8 {
+    let layout = number_of(layout);
+    compare(&Call::Read { layout, octets }, memory).0
 }
 
-/// Every number in each place of the packet of record A.
+/// Every number in each place of record A's packet in either layout, told
+/// either layout.
 #[test]
 fn every_octet_of_a_packet() {
-    let packet = Parts::plain(HEAD, &A).assemble();
     let memory = lent(20, 0);
-    for at in 0..packet.len() {
-        for mask in 0..=255 {
-            read(changed(&packet, at, mask), &memory);
+    for made in Layout::ALL {
+        let packet = Parts::of(made, HEAD, &A).assemble();
+        for (at, mask) in (0..packet.len()).flat_map(|at| (0..=255).map(move |mask| (at, mask))) {
+            for told in Layout::ALL {
+                read(told, changed(&packet, at, mask), &memory);
+            }
         }
     }
 }
@@ -40,71 +46,188 @@ fn every_octet_of_a_packet() {
 #[test]
 fn every_word_of_a_record() {
     let memory = lent(20, 0);
-    for place in 0..4 {
+    for (place, layout) in (0..4).flat_map(|place| Layout::ALL.map(|layout| (place, layout))) {
         let mut met = [0; 256];
         for word in 0..1024 {
-            let mut parts = Parts::plain(HEAD, &A);
+            let mut parts = Parts::of(layout, HEAD, &A);
             parts.anc[0].words[place] = word;
-            met[read(parts.assemble(), &memory) as usize] += 1;
+            met[read(layout, parts.assemble(), &memory) as usize] += 1;
         }
         let wrong = if place < 3 { met[10] } else { met[11] };
         assert_eq!((met[0], wrong), (1, if place < 3 { 768 } else { 1023 }));
     }
 }
 
-/// Every count of words, in room that is just enough and in one less.
+/// Every number of the drafts' R bits beside every DID and every checksum
+/// word. A malformed DID comes before them, the checksum after them.
+#[test]
+fn every_r_beside_every_word() {
+    let (memory, old) = (lent(20, 0), Layout::Draft2015);
+    for r in 0..4 {
+        let met = [0, 3].map(|place| {
+            let mut met = [0; 256];
+            for word in 0..1024 {
+                let mut parts = Parts::of(old, HEAD, &A);
+                (parts.anc[0].r, parts.anc[0].words[place]) = (r, word);
+                met[read(old, parts.assemble(), &memory) as usize] += 1;
+            }
+            [0, 10, 15, 11].map(|number| met[number])
+        });
+        let expected = match r {
+            0 => [[1, 768, 0, 255], [1, 0, 0, 1023]],
+            _ => [[0, 768, 256, 0], [0, 0, 1024, 0]],
+        };
+        assert_eq!(met, expected);
+    }
+}
+
+/// Every count of words, in room that is just enough and in one less; a field
+/// of a file has RFC 8331's packets.
 #[test]
 fn every_count_of_words() {
     let mut r = Random::new(702);
     for n in 0..256 {
-        let cells = record(&mut r, n);
-        let octets = Parts::plain(HEAD, &cells).assemble();
-        let size = 20 + packet_octets(n);
-        assert_eq!(octets.len(), size);
-        assert_eq!(read(octets.clone(), &lent(8 + n, 0)), 0);
-        assert_eq!(read(octets.clone(), &lent(7 + n, 0)), 14);
-        assert_eq!(read(octets[..size - 1].to_vec(), &lent(8 + n, 0)), 7);
-        let (head, f, timestamp) = (head(112, 2), 2, 9);
-        let packet = Call::Write {
-            head,
-            cells: cells.clone(),
-        };
+        let list = record(&mut r, n);
+        for layout in Layout::ALL {
+            let cells = carried(layout, list.clone());
+            let octets = Parts::of(layout, HEAD, &cells).assemble();
+            let size = 12 + layout.payload_header() + layout.packet_octets(n);
+            assert_eq!(octets.len(), size);
+            assert_eq!(read(layout, octets.clone(), &lent(8 + n, 0)), 0);
+            assert_eq!(read(layout, octets.clone(), &lent(7 + n, 0)), 14);
+            let cut = octets[..size - 1].to_vec();
+            assert_eq!(read(layout, cut, &lent(8 + n, 0)), 7);
+            let f = if layout == Layout::Rfc8331 { 2 } else { 0 };
+            fits(&write(layout, 112, f, cells), size);
+        }
+        let (timestamp, f, cells) = (9, 2, list);
         let field = Call::FileWrite {
             timestamp,
             f,
             cells,
         };
-        for (call, size) in [(packet, size), (field, size - 13)] {
-            assert_eq!(compare(&call, &lent(0, size)).0, 0);
-            assert_eq!(compare(&call, &lent(0, size - 1)).0, 23);
+        fits(&field, 7 + Layout::Rfc8331.packet_octets(n));
+    }
+}
+
+/// Written into so many octets, and into one less not.
+fn fits(call: &Call, octets: usize) {
+    assert_eq!(compare(call, &lent(0, octets)).0, 0);
+    assert_eq!(compare(call, &lent(0, octets - 1)).0, 23);
+}
+
+/// Every alignment bit of a record of every count of words.
+#[test]
+fn every_alignment_bit() {
+    let mut r = Random::new(703);
+    let memory = lent(300, 0);
+    for (n, layout) in (0..256).flat_map(|n| Layout::ALL.map(|layout| (n, layout))) {
+        let octets = Parts::of(layout, HEAD, &record(&mut r, n)).assemble();
+        let before = 12 + layout.payload_header();
+        let body = 10 * n + if layout == Layout::Rfc8331 { 72 } else { 66 };
+        for bit in 8 * before + body..8 * octets.len() {
+            let octets = changed(&octets, bit / 8, 0x80 >> (bit % 8));
+            assert_eq!(read(layout, octets, &memory), 12);
         }
     }
 }
 
-fn head(payload_type: u8, f: u8) -> Head {
-    Head {
+fn write(layout: Layout, payload_type: u8, f: u8, cells: Vec<u16>) -> Call {
+    write_as(number_of(layout), payload_type, f, cells)
+}
+
+fn write_as(layout: u8, payload_type: u8, f: u8, cells: Vec<u16>) -> Call {
+    let head = Head {
         source: 1,
         payload_type,
         marker: 1,
         number: 7,
         timestamp: 9,
         f,
+    };
+    Call::Write {
+        layout,
+        head,
+        cells,
     }
 }
 
-/// 128 payload types and three numbers of F are accepted.
+/// 128 payload types and three numbers of F are accepted, of the drafts one
+/// number: the other two are 25.
 #[test]
 fn every_payload_type_and_f() {
     let memory = lent(0, 40);
-    let mut accepted = 0;
-    for payload_type in 0..=255 {
-        for f in 0..=255 {
-            let head = head(payload_type, f);
-            let cells = A.to_vec();
-            accepted += (compare(&Call::Write { head, cells }, &memory).0 == 0) as usize;
+    for (layout, accepted) in [(Layout::Rfc8331, 3), (Layout::Draft2015, 1)] {
+        let mut met = [0; 256];
+        for payload_type in 0..=255 {
+            for f in 0..=255 {
+                let call = write(layout, payload_type, f, A.to_vec());
+                met[compare(&call, &memory).0 as usize] += 1;
+            }
+        }
+        assert_eq!((met[0], met[25]), (128 * accepted, 128 * (3 - accepted)));
+        assert_eq!(met[24], 128 * 253 + 128 * 256);
+    }
+}
+
+/// Every S and StreamNum, too large ones among them. The drafts' layout
+/// carries neither.
+#[test]
+fn every_s_and_stream() {
+    let memory = lent(0, 40);
+    for (s, stream) in (0..4).flat_map(|s| (0..260).map(move |stream| (s, stream))) {
+        let mut cells = A.to_vec();
+        (cells[3], cells[4]) = (s, stream);
+        let fits = s < 2 && stream < 128;
+        for layout in Layout::ALL {
+            let carried = layout == Layout::Rfc8331 || (s, stream) == (0, 0);
+            let number = match (fits, carried) {
+                (false, _) => 20,
+                (true, false) => 25,
+                (true, true) => 0,
+            };
+            let call = write(layout, 112, 0, cells.clone());
+            assert_eq!(compare(&call, &memory).0, number, "{s} {stream}");
         }
     }
-    assert_eq!(accepted, 128 * 3);
+}
+
+/// Every number of a layout in each call that takes one: its own is accepted,
+/// the other layout's refused where octets are read, and by any further
+/// number nothing is written.
+#[test]
+fn every_layout_number() {
+    let lengths = Lengths {
+        answer: ANSWER,
+        state: STATE,
+        cells: 20,
+        octets: 40,
+    };
+    let mut memory = Memory::new(lengths, &mut Random::new(704));
+    let state = open(HEAD.source, HEAD.payload_type).unwrap();
+    memory.state.get_mut().copy_from_slice(&row_of(&state));
+    for (layout, made) in (0..=255).flat_map(|layout| Layout::ALL.map(|made| (layout, made))) {
+        let octets = Parts::of(made, HEAD, &A).assemble();
+        let arrival = octets.clone();
+        let calls = [
+            Call::Read { layout, octets },
+            Call::Arrive {
+                layout,
+                octets: arrival,
+            },
+            write_as(layout, 112, 0, A.to_vec()),
+        ];
+        let expected = match layout {
+            RFC8331 | DRAFTS if layout == number_of(made) => [0, 0, 0],
+            RFC8331 | DRAFTS => [7, 7, 0],
+            _ => [LAYOUT; 3],
+        };
+        for (call, expected) in calls.iter().zip(expected) {
+            let (number, after) = compare(call, &memory);
+            assert_eq!(number, expected, "{layout}");
+            assert!(number != LAYOUT || after == memory, "{layout}");
+        }
+    }
 }
 
 fn read_text(text: &[u8], memory: &Memory) -> u8 {

@@ -1,21 +1,32 @@
-//! Whole streams through both sides, the state carried through the row:
-//! loss, repeats, packets out of order, foreign and damaged octets, wrap of
-//! the packet number; and packets in no well-formed fields.
+//! Whole streams of either layout through both sides, the state carried
+//! through the row: loss, repeats, packets out of order, foreign and damaged
+//! octets, told either layout, wrap of the packet number; and packets in no
+//! well-formed fields, told any number.
 
 use std::collections::BTreeMap;
 
 use differential::call::{compare, Call, Lengths, Lent, Memory};
-use differential::{ANSWER, STATE, WHOLE};
+use differential::inputs::told;
+use differential::model::number_of;
+use differential::{ANSWER, DRAFTS, LAYOUT, RFC8331, STATE, WHOLE};
 use reference::packet::check;
 use reference::random::{arrivals, stream, wild_packets, Random};
 
 /// What the arrivals of all streams were answered.
 #[derive(Debug, Default)]
 struct Met {
-    kinds: [usize; 5],
-    refused: BTreeMap<u8, usize>,
+    kinds: [[usize; 5]; 2],
+    /// By the layout told, then the number.
+    refused: BTreeMap<(u8, u8), usize>,
     /// Fields handed out after the packet number wrapped.
-    wrapped: usize,
+    wrapped: [usize; 2],
+}
+
+impl Met {
+    /// Refusals by a number where that layout was told.
+    fn of(&self, layout: u8, number: u8) -> usize {
+        self.refused.get(&(layout, number)).copied().unwrap_or(0)
+    }
 }
 
 /// How the store is lent along a stream.
@@ -66,21 +77,25 @@ fn opened(source: u32, payload_type: u8, r: &mut Random) -> Memory {
     memory
 }
 
-fn deliver(packets: &[&[u8]], mut memory: Memory, store: Store, r: &mut Random, met: &mut Met) {
+/// Octets and the layout told with them.
+type Arrival<'a> = (u8, &'a [u8]);
+
+fn deliver(arrivals: &[Arrival], mut memory: Memory, store: Store, r: &mut Random, met: &mut Met) {
     let mut highest = 0;
-    for &octets in packets {
+    for &(layout, octets) in arrivals {
         let lent = lend(&memory, store, r);
         let octets = octets.to_vec();
-        let (number, after) = compare(&Call::Arrive { octets }, &lent);
+        let (number, after) = compare(&Call::Arrive { layout, octets }, &lent);
+        assert!(number != LAYOUT || after == lent);
         memory = after;
         if number != 0 {
-            *met.refused.entry(number).or_default() += 1;
+            *met.refused.entry((layout, number)).or_default() += 1;
             continue;
         }
-        let kind = memory.answer.get()[0];
-        met.kinds[kind as usize] += 1;
+        let (kind, told) = (memory.answer.get()[0], layout as usize);
+        met.kinds[told][kind as usize] += 1;
         let last = memory.state.get()[4];
-        met.wrapped += (kind == WHOLE && last < highest) as usize;
+        met.wrapped[told] += (kind == WHOLE && last < highest) as usize;
         highest = highest.max(last);
     }
 }
@@ -94,49 +109,67 @@ fn store(r: &mut Random) -> Store {
     }
 }
 
+/// A stream is in one layout, told at each arrival of a sent packet.
 #[test]
 fn fields_with_trouble() {
     let mut r = Random::new(201);
     let mut met = Met::default();
-    for _ in 0..5_000 {
-        let fields = 1 + r.below(24);
-        let stream = stream(&mut r, fields, 4);
+    for _ in 0..7_000 {
+        let (fields, layout) = (1 + r.below(24), r.layout());
+        let stream = stream(&mut r, layout, fields, 4);
         let arrivals = arrivals(&mut r, &stream);
-        let packets: Vec<&[u8]> = arrivals
+        let packets: Vec<Arrival> = arrivals
             .iter()
-            .map(|arrival| stream.octets(arrival))
+            .map(|arrival| (number_of(stream.told(arrival)), stream.octets(arrival)))
             .collect();
         let memory = opened(stream.source, stream.payload_type, &mut r);
         let store = store(&mut r);
         deliver(&packets, memory, store, &mut r, &mut met);
     }
     println!("{met:?}");
-    assert!(met.kinds[WHOLE as usize] > 2_000, "{met:?}");
-    assert!(met.wrapped > 100, "{met:?}");
-    for number in [30, 31, 32, 35] {
-        assert!(met.refused[&number] > 10, "{number}: {met:?}");
+    for layout in [RFC8331, DRAFTS] {
+        let told = layout as usize;
+        assert!(met.kinds[told][WHOLE as usize] > 2_000, "{met:?}");
+        assert!(met.wrapped[told] > 100, "{met:?}");
+        for number in [7, 30, 31, 32, 35] {
+            assert!(met.of(layout, number) > 10, "{layout} {number}: {met:?}");
+        }
     }
+    assert!(met.of(DRAFTS, 15) > 10, "{met:?}");
 }
 
 #[test]
 fn packets_in_no_fields() {
     let mut r = Random::new(202);
     let mut met = Met::default();
-    for _ in 0..5_000 {
-        let count = 1 + r.below(40);
-        let packets = wild_packets(&mut r, count);
-        let packets: Vec<&[u8]> = packets.iter().map(Vec::as_slice).collect();
-        let first = packets.iter().find_map(|octets| check(octets).ok());
+    for _ in 0..7_000 {
+        let (count, layout) = (1 + r.below(40), r.layout());
+        let packets = wild_packets(&mut r, layout, count);
+        let first = packets.iter().find_map(|octets| check(layout, octets).ok());
         let Some(first) = first.map(|accepted| accepted.summary) else {
             continue;
         };
+        let packets: Vec<Arrival> = packets
+            .iter()
+            .map(|octets| (told(&mut r, layout), octets.as_slice()))
+            .collect();
         let memory = opened(first.source, first.payload_type, &mut r);
         let store = store(&mut r);
         deliver(&packets, memory, store, &mut r, &mut met);
     }
     println!("{met:?}");
-    assert!(met.kinds.iter().all(|&times| times > 200), "{met:?}");
-    for number in (2..=13).chain([30, 31, 32, 35]) {
-        assert!(met.refused.contains_key(&number), "{number}: {met:?}");
+    assert!(
+        met.kinds.as_flattened().iter().all(|&times| times > 200),
+        "{met:?}"
+    );
+    for (layout, own) in [(RFC8331, 6), (DRAFTS, 15)] {
+        let both = (2..=5).chain(7..=13).chain([30, 31, 32, 35]);
+        for number in both.chain([own]) {
+            assert!(met.of(layout, number) > 0, "{layout} {number}: {met:?}");
+        }
     }
+    assert!(
+        (DRAFTS + 1..=255).all(|layout| met.of(layout, LAYOUT) > 0),
+        "{met:?}"
+    );
 }

@@ -66,7 +66,7 @@ pub fn cover(seed: u64, rounds: usize) -> Coverage {
         let mut case = arrive_case(&mut r);
         c.add_answer(
             "arrive",
-            arrive(case.state, &case.octets, &mut case.store).1,
+            arrive(case.state, case.layout, &case.octets, &mut case.store).1,
         );
         c.add("open", open(0, r.octet()));
     }
@@ -78,11 +78,19 @@ pub fn cover(seed: u64, rounds: usize) -> Coverage {
 
 fn cover_packets(r: &mut Random, c: &mut Coverage) {
     let case = read_case(r);
-    c.add("read", packet::read(&case.octets, &mut vec![0; case.room]));
+    c.add(
+        "read",
+        packet::read(case.layout, &case.octets, &mut vec![0; case.room]),
+    );
     let case = write_case(r);
     c.add(
         "write",
-        packet::write(&case.head, &case.cells, &mut vec![0; case.room]),
+        packet::write(
+            case.layout,
+            &case.head,
+            &case.cells,
+            &mut vec![0; case.room],
+        ),
     );
 }
 
@@ -113,7 +121,8 @@ fn cover_files(r: &mut Random, c: &mut Coverage) {
 
 /// The frames of a `fieldlist` input, given to a depacketizer as it does.
 fn cover_frames(r: &mut Random, c: &mut Coverage) {
-    let input = framed(r);
+    let layout = r.layout();
+    let input = framed(r, layout);
     let mut depacketizer = None;
     let mut store = vec![0; crate::anc::Limits::FIELD.cells];
     for frame in frames::Frames::new(&input) {
@@ -121,7 +130,7 @@ fn cover_frames(r: &mut Random, c: &mut Coverage) {
             *c.answers.entry(("frames", "cut")).or_default() += 1;
             continue;
         };
-        let state = match (depacketizer, check(octets)) {
+        let state = match (depacketizer, check(layout, octets)) {
             (Some(state), _) => state,
             (None, Ok(accepted)) => {
                 let summary = accepted.summary;
@@ -132,7 +141,7 @@ fn cover_frames(r: &mut Random, c: &mut Coverage) {
                 continue;
             }
         };
-        let (state, answer) = arrive(state, octets, &mut store);
+        let (state, answer) = arrive(state, layout, octets, &mut store);
         depacketizer = Some(state);
         c.add_answer("frames", answer);
     }

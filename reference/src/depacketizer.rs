@@ -1,6 +1,7 @@
 //! The depacketizer gathers packets into whole fields.
 
 use crate::anc::Limits;
+use crate::layout::Layout;
 use crate::packet::{check, Accepted, Summary};
 use crate::refusal::Refusal;
 
@@ -87,14 +88,15 @@ pub fn distance(last: u32, number: u32) -> Distance {
     }
 }
 
-/// One arrival: 35, then 1 to 13, then 30, 31, 32; a fresh one is counted
-/// and gathered. The store is written by held and whole only.
+/// One arrival, in the layout that the caller tells: 35, then 1 to 13 and 15,
+/// then 30, 31, 32; a fresh one is counted and gathered. The store is written
+/// by held and whole only.
 #[inline]
-pub fn arrive(state: State, octets: &[u8], store: &mut [u16]) -> (State, Answer) {
+pub fn arrive(state: State, layout: Layout, octets: &[u8], store: &mut [u16]) -> (State, Answer) {
     if !state.is_sound(store.len()) {
         return (state, refused(35));
     }
-    let packet = match check(octets) {
+    let packet = match check(layout, octets) {
         Ok(packet) => packet,
         Err(refusal) => return (state, Answer::Refused(refusal)),
     };

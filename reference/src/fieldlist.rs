@@ -5,12 +5,13 @@ use std::fmt::Write;
 use crate::anc::{Limits, RECORD_HEAD};
 use crate::depacketizer::{arrive, open, Answer, State};
 use crate::frames::{Frame, Frames};
+use crate::layout::Layout;
 use crate::packet::check;
 use crate::refusal::Refusal;
 
-/// The program's whole output.
-pub fn fieldlist(input: &[u8]) -> String {
-    let mut listing = Listing::new();
+/// The program's whole output for frames in a layout.
+pub fn fieldlist(layout: Layout, input: &[u8]) -> String {
+    let mut listing = Listing::new(layout);
     for frame in Frames::new(input) {
         match frame {
             Frame::Packet(octets) => listing.packet(octets),
@@ -22,14 +23,16 @@ pub fn fieldlist(input: &[u8]) -> String {
 }
 
 struct Listing {
+    layout: Layout,
     text: String,
     depacketizer: Option<State>,
     store: Vec<u16>,
 }
 
 impl Listing {
-    fn new() -> Listing {
+    fn new(layout: Layout) -> Listing {
         Listing {
+            layout,
             text: String::from("fieldlist 1\n"),
             depacketizer: None,
             store: vec![0; Limits::FIELD.cells],
@@ -46,9 +49,9 @@ impl Listing {
         self.line(format_args!("refused {number} {index}"));
     }
 
-    /// The first packet that passes 1 to 13 opens the depacketizer.
+    /// The first packet that passes 1 to 13 and 15 opens the depacketizer.
     fn packet(&mut self, octets: &[u8]) {
-        let summary = match check(octets) {
+        let summary = match check(self.layout, octets) {
             Ok(accepted) => accepted.summary,
             Err(refusal) => return self.refused(refusal),
         };
@@ -63,7 +66,7 @@ impl Listing {
     }
 
     fn arrival(&mut self, number: u32, state: State, octets: &[u8]) {
-        let (state, answer) = arrive(state, octets, &mut self.store);
+        let (state, answer) = arrive(state, self.layout, octets, &mut self.store);
         self.depacketizer = Some(state);
         match answer {
             Answer::Skipped => self.line(format_args!("{number} skipped")),

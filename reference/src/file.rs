@@ -1,9 +1,10 @@
 //! The field file: `ANF`, a 16-bit version, then fields. A field is its
 //! timestamp (32 bits), F (one octet), count, ANC packets. The count is one
 //! octet in version 1 and two in version 2 (02, K2): both are read, 2 is
-//! written.
+//! written. The ANC packets are RFC 8331's.
 
 use crate::anc::{check_list, check_run, Limits};
+use crate::layout::Layout;
 use crate::refusal::Refusal;
 
 #[derive(Clone, Copy, Debug, PartialEq, Eq)]
@@ -62,7 +63,7 @@ pub fn write(timestamp: u32, f: u8, cells: &[u16], out: &mut [u8]) -> Result<usi
     if !is_file_f(f) {
         return Err(Refusal::plain(53));
     }
-    let list = check_list(cells)?.within(Limits::FIELD)?;
+    let list = check_list(Layout::Rfc8331, cells)?.within(Limits::FIELD)?;
     let Some((head, packets)) = out.split_first_chunk_mut::<FIELD_HEAD>() else {
         return Err(Refusal::plain(23));
     };
@@ -90,7 +91,7 @@ pub fn read(file: &[u8], offset: usize, cells: &mut [u16]) -> Result<Field, Refu
     if !is_file_f(f) {
         return Err(Refusal::plain(53));
     }
-    let run = check_run(packets, number(&head[5..]))?;
+    let run = check_run(Layout::Rfc8331, packets, number(&head[5..]))?;
     if !Limits::FIELD.hold(run.records(), run.cells()) {
         return Err(Refusal::plain(21));
     }

@@ -1,5 +1,6 @@
 //! Reference implementation of ancillary fields over RTP, written from the
-//! scope document ("01") and RFC 8331 alone.
+//! scope document ("01"), the change requests ("02"), RFC 8331 and the drafts
+//! of 2015 alone.
 //!
 //! Every entry point takes any octets, lists and state and ends with an
 //! answer or a numbered [`Refusal`]; lent memory is unchanged by a refusal.
@@ -12,6 +13,7 @@ pub mod depacketizer;
 pub mod fieldlist;
 pub mod file;
 pub mod frames;
+pub mod layout;
 pub mod packet;
 pub mod random;
 pub mod realistic;
@@ -20,4 +22,5 @@ pub mod runs;
 pub mod sdp;
 
 pub use fieldlist::fieldlist;
+pub use layout::Layout;
 pub use refusal::Refusal;

@@ -1,14 +1,14 @@
-//! RTP packets with ancillary payload: reader and writer.
+//! RTP packets with ancillary payload, in both layouts: reader and writer.
 
 use crate::anc::{check_list, check_run, Limits, Run};
+use crate::layout::Layout;
 use crate::refusal::Refusal;
 
 /// Most octets of a packet.
 pub const MAX_PACKET: usize = 65_535;
 const RTP_HEADER: usize = 12;
-const PAYLOAD_HEADER: usize = 8;
-/// Octets before the ANC packets in a written packet.
-pub const WRITTEN_HEAD: usize = RTP_HEADER + PAYLOAD_HEADER;
+/// Octets before the ANC packets in a written packet of RFC 8331.
+const WRITTEN_HEAD: usize = RTP_HEADER + Layout::Rfc8331.payload_header();
 
 /// What the reader returns with the records.
 #[derive(Clone, Copy, Debug, PartialEq, Eq)]
@@ -48,7 +48,7 @@ impl Summary {
     }
 }
 
-/// An accepted packet: none of 1 to 13 is given.
+/// An accepted packet: none of 1 to 13 and 15 is given.
 #[derive(Clone, Copy, Debug, PartialEq, Eq)]
 pub struct Accepted<'a> {
     pub summary: Summary,
@@ -66,16 +66,19 @@ fn be32(octets: &[u8], at: usize) -> u32 {
 }
 
 /// The order of reading: 1, 2 (under 12 octets), 3, 2 (rest), 4, 5, 6, 7, 8;
-/// each ANC packet's 9 to 12; then 13.
+/// each ANC packet's 9 to 12 and 15; then 13. Without F there is no 6.
 #[inline]
-pub fn check(octets: &[u8]) -> Result<Accepted<'_>, Refusal> {
+pub fn check(layout: Layout, octets: &[u8]) -> Result<Accepted<'_>, Refusal> {
     let payload = payload(octets).map_err(Refusal::plain)?;
-    let Some((head, packets)) = payload.split_first_chunk::<PAYLOAD_HEADER>() else {
+    let Some((head, packets)) = payload.split_at_checked(layout.payload_header()) else {
         return Err(Refusal::plain(5));
     };
     let length = be16(head, 2);
     let records = head[4];
-    let f = head[5] >> 6;
+    let f = match layout {
+        Layout::Rfc8331 => head[5] >> 6,
+        Layout::Draft2015 => 0,
+    };
     if f == 1 {
         return Err(Refusal::plain(6));
     }
@@ -85,7 +88,7 @@ pub fn check(octets: &[u8]) -> Result<Accepted<'_>, Refusal> {
     if records == 0 && length != 0 {
         return Err(Refusal::plain(8));
     }
-    let run = check_run(packets, records as usize)?;
+    let run = check_run(layout, packets, records as usize)?;
     if run.octets() != packets.len() {
         return Err(Refusal::plain(13));
     }
@@ -141,34 +144,41 @@ fn extension(octets: &[u8], at: usize) -> Result<usize, u8> {
     }
 }
 
-/// Reads a packet and puts its records into lent cells: 1 to 13, then 14.
+/// Reads a packet and puts its records into lent cells: 1 to 13 and 15, then
+/// 14.
 #[inline]
-pub fn read(octets: &[u8], cells: &mut [u16]) -> Result<Summary, Refusal> {
-    let accepted = check(octets)?;
+pub fn read(layout: Layout, octets: &[u8], cells: &mut [u16]) -> Result<Summary, Refusal> {
+    let accepted = check(layout, octets)?;
     accepted.run.read(cells)?;
     Ok(accepted.summary)
 }
 
-/// Writes a packet into lent octets and returns its size: 24, 20, 21, 22, 23.
-/// P, X and CC are zero, the reserved bits too.
+/// Writes a packet into lent octets and returns its size: 24, 20, 21, 25, 22,
+/// 23. P, X and CC are zero, the reserved and R bits too.
 #[inline]
-pub fn write(head: &Head, cells: &[u16], out: &mut [u8]) -> Result<usize, Refusal> {
+pub fn write(layout: Layout, head: &Head, cells: &[u16], out: &mut [u8]) -> Result<usize, Refusal> {
     if head.payload_type > 127 || head.f == 1 || head.f > 3 {
         return Err(Refusal::plain(24));
     }
-    let list = check_list(cells)?.within(Limits::PACKET)?;
-    let octets = WRITTEN_HEAD + list.octets();
+    let list = check_list(layout, cells)?.within(Limits::PACKET)?;
+    if layout == Layout::Draft2015 && (head.f != 0 || list.has_streams()) {
+        return Err(Refusal::plain(25));
+    }
+    let before = RTP_HEADER + layout.payload_header();
+    let octets = before + list.octets();
     if octets > MAX_PACKET {
         return Err(Refusal::plain(22));
     }
-    let Some((start, packets)) = out.split_first_chunk_mut::<WRITTEN_HEAD>() else {
+    let Some((start, packets)) = out.split_at_mut_checked(before) else {
         return Err(Refusal::plain(23));
     };
     list.write(packets)?;
-    *start = written_head(head, list.records(), list.octets());
+    let written = written_head(head, list.records(), list.octets());
+    start.copy_from_slice(&written[..before]);
     Ok(octets)
 }
 
+/// The drafts have the first 17 of these octets.
 #[inline(always)]
 fn written_head(head: &Head, records: usize, length: usize) -> [u8; WRITTEN_HEAD] {
     let mut start = [0; WRITTEN_HEAD];

@@ -1,7 +1,7 @@
 //! Numbers of refusal.
 
 /// 01, "Numbers of refusal": a number and an index from 0. The index is the
-/// ANC packet for 9 to 12, the record for 20, the item for 41 to 43,
+/// ANC packet for 9 to 12 and 15, the record for 20, the item for 41 to 43,
 /// otherwise 0.
 #[derive(Clone, Copy, Debug, PartialEq, Eq, PartialOrd, Ord, Hash)]
 pub struct Refusal {

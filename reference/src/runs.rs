@@ -4,7 +4,8 @@
 use std::fmt::Write;
 
 use crate::anc::Limits;
-use crate::packet::{Head, Summary, MAX_PACKET};
+use crate::layout::Layout;
+use crate::packet::{self, Head, Summary, MAX_PACKET};
 use crate::refusal::Refusal;
 
 /// Record A of 01.
@@ -27,6 +28,15 @@ pub const A_OCTETS: usize = 12;
 pub struct Sides<R, W> {
     pub read: R,
     pub write: W,
+}
+
+/// The text of the reference's reader and writer.
+pub fn reference_text() -> String {
+    let read = |octets: &[u8], cells: &mut [u16]| packet::read(Layout::Rfc8331, octets, cells);
+    let write = |head: &Head, cells: &[u16], out: &mut [u8]| {
+        packet::write(Layout::Rfc8331, head, cells, out)
+    };
+    Sides { read, write }.text()
 }
 
 /// That many records A.

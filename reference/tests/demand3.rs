@@ -8,6 +8,7 @@ use reference::depacketizer::{arrive, open, Answer, State};
 use reference::fieldlist;
 use reference::frames::put_frame;
 use reference::random::*;
+use reference::Layout;
 
 /// Places in the stream of each arrival that is fresh.
 fn fresh_arrivals(arrivals: &[Arrival]) -> Vec<usize> {
@@ -66,7 +67,8 @@ fn deliver(stream: &Stream, arrivals: &[Arrival], store: usize) -> (State, Vec<F
         if state.phase != 2 {
             store.fill(0xBEEF);
         }
-        let (next, answer) = arrive(state, stream.octets(arrival), &mut store);
+        let (told, octets) = (stream.told(arrival), stream.octets(arrival));
+        let (next, answer) = arrive(state, told, octets, &mut store);
         state = next;
         if let Answer::Whole {
             timestamp,
@@ -111,14 +113,15 @@ fn widest(stream: &Stream) -> usize {
 fn random_streams() {
     let mut r = Random::new(21);
     let mut handed = 0;
-    for _ in 0..3_000 {
+    for _ in 0..6_000 {
         let fields = 1 + r.below(12);
         let most = 1 + r.below(5);
-        let stream = stream(&mut r, fields, most);
+        let layout = r.layout();
+        let stream = stream(&mut r, layout, fields, most);
         let arrivals = arrivals(&mut r, &stream);
         handed += check(&stream, &arrivals, widest(&stream));
     }
-    assert!(handed > 1_000);
+    assert!(handed > 2_000);
 }
 
 /// Arrivals drawn with no order at all.
@@ -127,7 +130,8 @@ fn shuffled_streams() {
     let mut r = Random::new(22);
     for _ in 0..5_000 {
         let fields = 1 + r.below(4);
-        let stream = stream(&mut r, fields, 3);
+        let layout = r.layout();
+        let stream = stream(&mut r, layout, fields, 3);
         let arrivals: Vec<Arrival> = (0..r.below(14))
             .map(|_| Arrival::Sent(r.below(stream.sent.len())))
             .collect();
@@ -141,7 +145,8 @@ fn shuffled_streams() {
 fn every_small_list() {
     let mut r = Random::new(23);
     for cuts in 0..16_u32 {
-        let stream = cut_stream(&mut r, cuts);
+        let layout = Layout::ALL[cuts as usize % 2];
+        let stream = cut_stream(&mut r, layout, cuts);
         for length in 0..=6 {
             for code in 0..5_usize.pow(length) {
                 let place = |at| Arrival::Sent(code / 5_usize.pow(at) % 5);
@@ -153,8 +158,9 @@ fn every_small_list() {
 }
 
 /// Five packets, a field ending after each whose bit is set and at the end.
-fn cut_stream(r: &mut Random, cuts: u32) -> Stream {
+fn cut_stream(r: &mut Random, layout: Layout, cuts: u32) -> Stream {
     let mut stream = Stream {
+        layout,
         source: 1,
         payload_type: 96,
         sent: Vec::new(),
@@ -162,7 +168,7 @@ fn cut_stream(r: &mut Random, cuts: u32) -> Stream {
     let mut field = 0;
     for index in 0..5 {
         let marker = index == 4 || cuts >> index & 1 == 1;
-        let cells = record(r, index);
+        let cells = carried(layout, record(r, index));
         let head = reference::packet::Head {
             source: 1,
             payload_type: 96,
@@ -174,7 +180,7 @@ fn cut_stream(r: &mut Random, cuts: u32) -> Stream {
         stream.sent.push(Sent {
             head,
             records: 1,
-            octets: Parts::plain(head, &cells).assemble(),
+            octets: Parts::of(layout, head, &cells).assemble(),
             cells,
             field,
         });
@@ -188,7 +194,8 @@ fn cut_stream(r: &mut Random, cuts: u32) -> Stream {
 fn listings_of_streams() {
     let mut r = Random::new(24);
     for _ in 0..500 {
-        let stream = stream(&mut r, 6, 3);
+        let layout = r.layout();
+        let stream = stream(&mut r, layout, 6, 3);
         let mut arrivals = arrivals(&mut r, &stream);
         arrivals.retain(|arrival| matches!(arrival, Arrival::Sent(_)));
         let mut input = Vec::new();
@@ -197,7 +204,7 @@ fn listings_of_streams() {
         }
         let fresh = fresh_arrivals(&arrivals);
         let fields = expected(&stream, &fresh);
-        let text = fieldlist(&input);
+        let text = fieldlist(layout, &input);
         let wholes = text.lines().filter(|line| line.contains(" whole ")).count();
         assert_eq!(wholes, fields.len());
         let records: usize = fields.iter().map(|field| field.2).sum();

@@ -1,9 +1,11 @@
 //! The marked examples and the run-only ones.
 
-use reference::anc::{check_run, packet_octets, HEADER_WORDS};
+use reference::anc::{check_run, HEADER_WORDS};
 use reference::frames::put_frame;
 use reference::packet::{read, write, Head};
-use reference::{fieldlist, Refusal};
+use reference::{Layout, Refusal};
+
+const LAYOUT: Layout = Layout::Rfc8331;
 
 const A_CELLS: [u16; 8] = [0, 9, 0, 0, 0, 0x41, 0x05, 0];
 const A_OCTETS: [u8; 12] = [
@@ -25,9 +27,13 @@ fn head(number: u32, timestamp: u32, f: u8) -> Head {
     }
 }
 
+fn fieldlist(input: &[u8]) -> String {
+    reference::fieldlist(LAYOUT, input)
+}
+
 fn packet(head: &Head, cells: &[u16]) -> Vec<u8> {
     let mut out = vec![0; 70_000];
-    let size = write(head, cells, &mut out).unwrap();
+    let size = write(LAYOUT, head, cells, &mut out).unwrap();
     out.truncate(size);
     out
 }
@@ -38,7 +44,10 @@ fn header_words_and_sizes() {
         [0, 0x41, 0x61, 0xFF].map(|x| HEADER_WORDS[x]),
         [0x200, 0x241, 0x161, 0x2FF]
     );
-    assert_eq!([0, 2, 3, 12, 255].map(packet_octets), [12, 12, 16, 24, 328]);
+    assert_eq!(
+        [0, 2, 3, 12, 255].map(|n| LAYOUT.packet_octets(n)),
+        [12, 12, 16, 24, 328]
+    );
 }
 
 #[test]
@@ -52,7 +61,7 @@ fn a_and_b_in_a_packet() {
     assert_eq!(&octets[12..20], [0, 1, 0, 24, 2, 0x80, 0, 0]);
     assert_eq!(octets[20..], [A_OCTETS, B_OCTETS].concat());
     let mut cells = [0xEEEE; 20];
-    let summary = read(&octets, &mut cells).unwrap();
+    let summary = read(LAYOUT, &octets, &mut cells).unwrap();
     assert_eq!(summary.head(), head(0x0001_FFFF, 5, 2));
     assert_eq!((summary.records, summary.cells), (2, 18));
     assert_eq!(&cells[..18], list);
@@ -63,7 +72,7 @@ fn a_and_b_in_a_packet() {
 fn empty_list_gives_twenty_octets() {
     let octets = packet(&head(7, 9, 0), &[]);
     assert_eq!(octets.len(), 20);
-    let summary = read(&octets, &mut []).unwrap();
+    let summary = read(LAYOUT, &octets, &mut []).unwrap();
     assert_eq!((summary.records, summary.cells), (0, 0));
 }
 
@@ -152,7 +161,7 @@ fn a_with_each_bit_changed() {
             62..72 => 11,
             _ => 12,
         };
-        match check_run(&octets, 1) {
+        match check_run(LAYOUT, &octets, 1) {
             Ok(run) => {
                 let mut cells = [0; 8];
                 run.read(&mut cells).unwrap();
@@ -170,11 +179,11 @@ fn limits_of_the_writer() {
     let mut out = vec![0; 70_000];
     let records = |count: usize| A_CELLS.repeat(count);
     assert_eq!(
-        write(&head(0, 0, 0), &records(255), &mut out),
+        write(LAYOUT, &head(0, 0, 0), &records(255), &mut out),
         Ok(20 + 255 * 12)
     );
     assert_eq!(
-        write(&head(0, 0, 0), &records(256), &mut out),
+        write(LAYOUT, &head(0, 0, 0), &records(256), &mut out),
         Err(Refusal::plain(21))
     );
     // 124 records of 263 cells and one of 156: 32,768 cells.
@@ -184,12 +193,12 @@ fn limits_of_the_writer() {
         cells.extend(vec![0x3FF; n as usize]);
     }
     assert_eq!(cells.len(), 32_768);
-    assert!(write(&head(0, 0, 0), &cells, &mut out).is_ok());
+    assert!(write(LAYOUT, &head(0, 0, 0), &cells, &mut out).is_ok());
     cells.push(0);
     cells[124 * 263 + 7] = 149;
     assert_eq!(cells.len(), 32_769);
     assert_eq!(
-        write(&head(0, 0, 0), &cells, &mut out),
+        write(LAYOUT, &head(0, 0, 0), &cells, &mut out),
         Err(Refusal::plain(21))
     );
 }

@@ -2,6 +2,7 @@
 //! (02, K2): 4,095 records, 32,768 cells, the store.
 
 use reference::depacketizer::{arrive, open, Answer, State, READY};
+use reference::layout::Layout;
 use reference::packet::Head;
 use reference::random::{list_of_cells, record, split_records, Parts, Random};
 
@@ -22,7 +23,7 @@ fn gather(packets: &[Vec<u16>], store: usize) -> (Vec<Answer>, State, Vec<u16>) 
             f: 3,
         };
         let octets = Parts::plain(head, cells).assemble();
-        let (next, answer) = arrive(state, &octets, &mut store);
+        let (next, answer) = arrive(state, Layout::Rfc8331, &octets, &mut store);
         state = next;
         answers.push(answer);
     }

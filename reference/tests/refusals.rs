@@ -1,11 +1,13 @@
-//! Every refusal number by hand, with its index and unchanged lent memory.
+//! Every refusal number by hand, with its index and unchanged lent memory, in
+//! RFC 8331's layout; `old.rs` has the other.
 
-use reference::anc::packet_octets;
 use reference::depacketizer::{arrive, open, Answer, State, FILLING, LOST, READY};
 use reference::file::Version;
 use reference::packet::{self, Head};
 use reference::random::{Anc, Parts};
-use reference::{file, Refusal};
+use reference::{file, Layout, Refusal};
+
+const LAYOUT: Layout = Layout::Rfc8331;
 
 const HEAD: Head = Head {
     source: 5,
@@ -29,7 +31,7 @@ fn parts(counts: &[u16]) -> Parts {
 
 fn read(octets: &[u8], room: usize) -> Option<(u8, usize)> {
     let mut cells = vec![0x5A5A; room];
-    let answer = packet::read(octets, &mut cells);
+    let answer = packet::read(LAYOUT, octets, &mut cells);
     let Err(Refusal { number, index }) = answer else {
         return None;
     };
@@ -100,7 +102,7 @@ fn reading_9_to_14() {
         made.extra = vec![0xFF; 12];
         assert_eq!(read(&made.assemble(), 100), Some((10, index)));
         // The second 9: the words are right, the size is not.
-        let whole = Anc::of(&record(9)).octets();
+        let whole = Anc::of(&record(9)).octets(LAYOUT);
         for extra in 12..whole.len() {
             made.extra = whole[..extra].to_vec();
             assert_eq!(read(&made.assemble(), 100), Some((9, index)));
@@ -142,7 +144,7 @@ fn every_alignment_bit() {
         let good = parts(&[n]).assemble();
         assert_eq!(read(&good, 300), None);
         let used = 72 + 10 * n as usize;
-        for bit in used..8 * packet_octets(n as usize) {
+        for bit in used..8 * LAYOUT.packet_octets(n as usize) {
             let mut octets = good.clone();
             octets[20 + bit / 8] ^= 0x80 >> (bit % 8);
             assert_eq!(read(&octets, 300), Some((12, 0)));
@@ -152,7 +154,7 @@ fn every_alignment_bit() {
 
 fn write(head: &Head, cells: &[u16], room: usize) -> Option<(u8, usize)> {
     let mut out = vec![0x5A; room];
-    let Err(Refusal { number, index }) = packet::write(head, cells, &mut out) else {
+    let Err(Refusal { number, index }) = packet::write(LAYOUT, head, cells, &mut out) else {
         return None;
     };
     assert!(out.iter().all(|&octet| octet == 0x5A));
@@ -209,7 +211,7 @@ fn writing_24_20_21_23() {
         assert_eq!(file_write(2, &list, 0), Some((of_a_field, 0)));
     }
     let list = [record(1), record(30)].concat();
-    let need = packet_octets(1) + packet_octets(30);
+    let need = LAYOUT.packet_octets(1) + LAYOUT.packet_octets(30);
     for room in [0, 5, 6, 7, 19, 20, 21, need] {
         assert_eq!(write(&HEAD, &list, room), Some((23, 0)));
     }
@@ -228,7 +230,7 @@ fn writing_24_20_21_23() {
 /// 22 cannot be given: the list of most octets by its cells is far below.
 #[test]
 fn most_octets_of_a_list() {
-    let most = (0..256).map(|n| packet_octets(n) as f64 / (8 + n) as f64);
+    let most = (0..256).map(|n| LAYOUT.packet_octets(n) as f64 / (8 + n) as f64);
     assert!(most.fold(0.0, f64::max) * 32_768.0 + 20.0 < 65_535.0);
 }
 
@@ -248,7 +250,7 @@ fn sound() -> State {
 
 fn refusal_of(state: State, octets: &[u8], store: usize) -> Option<(u8, usize)> {
     let mut store = vec![0x5A5A; store];
-    let (after, answer) = arrive(state, octets, &mut store);
+    let (after, answer) = arrive(state, LAYOUT, octets, &mut store);
     let Answer::Refused(Refusal { number, index }) = answer else {
         return None;
     };
@@ -383,7 +385,7 @@ fn depacketizer_counts_stop() {
         last: 69_997,
         ..sound()
     };
-    let (after, answer) = arrive(full, &good, &mut [0; 100]);
+    let (after, answer) = arrive(full, LAYOUT, &good, &mut [0; 100]);
     assert_eq!(answer, Answer::Skipped);
     assert_eq!(
         (after.fresh, after.missing, after.last),

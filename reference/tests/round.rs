@@ -1,25 +1,36 @@
 //! Round trips: demand 2 for packets, "reads back the same" for parameters
 //! and files.
 
-use reference::packet::{read, write};
+use reference::packet::{check, read, write, Head};
 use reference::random::*;
-use reference::{file, sdp};
+use reference::{file, sdp, Layout};
+
+/// A head that the layout carries.
+fn carried_head(r: &mut Random, layout: Layout) -> Head {
+    let made = head(r);
+    match layout {
+        Layout::Rfc8331 => made,
+        Layout::Draft2015 => Head { f: 0, ..made },
+    }
+}
 
 #[test]
 fn records_written_and_read() {
     let mut r = Random::new(11);
-    for round in 0..6_000 {
-        let head = head(&mut r);
+    for round in 0..12_000 {
+        let layout = r.layout();
+        let head = carried_head(&mut r, layout);
         let records = round % 20;
         let cells = match round % 100 {
             0 => list_of_cells(&mut r, 32_768),
             1 => (0..255).flat_map(|_| record(&mut r, 2)).collect(),
             _ => list(&mut r, records),
         };
+        let cells = carried(layout, cells);
         let mut out = vec![0x5A; 65_535];
-        let size = write(&head, &cells, &mut out).unwrap();
+        let size = write(layout, &head, &cells, &mut out).unwrap();
         let mut back = vec![0; 32_768];
-        let summary = read(&out[..size], &mut back).unwrap();
+        let summary = read(layout, &out[..size], &mut back).unwrap();
         assert_eq!(summary.head(), head);
         assert_eq!(back[..summary.cells], cells);
         assert_eq!(summary.records as usize, split_records(&cells).len());
@@ -30,18 +41,19 @@ fn records_written_and_read() {
 #[test]
 fn every_count_of_words() {
     let mut r = Random::new(12);
-    for n in 0..256 {
+    for (n, layout) in (0..256).flat_map(|n| Layout::ALL.map(|layout| (n, layout))) {
         for filling in [0, 0x3FF, 0x155, 0xFFFF] {
-            let mut cells = record(&mut r, n);
+            let mut cells = carried(layout, record(&mut r, n));
             if filling != 0xFFFF {
                 cells[8..].fill(filling);
             }
-            let head = head(&mut r);
+            let head = carried_head(&mut r, layout);
             let mut out = vec![0; 400];
-            let size = write(&head, &cells, &mut out).unwrap();
-            assert_eq!(out[..size], Parts::plain(head, &cells).assemble());
+            let size = write(layout, &head, &cells, &mut out).unwrap();
+            assert_eq!(out[..size], Parts::of(layout, head, &cells).assemble());
             let mut back = vec![0; 300];
-            assert_eq!(read(&out[..size], &mut back).unwrap().cells, cells.len());
+            let summary = read(layout, &out[..size], &mut back).unwrap();
+            assert_eq!(summary.cells, cells.len());
             assert_eq!(back[..cells.len()], cells);
         }
     }
@@ -49,29 +61,35 @@ fn every_count_of_words() {
 
 /// Rewriting an accepted packet whose list fits the writer gives the same
 /// octets exactly when it had no padding, extension or contributing sources,
-/// and zero reserved bits.
+/// and zero reserved bits; the old layout has none of these bits.
 #[test]
 fn rewriting() {
+    for layout in Layout::ALL {
+        rewriting_in(layout);
+    }
+}
+
+fn rewriting_in(layout: Layout) {
     let mut r = Random::new(13);
     let (mut same, mut changed) = (0, 0);
     for _ in 0..12_000 {
-        let mut made = parts(&mut r);
+        let mut made = parts(&mut r, layout);
         dress(&mut r, &mut made);
         let plain = made.padding.is_none()
             && made.extension.is_none()
             && made.sources.is_empty()
-            && made.reserved == 0;
+            && (made.reserved == 0 || layout == Layout::Draft2015);
         let octets = made.assemble();
         if octets.len() > 65_535 {
             continue;
         }
         let mut cells = vec![0; 60_000];
-        let summary = read(&octets, &mut cells).unwrap();
+        let summary = read(layout, &octets, &mut cells).unwrap();
         if summary.cells > 32_768 {
             continue;
         }
         let mut out = vec![0; 65_535];
-        let size = write(&summary.head(), &cells[..summary.cells], &mut out).unwrap();
+        let size = write(layout, &summary.head(), &cells[..summary.cells], &mut out).unwrap();
         assert_eq!(out[..size] == octets, plain);
         if plain {
             same += 1
@@ -80,6 +98,21 @@ fn rewriting() {
         }
     }
     assert!(same > 1_000 && changed > 1_000);
+}
+
+/// Length counts from another place in each layout, so no packet is accepted
+/// in both.
+#[test]
+fn no_packet_of_both_layouts() {
+    let mut r = Random::new(16);
+    let mut accepted = 0;
+    for _ in 0..10_000 {
+        let octets = read_case(&mut r).octets;
+        let [new, old] = Layout::ALL.map(|layout| check(layout, &octets).is_ok());
+        assert!(!(new && old));
+        accepted += (new || old) as usize;
+    }
+    assert!(accepted > 1_000);
 }
 
 #[test]

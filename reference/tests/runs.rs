@@ -1,7 +1,6 @@
 //! The text of the run-only cases, worked out by hand.
 
-use reference::packet::{read, write};
-use reference::runs::Sides;
+use reference::runs::reference_text;
 
 /// The cells of record A sum to 79. Its bits are C 1, line 11 (9), offset
 /// 12, S 1, StreamNum 7, three header words, the checksum, the alignment.
@@ -32,7 +31,7 @@ fn the_text() {
         "padding 0: refused 4 0".to_string(),
     ];
     lines.extend((0..96).map(bit_line));
-    let text = Sides { read, write }.text();
+    let text = reference_text();
     assert_eq!(text.lines().collect::<Vec<_>>(), lines);
     assert!(text.ends_with('\n'));
 }
@@ -41,5 +40,5 @@ fn the_text() {
 #[test]
 fn the_proved_program() {
     let proved = include_str!("../../crates/runs_example/stdout");
-    assert_eq!(Sides { read, write }.text(), proved);
+    assert_eq!(reference_text(), proved);
 }

@@ -2,6 +2,7 @@
 //! octets, and a writer of that version, which is now here alone.
 
 use reference::file::{self, Version};
+use reference::layout::Layout;
 use reference::random::{anc_of, list, split_records, Random};
 
 /// Written by the writer of version 1, with no protected words.
@@ -38,7 +39,7 @@ fn version_1(fields: &[Field]) -> Vec<u8> {
         let anc = anc_of(cells);
         file.extend(timestamp.to_be_bytes());
         file.extend([*f, u8::try_from(anc.len()).unwrap()]);
-        file.extend(anc.iter().flat_map(|anc| anc.octets()));
+        file.extend(anc.iter().flat_map(|anc| anc.octets(Layout::Rfc8331)));
     }
     file
 }

@@ -4,7 +4,7 @@ use Prim.Native.Nat.{ℕ}
 use lib.ListN.{length}
 use Rattle.wire.specs.declared.refusal.Refusal.{Refusal}
 use Rattle.wire.specs.Result.{Result, refused, accepted, noRefusal}
-use Rattle.wire.specs.Layout.{rfc8331}
+use Rattle.wire.specs.Layout.{Layout}
 use Rattle.wire.specs.Anc.{Record, runSize}
 use Rattle.wire.specs.Cells.{listOf}
 use Rattle.anc.specs.declared.check.Verdict.{Verdict}
@@ -18,11 +18,11 @@ verdictOf (refused x) = verdict.Refused x
 verdictOf (accepted r) = verdict.Accepted (record { 0 = length (r .words) })
 
 -- a run: the octets of its packets, as "Length counts octets", and the cells of its records, for 14: "lent list shorter than the records need"
-abbrev pub runOf : Result (List Record × List ℕ) → Run
-runOf (refused x) = run.Refused x
-runOf (accepted q) = run.Accepted (record { 0 = runSize rfc8331 (q .0) }) (length (listOf (q .0)))
+abbrev pub runOf : Layout → Result (List Record × List ℕ) → Run
+runOf L (refused x) = run.Refused x
+runOf L (accepted q) = run.Accepted (record { 0 = runSize L (q .0) }) (length (listOf (q .0)))
 
--- the refusal of a run: "its number and an index from 0: the ANC packet for 9 to 12"
+-- the refusal of a run: "its number and an index from 0: the ANC packet for 9 to 12", and 15 (02, K3)
 abbrev pub runRefusal : Run → Refusal
 runRefusal (run.Refused x) = x
 runRefusal (run.Accepted o c) = noRefusal

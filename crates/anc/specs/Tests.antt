@@ -7,7 +7,8 @@ use lib.ListN.{drop}
 use Rattle.wire.specs.Result.{Result, accepted, judge}
 use Rattle.wire.specs.Bits.{bitsAt, rowAt}
 use Rattle.wire.specs.Words.{wordBits, sumLow, checksumWord}
-use Rattle.wire.specs.Layout.{rfc8331}
+use Rattle.wire.specs.Layout.{Layout}
+use Rattle.wire.specs.declared.layout.Layout.the-variants as layout
 use Rattle.wire.specs.Anc.{Record, ancRecord, ancChecks}
 
 -- "Checksum: the sum of the low nine bits of DID, SDID, Data_Count and every user data word, ..": the word behind the `n` at `words`
@@ -20,5 +21,10 @@ abbrev pub zeroBits : List ℕ → ℕ → ℕ → Bool
 zeroBits s from to = eqb (bitsAt s from (to - from)) 0
 
 -- "each ANC packet in turn: 9 (under 12 octets left), 10, 9 (its size), 11, 12": what follows these three
-abbrev pub readAncContent : ℕ → List ℕ → Result Record
-readAncContent i s = judge i (drop 3 (ancChecks rfc8331 s)) (accepted (ancRecord rfc8331 s))
+abbrev pub readAncContent : Layout → ℕ → List ℕ → Result Record
+readAncContent L i s = judge i (drop 3 (ancChecks L s)) (accepted (ancRecord L s))
+
+-- the octet of S and StreamNum, behind C, line and offset: "Records come out with F, S and StreamNum zero" in the drafts' layout
+abbrev pub streamOctet : Layout → ℕ → ℕ
+streamOctet layout.Rfc8331 x = x
+streamOctet layout.Draft2015 x = 0

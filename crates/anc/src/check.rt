@@ -3,29 +3,33 @@ ghost use mathlib.Core.Path.{_≡_};
 ghost use mathlib.Core.List.{_++_};
 ghost use Prim.Native.Nat.{_+_, _*_, _<_, _^_, _≤_};
 ghost use lib.ListN.{length};
-ghost use Rattle.wire.specs.Anc.{ancSize, areHeaderWords, dataCount, readAnc, readRun};
+ghost use Rattle.wire.specs.Anc.{ancSize, areHeaderWords, dataCount, didAt, rOk, readAnc, readRun, wordsAt};
 ghost use Rattle.wire.specs.Bits.{rowAt};
-ghost use Rattle.wire.specs.Layout.{rfc8331};
+ghost use Rattle.wire.specs.Layout.{leastSize};
 ghost use Rattle.wire.specs.Words.{HeaderTable, isHeaderWord, sumLow, wordBits};
 ghost use Rattle.words.specs.Word.{WordsFit};
 ghost use Rattle.anc.specs.Answers.{runOf, runRefusal, verdictOf};
 ghost use Rattle.anc.specs.Tests.{checksumAt, readAncContent, zeroBits};
+use places::did_at;
+use places::least_size;
+use places::packet_size;
+use places::plus;
+use places::words_at;
 use record::header::Header;
 use rows::sum::sum_octets;
+use rows::sum::sum_singly;
 use wire::count::OctetCount;
 use wire::count::WordCount;
-use wire::layout::DATA_COUNT_AT;
 use wire::layout::DID_AT;
-use wire::layout::FIXED_BITS;
+use wire::layout::DRAFT_DID_AT;
+use wire::layout::DRAFT_R_AT;
+use wire::layout::DRAFT_WORDS_AT;
 use wire::layout::HEADER_NUMBERS;
-use wire::layout::LEAST_SIZE;
+use wire::layout::Layout;
 use wire::layout::WORD_BITS;
-use wire::layout::WORDS_AT;
 use wire::refusal::Refusal;
 use words::checksum::checksum_word;
 use words::octet::quad_at;
-use words::size::packet_size;
-use words::size::plus;
 use words::word::fetch;
 
 // What one packet is.
@@ -63,35 +67,50 @@ fn header_words_ok(octets: &[u8], at: usize, table: &[u16; 256]) -> bool
     is_header_word(fetch(octets, at + 2 * WORD_BITS), table)
 }
 
-// The sum of the low nine bits of the three words from the bit `did` on and of `n` from the bit `words` on: one row where these stand right
-// behind those.
-fn sum_with_header(octets: &[u8], did: usize, words: usize, n: usize) -> u32
-    requires { ⌜ WordsFit (now octets) did 3 × WordsFit (now octets) words n ⌝ }
-    ensures { λ r. ⌜ r ≡ sumLow (rowAt wordBits (now (octets .entry)) did 3 ++ rowAt wordBits (now (octets .entry)) words n) ⌝ }
+// The sum of the low nine bits of DID, SDID, Data_Count and `n` user data words: one row in RFC 8331's layout, two in the drafts', where R stands
+// between them.
+fn sum_with_header(layout: Layout, octets: &[u8], n: usize) -> u32
+    requires { ⌜ WordsFit (now octets) (didAt layout) 3 × WordsFit (now octets) (wordsAt layout) n ⌝ }
+    ensures { λ r. ⌜ r ≡ sumLow (rowAt wordBits (now (octets .entry)) (didAt layout) 3 ++ rowAt wordBits (now (octets .entry)) (wordsAt layout) n) ⌝ }
 {
-    if words == did + 3 * WORD_BITS {
-        return sum_octets(octets, did, 3 + n);
+    if n == 0 {
+        return sum_singly(octets, did_at(layout), 3);
     }
-    sum_octets(octets, did, 3) + sum_octets(octets, words, n)
+    match layout {
+        Layout::Rfc8331 => sum_octets(octets, DID_AT, 3 + n),
+        Layout::Draft2015 => sum_singly(octets, DRAFT_DID_AT, 3)
+            + sum_singly(octets, DRAFT_WORDS_AT, n),
+    }
 }
 
-// The word behind the `n` from the bit `words` on, over these and the three from the bit `did` on.
-fn checksum_ok(octets: &[u8], did: usize, words: usize, n: usize) -> bool
-    requires { ⌜ WordsFit (now octets) did 3 × WordsFit (now octets) words (n + 1) ⌝ }
-    ensures { λ r. ⌜ r ≡ checksumAt (now (octets .entry)) did words n ⌝ }
+// The word behind `n` user data words, over these and DID, SDID and Data_Count.
+fn checksum_ok(layout: Layout, octets: &[u8], n: usize) -> bool
+    requires { ⌜ WordsFit (now octets) (didAt layout) 3 × WordsFit (now octets) (wordsAt layout) (n + 1) ⌝ }
+    ensures { λ r. ⌜ r ≡ checksumAt (now (octets .entry)) (didAt layout) (wordsAt layout) n ⌝ }
 {
-    let sum = sum_with_header(octets, did, words, n);
-    fetch(octets, words + WORD_BITS * n) == checksum_word(sum)
+    let sum = sum_with_header(layout, octets, n);
+    fetch(octets, words_at(layout) + WORD_BITS * n) == checksum_word(sum)
 }
 
 // The bits behind the first `body` are zero. They stand last in the last four of the `size` octets.
-fn alignment_ok(octets: &[u8], body: usize, size: OctetCount) -> bool
+fn zero_end(octets: &[u8], body: usize, size: OctetCount) -> bool
     requires { ⌜ (4 ≤ size .0) × (size .0 ≤ length (now octets)) × (8 * size .0 < 2 ^ 64) ⌝ }
     requires { ⌜ (body ≤ 8 * size .0) × (8 * size .0 < body + 32) ⌝ }
     ensures { λ r. ⌜ r ≡ zeroBits (now (octets .entry)) body (8 * size .0) ⌝ }
 {
     let unit: u32 = 1 << (8 * size.0 - body);
     quad_at(octets, size.0 - 4) % unit == 0
+}
+
+// R, where the layout has it, is zero.
+fn r_ok(layout: Layout, octets: &[u8]) -> bool
+    requires { ⌜ leastSize layout ≤ length (now octets) ⌝ }
+    ensures { λ r. ⌜ r ≡ rOk layout (now (octets .entry)) ⌝ }
+{
+    match layout {
+        Layout::Rfc8331 => true,
+        Layout::Draft2015 => zero_end(octets, DRAFT_R_AT, OctetCount(DRAFT_WORDS_AT / 8)),
+    }
 }
 
 impl Run {
@@ -120,43 +139,53 @@ impl Verdict {
     }
 }
 
-// 11 and 12 of the packet at the front of the octets, which is all there.
-fn check_content(octets: &[u8], words: WordCount, size: OctetCount, index: usize) -> Verdict
-    requires { ⌜ (dataCount rfc8331 (now octets) ≡ words .0) × (size .0 ≡ ancSize rfc8331 (words .0)) × (size .0 ≤ length (now octets)) ⌝ }
-    ensures { λ r. ⌜ r ≡ verdictOf (readAncContent index (now (octets .entry))) ⌝ }
+// 15, 11 and 12 of the packet at the front of the octets, which is all there.
+fn check_content(
+    layout: Layout,
+    octets: &[u8],
+    words: WordCount,
+    size: OctetCount,
+    index: usize,
+) -> Verdict
+    requires { ⌜ (dataCount layout (now octets) ≡ words .0) × (size .0 ≡ ancSize layout (words .0)) × (size .0 ≤ length (now octets)) ⌝ }
+    ensures { λ r. ⌜ r ≡ verdictOf (readAncContent layout index (now (octets .entry))) ⌝ }
 {
     let n = words.0 as usize;
-    if !checksum_ok(octets, DID_AT, WORDS_AT, n) {
+    if !r_ok(layout, octets) {
+        return Verdict::refuse(Refusal::R_BIT_SET, index);
+    }
+    if !checksum_ok(layout, octets, n) {
         return Verdict::refuse(Refusal::CHECKSUM_WRONG, index);
     }
-    if !alignment_ok(octets, FIXED_BITS + WORD_BITS * n, size) {
+    if !zero_end(octets, words_at(layout) + WORD_BITS * (n + 1), size) {
         return Verdict::refuse(Refusal::ALIGNMENT_BIT_SET, index);
     }
     Verdict::Accepted(words)
 }
 
 // The packet at the front of the octets, the run's packet `index`: 9, 10, 9, and its content.
-fn check_packet(octets: &[u8], index: usize, table: &[u16; 256]) -> Verdict
+fn check_packet(layout: Layout, octets: &[u8], index: usize, table: &[u16; 256]) -> Verdict
     requires { ⌜ HeaderTable (now table) ⌝ }
-    ensures { λ r. ⌜ r ≡ verdictOf (readAnc rfc8331 index (now (octets .entry))) ⌝ }
+    ensures { λ r. ⌜ r ≡ verdictOf (readAnc layout index (now (octets .entry))) ⌝ }
 {
-    if octets.len() < LEAST_SIZE {
+    if octets.len() < least_size(layout) {
         return Verdict::refuse(Refusal::ANC_CUT, index);
     }
-    if !header_words_ok(octets, DID_AT, table) {
+    let did = did_at(layout);
+    if !header_words_ok(octets, did, table) {
         return Verdict::refuse(Refusal::HEADER_WORD_MALFORMED, index);
     }
-    let words = WordCount((fetch(octets, DATA_COUNT_AT) % HEADER_NUMBERS) as u8);
-    let size = packet_size(words);
+    let words = WordCount((fetch(octets, did + 2 * WORD_BITS) % HEADER_NUMBERS) as u8);
+    let size = packet_size(layout, words);
     if octets.len() < size.0 {
         return Verdict::refuse(Refusal::ANC_CUT, index);
     }
-    check_content(octets, words, size, index)
+    check_content(layout, octets, words, size, index)
 }
 
 // `count` packets at the front of the octets.
-pub fn check_run(octets: &[u8], count: usize) -> Run
-    ensures { λ r. ⌜ r ≡ runOf (readRun rfc8331 0 count (now (octets .entry))) ⌝ }
+pub fn check_run(layout: Layout, octets: &[u8], count: usize) -> Run
+    ensures { λ r. ⌜ r ≡ runOf layout (readRun layout 0 count (now (octets .entry))) ⌝ }
 {
     let table = words::table::header_words();
     let mut rest = octets;
@@ -164,13 +193,13 @@ pub fn check_run(octets: &[u8], count: usize) -> Run
     let mut cells: usize = 0;
     let mut i: usize = 0;
     while i < count {
-        let verdict = check_packet(rest, i, &table);
+        let verdict = check_packet(layout, rest, i, &table);
         match verdict {
             Verdict::Refused(refusal) => {
                 return Run::Refused(refusal);
             }
             Verdict::Accepted(words) => {
-                let size = packet_size(words);
+                let size = packet_size(layout, words);
                 let step = size.0;
                 rest = &rest[step..];
                 used = plus(used, size);

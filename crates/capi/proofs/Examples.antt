@@ -10,8 +10,12 @@ use Rattle.state_row.specs.State.{isState, stateIn}
 use Rattle.capi.specs.Calls.{arrive, openNumbers, openReply, readReply, vpidOf}
 
 -- an answer of seven numbers, and a state of eleven
-short-answer : readReply [] [] (replicate 7 0) ≡ record { number = 255; row = [] }
+short-answer : readReply 2 [] [] (replicate 7 0) ≡ record { number = 255; row = [] }
 short-answer = refl
+
+-- 2 is no layout
+no-layout : readReply 2 [] [] (replicate 8 0) ≡ record { number = 254; row = [] }
+no-layout = refl
 
 short-state : openReply 5 100 (replicate 11 0) (replicate 8 0) ≡ record { number = 255; row = [] }
 short-state = refl
@@ -29,7 +33,7 @@ unfolding isState
 read-back = refl
 
 -- heard 2, and a source over 32 bits, are in no state
-heard-2 : arrive (5 ∷ 100 ∷ 0 ∷ 2 ∷ replicate 8 0) [] [] (replicate 8 0) .reply ≡ record { number = 35; row = 0 ∷ [] }
+heard-2 : arrive 1 (5 ∷ 100 ∷ 0 ∷ 2 ∷ replicate 8 0) [] [] (replicate 8 0) .reply ≡ record { number = 35; row = 0 ∷ [] }
 unfolding isState
 heard-2 = refl
 

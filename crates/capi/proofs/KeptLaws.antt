@@ -14,24 +14,24 @@ use Rattle.state_row.specs.declared.state.Restored.the-variants as restored
 use Rattle.boundary.specs.Rows.{arrivalReply, rowReply}
 use Rattle.state_row.specs.State.{stateSize}
 use Rattle.state_row.specs.State.{isState, numbersOf, stateAt, stateIn}
-use Rattle.capi.specs.Calls.{Arrived, arrive, arrivedAt, rowsFit}
+use Rattle.capi.specs.Calls.{Arrived, arrive, arrivedAt, isLayout, layoutOf, layoutReply, noArrival, rowsFit}
 use Rattle.capi.proofs.RowLaws.{rows-long}
 use Rattle.state_row.proofs.StateLaws.{row-again}
 
-module _ (state octets store given : List ℕ) where
+module _ (layout : ℕ) (state octets store given : List ℕ) where
   -- what an arrival that is refused by a number other than 32 leaves alone
   abbrev Keeps : Arrived → Type 0
   Keeps a =
       (a .reply .number ≡ 0 → ⊥) → (a .reply .number ≡ 32 → ⊥) → (overwrite (a .numbers) state ≡ state) × (a .store ≡ store)
 
   abbrev next : Step
-  next = step (stateAt state) octets store
+  next = step (stateAt state) (layoutOf layout) octets store
 
   answer-keeps : isState state ≡ true → stateSize ≤ length state → (x : Answer) → next .answer ≡ x
       → (arrivalReply x .number ≡ 0 → ⊥) → (arrivalReply x .number ≡ 32 → ⊥)
       → (overwrite (numbersOf (next .state)) state ≡ state) × (next .store ≡ store)
   answer-keeps is long (answer.Refused x) e accepted late =
-      let k = refused-keeps (stateAt state) octets store x e .other late in
+      let k = refused-keeps (stateAt state) (layoutOf layout) octets store x e .other late in
       (ap (λ (z : Step). overwrite (numbersOf (z .state)) state) k ∙ row-again state is long, ap (λ (z : Step). z .store) k)
   answer-keeps is long answer.Skipped e accepted late = absurd (accepted refl)
   answer-keeps is long answer.Held e accepted late = absurd (accepted refl)
@@ -40,15 +40,20 @@ module _ (state octets store given : List ℕ) where
   answer-keeps is long (answer.Whole x) e accepted late = absurd (accepted refl)
 
   state-keeps : (b : Bool) → isState state ≡ b → stateSize ≤ length state
-      → Keeps (arrivedAt (cond b (restored.State (stateAt state)) restored.Unsound) octets store)
+      → Keeps (arrivedAt (layoutOf layout) (cond b (restored.State (stateAt state)) restored.Unsound) octets store)
   state-keeps true is long = answer-keeps is long (next .answer) refl
   state-keeps false is long = λ accepted late. (refl, refl)
 
+  layout-keeps : (b : Bool) → stateSize ≤ length state
+      → Keeps (cond b (arrivedAt (layoutOf layout) (stateIn state) octets store) (noArrival layoutReply store))
+  layout-keeps true long = state-keeps (isState state) refl long
+  layout-keeps false long = λ accepted late. (refl, refl)
+
   rows-keep : (b : Bool) → rowsFit (length state) (length given) ≡ b
-      → Keeps (cond b (arrivedAt (stateIn state) octets store) (record { reply = rowReply; numbers = []; store = store }))
-  rows-keep true fit = state-keeps (isState state) refl (rows-long (length state) (length given) fit .0)
+      → Keeps (cond b (cond (isLayout layout) (arrivedAt (layoutOf layout) (stateIn state) octets store) (noArrival layoutReply store)) (noArrival rowReply store))
+  rows-keep true fit = layout-keeps (isLayout layout) (rows-long (length state) (length given) fit .0)
   rows-keep false fit = λ accepted late. (refl, refl)
 
   -- "Lent memory is unchanged, and so is the keeper's state, but 32 adds one to the late count."
-  pub refused-keeps-row : Keeps (arrive state octets store given)
+  pub refused-keeps-row : Keeps (arrive layout state octets store given)
   refused-keeps-row = rows-keep (rowsFit (length state) (length given)) refl

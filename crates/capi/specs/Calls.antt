@@ -5,7 +5,7 @@ use Prim.Native.Nat.{ℕ}
 use lib.Dec.{eqb, leb}
 use lib.ListN.{length}
 use Rattle.wire.specs.Bits.{overwrite}
-use Rattle.wire.specs.Layout.{rfc8331}
+use Rattle.wire.specs.Layout.{Layout, rfc8331, draft2015}
 use Rattle.wire.specs.Packet.{readInto}
 use Rattle.wire.specs.Writing.{writeContent}
 use Rattle.wire.specs.Written.{octetsAfter, writtenOf}
@@ -30,13 +30,32 @@ use Rattle.boundary.specs.Rows.{Reply, refusedReply, acceptedReply, rowReply, p
 use Rattle.state_row.specs.State.{stateSize}
 use Rattle.state_row.specs.State.{numbersOf, stateIn}
 
+-- "Which layout applies is told by the caller" (02, K3): 0 is RFC 8331's, 1 the drafts'
+abbrev pub lastLayout : ℕ
+lastLayout = 1
+
+abbrev pub isLayout : ℕ → Bool
+isLayout n = leb n lastLayout
+
+abbrev pub layoutOf : ℕ → Layout
+layoutOf n = cond (eqb n 0) rfc8331 draft2015
+
+-- another number is refused by one of the boundary's own
+abbrev pub layoutUnknown : ℕ
+layoutUnknown = 254
+
+abbrev pub layoutReply : Reply
+layoutReply = record { number = layoutUnknown; row = [] }
+
 -- `jibhotran_read`: its reply
-abbrev pub readReply : (octets cells answer : List ℕ) → Reply
-readReply octets cells answer = given answer (packetReply (rtp.readOf (readInto rfc8331 octets (length cells)))) rowReply
+abbrev pub readReply : (layout : ℕ) (octets cells answer : List ℕ) → Reply
+readReply layout octets cells answer =
+    given answer (cond (isLayout layout) (packetReply (rtp.readOf (readInto (layoutOf layout) octets (length cells)))) layoutReply) rowReply
 
 -- the cells then
-abbrev pub readCells : (octets cells answer : List ℕ) → List ℕ
-readCells octets cells answer = given answer (rtp.cellsAfter (readInto rfc8331 octets (length cells)) cells) cells
+abbrev pub readCells : (layout : ℕ) (octets cells answer : List ℕ) → List ℕ
+readCells layout octets cells answer =
+    given answer (cond (isLayout layout) (rtp.cellsAfter (readInto (layoutOf layout) octets (length cells)) cells) cells) cells
 
 -- the six values beside a packet's records; a marker other than 0 marks it
 abbrev pub headOf : (source type marker number timestamp f : ℕ) → Head
@@ -51,12 +70,14 @@ headOf source type marker number timestamp f =
     }
 
 -- `jibhotran_write`: its reply
-abbrev pub writeReply : Head → (cells out answer : List ℕ) → Reply
-writeReply head cells out answer = given answer (writtenReply (writtenOf (writeContent rfc8331 (packetizer.contentOf head) cells (length out)))) rowReply
+abbrev pub writeReply : (layout : ℕ) → Head → (cells out answer : List ℕ) → Reply
+writeReply layout head cells out answer =
+    given answer (cond (isLayout layout) (writtenReply (writtenOf (writeContent (layoutOf layout) (packetizer.contentOf head) cells (length out)))) layoutReply) rowReply
 
 -- the octets then
-abbrev pub writeOctets : Head → (cells out answer : List ℕ) → List ℕ
-writeOctets head cells out answer = given answer (octetsAfter (writeContent rfc8331 (packetizer.contentOf head) cells (length out)) out) out
+abbrev pub writeOctets : (layout : ℕ) → Head → (cells out answer : List ℕ) → List ℕ
+writeOctets layout head cells out answer =
+    given answer (cond (isLayout layout) (octetsAfter (writeContent (layoutOf layout) (packetizer.contentOf head) cells (length out)) out) out) out
 
 -- are both rows long enough
 abbrev pub rowsFit : (state answer : ℕ) → Bool
@@ -104,23 +125,28 @@ abbrev pub stepped : Step → Arrived
 stepped x = record { reply = arrivalReply (x .answer); numbers = numbersOf (x .state); store = x .store }
 
 -- an arrival at the state that stands in a row; 35 where there is none
-abbrev pub arrivedAt : Restored → (octets store : List ℕ) → Arrived
-arrivedAt restored.Unsound octets store = record { reply = refusedReply (record { number = 35; index = 0 }); numbers = []; store = store }
-arrivedAt (restored.State s) octets store = stepped (step s octets store)
+abbrev pub arrivedAt : Layout → Restored → (octets store : List ℕ) → Arrived
+arrivedAt L restored.Unsound octets store = record { reply = refusedReply (record { number = 35; index = 0 }); numbers = []; store = store }
+arrivedAt L (restored.State s) octets store = stepped (step s L octets store)
 
 -- the state after an arrival
-abbrev pub stateAfter : Restored → (octets store : List ℕ) → Restored
-stateAfter restored.Unsound octets store = restored.Unsound
-stateAfter (restored.State s) octets store = restored.State (step s octets store .state)
+abbrev pub stateAfter : Layout → Restored → (octets store : List ℕ) → Restored
+stateAfter L restored.Unsound octets store = restored.Unsound
+stateAfter L (restored.State s) octets store = restored.State (step s L octets store .state)
+
+-- nothing arrived
+abbrev pub noArrival : Reply → (store : List ℕ) → Arrived
+noArrival reply store = record { reply = reply; numbers = []; store = store }
 
 -- `jibhotran_arrive`: what it gives
-abbrev pub arrive : (state octets store answer : List ℕ) → Arrived
-arrive state octets store answer =
-    givenBoth state answer (arrivedAt (stateIn state) octets store) (record { reply = rowReply; numbers = []; store = store })
+abbrev pub arrive : (layout : ℕ) (state octets store answer : List ℕ) → Arrived
+arrive layout state octets store answer =
+    givenBoth state answer (cond (isLayout layout) (arrivedAt (layoutOf layout) (stateIn state) octets store) (noArrival layoutReply store)) (noArrival rowReply store)
 
 -- the state that then stands in the row: the library's next one
-abbrev pub stateArrived : (state octets store answer : List ℕ) → Restored
-stateArrived state octets store answer = givenBoth state answer (stateAfter (stateIn state) octets store) (stateIn state)
+abbrev pub stateArrived : (layout : ℕ) (state octets store answer : List ℕ) → Restored
+stateArrived layout state octets store answer =
+    givenBoth state answer (cond (isLayout layout) (stateAfter (layoutOf layout) (stateIn state) octets store) (stateIn state)) (stateIn state)
 
 -- `jibhotran_sdp_read`: its reply
 abbrev pub sdpReadReply : (text pairs answer : List ℕ) → Reply

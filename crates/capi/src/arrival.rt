@@ -3,7 +3,10 @@ ghost use mathlib.Core.Path.{_≡_};
 ghost use Rattle.wire.specs.Bits.{overwrite};
 ghost use Rattle.capi.specs.Calls.{arrive, openNumbers, openReply, rowsFit, stateArrived, stateOpened};
 ghost use Rattle.state_row.specs.State.{stateIn};
+use crate::layout::LAST_LAYOUT;
+use crate::layout::layout_of;
 use crate::length::ANSWER_SIZE;
+use crate::length::LAYOUT_UNKNOWN;
 use crate::length::ROW_TOO_SHORT;
 use crate::length::STATE_SIZE;
 use boundary::answer::reply_arrival;
@@ -52,19 +55,23 @@ pub extern "C" fn jibhotran_open(
 // One arrival: the next state, the field's cells in the store, and what became of the packet.
 #[no_mangle]
 pub extern "C" fn jibhotran_arrive(
+    layout: u8,
     state: &mut [u64],
     octets: &[u8],
     store: &mut [u16],
     answer: &mut [u64],
 ) -> u8
-    ensures { λ r. ⌜ r ≡ arrive (now (state .entry)) (now (octets .entry)) (now (store .entry)) (now (answer .entry)) .reply .number ⌝ }
-    ensures { λ r. ⌜ now (state .exit) ≡ overwrite (arrive (now (state .entry)) (now (octets .entry)) (now (store .entry)) (now (answer .entry)) .numbers) (now (state .entry)) ⌝ }
-    ensures { λ r. ⌜ now (store .exit) ≡ arrive (now (state .entry)) (now (octets .entry)) (now (store .entry)) (now (answer .entry)) .store ⌝ }
-    ensures { λ r. ⌜ now (answer .exit) ≡ overwrite (arrive (now (state .entry)) (now (octets .entry)) (now (store .entry)) (now (answer .entry)) .reply .row) (now (answer .entry)) ⌝ }
-    ensures { λ r. ⌜ stateIn (now (state .exit)) ≡ stateArrived (now (state .entry)) (now (octets .entry)) (now (store .entry)) (now (answer .entry)) ⌝ }
+    ensures { λ r. ⌜ r ≡ arrive layout (now (state .entry)) (now (octets .entry)) (now (store .entry)) (now (answer .entry)) .reply .number ⌝ }
+    ensures { λ r. ⌜ now (state .exit) ≡ overwrite (arrive layout (now (state .entry)) (now (octets .entry)) (now (store .entry)) (now (answer .entry)) .numbers) (now (state .entry)) ⌝ }
+    ensures { λ r. ⌜ now (store .exit) ≡ arrive layout (now (state .entry)) (now (octets .entry)) (now (store .entry)) (now (answer .entry)) .store ⌝ }
+    ensures { λ r. ⌜ now (answer .exit) ≡ overwrite (arrive layout (now (state .entry)) (now (octets .entry)) (now (store .entry)) (now (answer .entry)) .reply .row) (now (answer .entry)) ⌝ }
+    ensures { λ r. ⌜ stateIn (now (state .exit)) ≡ stateArrived layout (now (state .entry)) (now (octets .entry)) (now (store .entry)) (now (answer .entry)) ⌝ }
 {
     if !rows_fit(state.len(), answer.len()) {
         return ROW_TOO_SHORT;
+    }
+    if layout > LAST_LAYOUT {
+        return LAYOUT_UNKNOWN;
     }
     let restored = state_in(state);
     match restored {
@@ -77,7 +84,7 @@ pub extern "C" fn jibhotran_arrive(
         ),
         Restored::State(kept) => {
             let depacketizer = Depacketizer { state: kept };
-            let arrival = depacketizer.arrive(octets, store);
+            let arrival = depacketizer.arrive(layout_of(layout), octets, store);
             let next = arrival.state;
             let outcome = arrival.answer;
             put_state(next.state, state);

@@ -6,5 +6,7 @@ pub(crate) const ANSWER_SIZE: usize = 8;
 // Numbers that a state needs.
 pub(crate) const STATE_SIZE: usize = 12;
 
-// A row is too short: a number of this boundary, beside the refusals.
+// Numbers of this boundary, beside the refusals: a row is too short; then, no layout has the number that is given as one.
 pub(crate) const ROW_TOO_SHORT: u8 = 255;
+
+pub(crate) const LAYOUT_UNKNOWN: u8 = 254;

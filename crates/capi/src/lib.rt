@@ -4,6 +4,7 @@
 // The crate `boundary` has the rows; the modules here have the calls.
 pub mod arrival;
 pub mod file;
+mod layout;
 mod length;
 pub mod packet;
 pub mod parameters;

@@ -1,5 +1,6 @@
 pub mod FourOctets
 pub mod ListRun
+pub mod ListFront
 pub mod PacketBits
 pub mod RunLeft
 pub mod ListedLaws

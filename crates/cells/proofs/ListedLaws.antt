@@ -7,24 +7,25 @@ use native.Mathlib.Omega.{arith}
 use lib.ListN.{length}
 use Rattle.wire.specs.declared.refusal.Refusal.{Refusal}
 use Rattle.wire.specs.declared.count.OctetCount.{OctetCount}
-use Rattle.wire.specs.Layout.{rfc8331}
+use Rattle.wire.specs.Layout.{Layout}
 use Rattle.wire.specs.Result.{Result, refused, accepted}
 use Rattle.wire.specs.Anc.{Record, runSize}
 use Rattle.cells.specs.Answers.{listedOf}
 use Rattle.cells.specs.declared.check.Listed.the-variants as listed
 
-pub record Taken (r : Result (List Record)) (n : ℕ) (o : OctetCount) : Type 0 where
-  pub rs : List Record
-  pub reads : r ≡ accepted rs
-  pub count : length rs ≡ n
-  pub size : runSize rfc8331 rs ≡ o .0
+module _ (L : Layout) where
+  pub record Taken (r : Result (List Record)) (n : ℕ) (o : OctetCount) : Type 0 where
+    pub rs : List Record
+    pub reads : r ≡ accepted rs
+    pub count : length rs ≡ n
+    pub size : runSize L rs ≡ o .0
 
-pub taken : (r : Result (List Record)) (n : ℕ) (o : OctetCount) → listedOf r ≡ listed.Records n o → Taken r n o
-taken (refused x) n o e = let z : _≡_ {A = ℕ} 0 1 = cc in absurd (omega arith)
-taken (accepted rs) n o e =
-    let u : record { 0 = runSize rfc8331 rs } ≡ o = cc in
-    record { rs = rs; reads = refl; count = (cc); size = ap (λ (y : OctetCount). y .0) u }
+  pub taken : (r : Result (List Record)) (n : ℕ) (o : OctetCount) → listedOf L r ≡ listed.Records n o → Taken r n o
+  taken (refused x) n o e = let z : _≡_ {A = ℕ} 0 1 = cc in absurd (omega arith)
+  taken (accepted rs) n o e =
+      let u : record { 0 = runSize L rs } ≡ o = cc in
+      record { rs = rs; reads = refl; count = (cc); size = ap (λ (y : OctetCount). y .0) u }
 
-pub listed-refused : (r : Result (List Record)) (x : Refusal) → listedOf r ≡ listed.Refused x → r ≡ refused x
-listed-refused (refused y) x e = let i : y ≡ x = cc in ap refused i
-listed-refused (accepted rs) x e = let z : _≡_ {A = ℕ} 0 1 = cc in absurd (omega arith)
+  pub listed-refused : (r : Result (List Record)) (x : Refusal) → listedOf L r ≡ listed.Refused x → r ≡ refused x
+  listed-refused (refused y) x e = let i : y ≡ x = cc in ap refused i
+  listed-refused (accepted rs) x e = let z : _≡_ {A = ℕ} 0 1 = cc in absurd (omega arith)

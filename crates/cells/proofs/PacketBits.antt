@@ -1,22 +1,20 @@
--- The packet of a record, as its stores leave it: the octets before DID, the header words, the words and the checksum.
+-- The packet of a record, as its stores leave it: the octets before DID, the header words, R, the words and the checksum.
 -- Each store is a splice of bits behind the one before, over octets whose end was cleared.
-use mathlib.Core.Path.{_≡_, ap, sym, _∙_}
+use mathlib.Core.Path.{_≡_, refl, ap, sym, _∙_}
 use mathlib.Core.Bool.{Bool}
-use mathlib.Core.List.{List, [], _∷_, _++_}
-use Prim.Native.Nat.{ℕ, _+_, _-_, _*_, _<_, _≤_}
+use mathlib.Core.List.{List, [], _∷_, _++_, append-assoc}
+use Prim.Native.Nat.{ℕ, suc, _+_, _-_, _*_, _/_, _%_, _<_, _≤_}
 use native.Mathlib.Omega.{arith}
-use lib.ListN.{length, getD}
-use Rattle.wire.specs.Bits.{toBits, bits, Fields, row, fieldBits, pack, Below, overwrite, splice}
-use Rattle.wire.specs.Words.{wordBits, headerNumbers, HeaderTable, sumLow, checksumWord}
-use Rattle.wire.specs.Layout.{rfc8331}
-use Rattle.wire.specs.Anc.{Record, WellFormed, checksum, locationFields, bodyFields, ancFields, ancOctets, ancSize, didAt, wordsAt}
-use Rattle.wire.proofs.BitLaws.{length-fieldBits, bits-octets, width-row}
-use Rattle.wire.proofs.ListLaws.{splice-append}
-use Rattle.wire.proofs.PacketStore.{fieldBits-append, fieldBits-one, store-behind, aligned}
+use lib.ListN.{length, getD, set}
+use Rattle.wire.specs.Bits.{toBits, bits, Fields, width, row, fieldBits, pack, Below, overwrite, splice}
+use Rattle.wire.specs.Words.{wordBits, HeaderTable, sumLow, checksumWord}
+use Rattle.wire.specs.Layout.{Layout, rfc8331, draft2015}
+use Rattle.wire.specs.Anc.{Record, WellFormed, checksum, locationFields, headerFields, bodyFields, ancFields, ancOctets, ancSize, didAt, wordsAt}
+use Rattle.wire.proofs.BitLaws.{length-bits, length-fieldBits, bits-octets, width-row}
+use Rattle.wire.proofs.ListLaws.{splice-append, set-splice}
+use Rattle.wire.proofs.PacketStore.{fieldBits-append, fieldBits-one, store-behind, zeros-behind, location-behind, aligned}
 use Rattle.wire.proofs.SizeLaws.{width-anc}
 use Rattle.wire.proofs.Store.{bits-splice, stored}
-use Rattle.record.specs.Header.{headerOf, headerLocation}
-use Rattle.record.proofs.HeaderLaws.{header-location}
 use Rattle.cells.specs.Packet.{headWords, summed}
 
 -- a sum of words fits its type
@@ -30,46 +28,72 @@ pub entries-are : (table : List ℕ) (r : Record) → HeaderTable table → Well
 entries-are table r t f = λ i. t .entry (r .did) (f .did) i ∷ t .entry (r .sdid) (f .sdid) i ∷ t .entry (length (r .words)) (f .count) i ∷ []
 
 -- the words, and the checksum word stored behind them
-pub summed-stored : (b : List Bool) (words : List ℕ) (sum : ℕ) → wordsAt rfc8331 ≤ length b
-    → splice (splice b (wordsAt rfc8331) (fieldBits (row wordBits words))) (wordsAt rfc8331 + wordBits * length words)
-    (toBits wordBits (checksumWord (sum + sumLow words)))
-    ≡ splice b (wordsAt rfc8331) (fieldBits (summed words sum))
-summed-stored b words sum h =
+pub summed-stored : (b : List Bool) (at : ℕ) (words : List ℕ) (sum : ℕ) → at ≤ length b
+    → splice (splice b at (fieldBits (row wordBits words))) (at + wordBits * length words) (toBits wordBits (checksumWord (sum + sumLow words)))
+    ≡ splice b at (fieldBits (summed words sum))
+summed-stored b at words sum h =
     let fs = row wordBits words in
     let last : Fields = (wordBits, checksumWord (sum + sumLow words)) ∷ [] in
     (λ i.
-    splice (splice b (wordsAt rfc8331) (fieldBits fs)) (wordsAt rfc8331 + sym (length-fieldBits fs ∙ width-row wordBits words) i)
+    splice (splice b at (fieldBits fs)) (at + sym (length-fieldBits fs ∙ width-row wordBits words) i)
     (sym (fieldBits-one wordBits (checksumWord (sum + sumLow words))) i))
-    ∙ splice-append b (wordsAt rfc8331) (fieldBits fs) (fieldBits last) h
-    ∙ ap (splice b (wordsAt rfc8331)) (sym (fieldBits-append fs last))
+    ∙ splice-append b at (fieldBits fs) (fieldBits last) h
+    ∙ ap (splice b at) (sym (fieldBits-append fs last))
 
-module _ (r : Record) (formed : WellFormed rfc8331 r) where
-  abbrev places : Fields
-  places = locationFields rfc8331 r
+module _ (L : Layout) (r : Record) where
+  -- the header words behind the place
+  abbrev headed : Fields
+  headed = locationFields L r ++ row wordBits (headWords r)
+
+  -- fields stored right behind others
+  behind : (b : List Bool) (fs gs : Fields) (at : ℕ) → at ≡ width fs → splice (splice b 0 (fieldBits fs)) at (fieldBits gs) ≡ splice b 0 (fieldBits (fs ++ gs))
+  behind b fs gs at e = ap (λ (k : ℕ). splice (splice b 0 (fieldBits fs)) k (fieldBits gs)) e ∙ store-behind b fs gs
+
+  -- the octets before DID as RFC 8331 has them, and the header words
+  pub head-stored : (s s₁ s₂ : List ℕ) → s₁ ≡ overwrite (pack (locationFields rfc8331 r)) s
+      → bits s₂ ≡ splice (bits s₁) (didAt L) (fieldBits (row wordBits (headWords r)))
+      → bits s₂ ≡ splice (bits s) 0 (fieldBits headed)
+  head-stored s s₁ s₂ e₁ e₂ =
+      let lf = locationFields rfc8331 r in
+      let ws = row wordBits (headWords r) in
+      let b₁ : bits s₁ ≡ splice (bits s) 0 (fieldBits lf) =
+      ap bits e₁ ∙ bits-splice s 0 (pack lf) ∙ ap (splice (bits s) 0) (bits-octets 4 (fieldBits lf) (length-fieldBits lf)) in
+      e₂ ∙ ap (λ (b : List Bool). splice b (didAt L) (fieldBits ws)) b₁ ∙ location-behind L (bits s) r ws (omega arith)
+
+  abbrev tail : Fields
+  tail = summed (r .words) (sumLow (headWords r))
 
   -- the sums of the header words and of the words, together, make the record's checksum
-  body-is : fieldBits ((places ++ row wordBits (headWords r)) ++ summed (r .words) (sumLow (headWords r))) ≡ fieldBits (bodyFields rfc8331 r)
-  unfolding fieldBits toBits
+  body-is : fieldBits (headerFields L r ++ tail) ≡ fieldBits (bodyFields L r)
   body-is =
       let e : checksumWord (sumLow (headWords r) + sumLow (r .words)) ≡ checksum r = ap checksumWord (omega arith) in
-      ap (λ (w : ℕ). fieldBits ((places ++ row wordBits (headWords r)) ++ (row wordBits (r .words) ++ (wordBits, w) ∷ []))) e
+      ap (λ (w : ℕ). fieldBits (headerFields L r ++ (row wordBits (r .words) ++ (wordBits, w) ∷ []))) e
 
-  module _ (s s₁ s₂ s₃ s₄ : List ℕ) where
-    pub written : Below 256 s → Below 256 s₄ → ancSize rfc8331 (length (r .words)) ≤ length s
-        → s₁ ≡ splice s (ancSize rfc8331 (length (r .words)) - 4) (0 ∷ 0 ∷ 0 ∷ 0 ∷ [])
-        → s₂ ≡ overwrite (pack (headerLocation (headerOf r))) s₁
-        → bits s₃ ≡ splice (bits s₂) (didAt rfc8331) (fieldBits (row wordBits (headWords r)))
-        → bits s₄ ≡ splice (bits s₃) (wordsAt rfc8331) (fieldBits (summed (r .words) (sumLow (headWords r))))
-        → s₄ ≡ overwrite (ancOctets rfc8331 r) s
-    written h h₄ l e₁ e₂ e₃ e₄ =
-        let lf = headerLocation (headerOf r) in
-        let f₃ = places ++ row wordBits (headWords r) in
-        let tail = summed (r .words) (sumLow (headWords r)) in
-        let b₂ : bits s₂ ≡ splice (bits s₁) 0 (fieldBits places) =
-        ap bits e₂ ∙ bits-splice s₁ 0 (pack lf) ∙ ap (splice (bits s₁) 0) (bits-octets 4 (fieldBits lf) (length-fieldBits lf) ∙ ap fieldBits (header-location r (formed .c) (formed .s))) in
-        let b₃ : bits s₃ ≡ splice (bits s₁) 0 (fieldBits f₃) =
-        e₃ ∙ ap (λ (b : List Bool). splice b (didAt rfc8331) (fieldBits (row wordBits (headWords r)))) b₂ ∙ store-behind (bits s₁) places (row wordBits (headWords r)) in
-        let b₄ : bits s₄ ≡ splice (bits s₁) 0 (fieldBits (f₃ ++ tail)) =
-        e₄ ∙ ap (λ (b : List Bool). splice b (wordsAt rfc8331) (fieldBits tail)) b₃ ∙ store-behind (bits s₁) f₃ tail in
-        stored s s₄ h h₄ 0 (ancSize rfc8331 (length (r .words))) (ancFields rfc8331 r) (width-anc rfc8331 r) (omega arith)
-        (b₄ ∙ ap (splice (bits s₁) 0) body-is ∙ ap (λ (x : List ℕ). splice (bits x) 0 (fieldBits (bodyFields rfc8331 r))) e₁ ∙ aligned s r l)
+  -- THE PACKET: its last octets cleared, then all before the words, then the words and the checksum
+  pub written : (s s₁ s₂ s₃ : List ℕ) → Below 256 s → Below 256 s₃ → (size : ℕ) → size ≡ ancSize L (length (r .words)) → size ≤ length s
+      → s₁ ≡ splice s (size - 4) (0 ∷ 0 ∷ 0 ∷ 0 ∷ [])
+      → bits s₂ ≡ splice (bits s₁) 0 (fieldBits (headerFields L r))
+      → (sum : ℕ) (words : List ℕ) → sum ≡ sumLow (headWords r) → words ≡ r .words
+      → bits s₃ ≡ splice (bits s₂) (wordsAt L) (fieldBits (summed words sum))
+      → s₃ ≡ overwrite (ancOctets L r) s
+  written s s₁ s₂ s₃ h h₃ size e l e₁ e₂ sum words es ew e₃ =
+      let cleared = e₁ ∙ ap (λ (k : ℕ). splice s (k - 4) (0 ∷ 0 ∷ 0 ∷ 0 ∷ [])) e in
+      let b₃ : bits s₃ ≡ splice (bits s₁) 0 (fieldBits (headerFields L r ++ tail)) =
+      e₃ ∙ (λ i. splice (e₂ i) (wordsAt L) (fieldBits (summed (ew i) (es i)))) ∙ behind (bits s₁) (headerFields L r) tail (wordsAt L) (omega arith) in
+      stored s s₃ h h₃ 0 (ancSize L (length (r .words))) (ancFields L r) (width-anc L r) (omega arith)
+      (b₃ ∙ ap (splice (bits s₁) 0) body-is ∙ ap (λ (x : List ℕ). splice (bits x) 0 (fieldBits (bodyFields L r))) cleared ∙ aligned L s r (omega arith))
+
+-- R: RFC 8331's layout has none; the drafts' is what is left of an octet that was cleared
+pub no-r : (r : Record) → fieldBits (headed rfc8331 r) ≡ fieldBits (headerFields rfc8331 r)
+unfolding fieldBits toBits
+no-r r = refl
+
+pub r-cleared : (r : Record) (s : List ℕ) → 7 ≤ length s
+    → splice (bits (set s 6 0)) 0 (fieldBits (headed draft2015 r)) ≡ splice (bits s) 0 (fieldBits (headerFields draft2015 r))
+r-cleared r s l =
+    ap (λ (b : List Bool). splice b 0 (fieldBits (headed draft2015 r)))
+    (ap bits (set-splice s 6 0 (omega arith)) ∙ bits-splice s 6 (0 ∷ []) ∙ ap (splice (bits s) 48) zeros)
+    ∙ zeros-behind (bits s) 48 6 2 (headed draft2015 r) (omega arith) (omega (arith, length-bits s))
+  where
+    zeros : bits (0 ∷ []) ≡ toBits 8 0
+    zeros = unfold bits toBits in refl

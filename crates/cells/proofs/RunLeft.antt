@@ -1,96 +1,74 @@
 -- A list written record by record: the records that are left, behind those that are written, make the whole run.
 -- By the record at the front of the cells, and by the law of one store after the other.
-use mathlib.Core.Path.{_≡_, ap, sym, _∙_, subst}
-use mathlib.Core.List.{List, [], _∷_}
+use mathlib.Core.Path.{_≡_, refl, ap, sym, _∙_}
+use mathlib.Core.List.{List, [], _∷_, _++_}
 use Prim.Native.Nat.{ℕ, _+_, _<_, _≤_}
 use native.Mathlib.Omega.{arith}
 use lib.ListN.{length, length-append}
 use Rattle.wire.specs.Bits.{overwrite, splice}
-use Rattle.wire.specs.Layout.{rfc8331}
+use Rattle.wire.specs.Layout.{Layout}
 use Rattle.wire.specs.Result.{IsAccepted}
-use Rattle.wire.specs.Anc.{Each, Record, WellFormed, ancOctets, runOctets, ancSize}
-use Rattle.wire.specs.Cells.{headCells, listOf, cellCount, cellRecord, cellChecks, rest, readList}
-use Rattle.wire.proofs.CellLaws.{front-reads, list-iff}
+use Rattle.wire.specs.Anc.{ancOctets, runOctets, ancSize}
+use Rattle.wire.specs.Cells.{cellCount, cellRecord, recordsFrom, rest, readList}
 use Rattle.wire.proofs.ListLaws.{length-splice, splice-append, splice-none}
-use Rattle.wire.proofs.ResultLaws.{Passed, accepted-is}
 use Rattle.wire.proofs.SizeLaws.{length-anc}
 use Rattle.cells.specs.Answers.{listOctets}
-use Rattle.record.proofs.FrontLaws.{lies}
+use Rattle.cells.proofs.ListFront.{Front, front}
 
--- the cells `left` are those of records whose run, from octet `to` on, makes the octets `all`
-pub record ToWrite (all octets left : List ℕ) (to : ℕ) : Type 0 where
-  pub records : List Record
-  pub formed : Each (WellFormed rfc8331) records
-  pub cells : left ≡ listOf records
-  pub room : to + length (runOctets rfc8331 records) ≤ length octets
-  pub written : splice octets to (runOctets rfc8331 records) ≡ all
+module _ (L : Layout) where
+  -- the run of the cells `left`, from octet `to` on, makes the octets `all`
+  pub record ToWrite (all octets left : List ℕ) (to : ℕ) : Type 0 where
+    pub accepts : IsAccepted (readList left)
+    pub room : to + length (listOctets L (readList left)) ≤ length octets
+    pub written : splice octets to (listOctets L (readList left)) ≡ all
 
--- before the first record
-pub to-write-all : (cells octets : List ℕ) → IsAccepted (readList cells) → length (listOctets (readList cells)) ≤ length octets
-    → ToWrite (overwrite (listOctets (readList cells)) octets) octets cells 0
-to-write-all cells octets h l =
-    let a = accepted-is (readList cells) h in
-    let p = list-iff cells (a .0) .0 (a .1) in
-    let e : listOctets (readList cells) ≡ runOctets rfc8331 (a .0) = ap listOctets (a .1) in
-    record {
-      records = a .0;
-      formed = p .0;
-      cells = p .1;
-      room = rw (← e) (omega arith);
-      written = ap (λ (x : List ℕ). overwrite x octets) (sym e);
-    }
+  -- before the first record
+  pub to-write-all : (cells octets : List ℕ) → IsAccepted (readList cells) → length (listOctets L (readList cells)) ≤ length octets
+      → ToWrite (overwrite (listOctets L (readList cells)) octets) octets cells 0
+  to-write-all cells octets h l = record { accepts = h; room = omega arith; written = refl }
 
--- after the last
-pub to-write-none : (all octets left : List ℕ) (to : ℕ) → ToWrite all octets left to → length left ≤ 0 → octets ≡ all
-to-write-none all octets left to w h = go (w .records) (w .cells) (w .written)
-  where
-    go : (rs : List Record) → left ≡ listOf rs → splice octets to (runOctets rfc8331 rs) ≡ all → octets ≡ all
-    go [] e g = sym (splice-none octets to) ∙ g
-    go (r ∷ rs) e g = absurd (omega (arith, ap length e))
+  -- after the last
+  pub to-write-none : (all octets left : List ℕ) (to : ℕ) → ToWrite all octets left to → length left ≤ 0 → octets ≡ all
+  unfolding recordsFrom
+  to-write-none all octets [] to w h = sym (splice-none octets to) ∙ w .written
+  to-write-none all octets (x ∷ left) to w h = absurd (omega arith)
 
--- the record at the front, and what is left when it is written
-pub record Next (all octets left : List ℕ) (to : ℕ) : Type 0 where
-  pub formed : WellFormed rfc8331 (cellRecord left)
-  pub inside : headCells + cellCount left ≤ length left
-  pub room : to + ancSize rfc8331 (cellCount left) ≤ length octets
-  pub then : ToWrite all (splice octets to (ancOctets rfc8331 (cellRecord left))) (rest left) (to + ancSize rfc8331 (cellCount left))
+  -- the record at the front, and what is left when it is written
+  pub record Next (all octets left : List ℕ) (to : ℕ) : Type 0 where
+    pub front : Front left
+    pub room : to + ancSize L (cellCount left) ≤ length octets
+    pub then : ToWrite all (splice octets to (ancOctets L (cellRecord left))) (rest left) (to + ancSize L (cellCount left))
 
-pub next : (all octets left : List ℕ) (to : ℕ) → ToWrite all octets left to → 0 < length left → Next all octets left to
-next all octets left to w h = go (w .records) (w .formed) (w .cells) (w .room) (w .written)
-  where
-    go : (rs : List Record) → Each (WellFormed rfc8331) rs → left ≡ listOf rs → to + length (runOctets rfc8331 rs) ≤ length octets
-        → splice octets to (runOctets rfc8331 rs) ≡ all → Next all octets left to
-    go [] f e l g = absurd (omega (arith, ap length e))
-    go (r ∷ rs) f e l g =
-        let p = subst (λ (y : List ℕ). Passed (cellChecks y) × (cellRecord y ≡ r) × (rest y ≡ listOf rs)) (sym e) (front-reads r (listOf rs) (f .0)) in
-        let q = lies left (p .0) in
-        let o = ancOctets rfc8331 r in
-        let size : ancSize rfc8331 (cellCount left) ≡ length o =
-        ap (ancSize rfc8331) (sym (q .words) ∙ ap (λ (x : Record). length (x .words)) (p .1)) ∙ sym (length-anc rfc8331 r) in
-        let same = ap (ancOctets rfc8331) (p .1) in
-        let l′ = length-append o (runOctets rfc8331 rs) in
-        let fits : to + length o ≤ length octets = omega arith in
-        record {
-          formed = subst (WellFormed rfc8331) (sym (p .1)) (f .0);
-          inside = q .inside;
-          room = rw size fits;
-          then = record {
-            records = rs;
-            formed = f .1;
-            cells = p .2;
-            room = rw (same, size, length-splice octets to o fits) (omega arith);
-            written = (λ i. splice (splice octets to (same i)) (to + size i) (runOctets rfc8331 rs)) ∙ splice-append octets to o (runOctets rfc8331 rs) (omega arith) ∙ g;
-          };
-        }
+  pub next : (all octets left : List ℕ) (to : ℕ) → ToWrite all octets left to → 0 < length left → Next all octets left to
+  next all octets left to w h =
+      let q = front left (w .accepts) h in
+      let o = ancOctets L (cellRecord left) in
+      let os = listOctets L (readList (rest left)) in
+      let size : ancSize L (cellCount left) ≡ length o = ap (ancSize L) (sym (q .lies .words)) ∙ sym (length-anc L (cellRecord left)) in
+      let all-of : listOctets L (readList left) ≡ _ = ap (runOctets L) (q .records) in
+      let l : to + length (o ++ os) ≤ length octets = rw all-of at (w .room) in
+      let l′ = length-append o os in
+      let fits : to + length o ≤ length octets = omega arith in
+      record {
+        front = q;
+        room = rw size fits;
+        then = record {
+          accepts = q .behind;
+          room = rw (size, length-splice octets to o fits) (omega arith);
+          written =
+              ap (λ (k : ℕ). splice (splice octets to o) (to + k) os) size
+              ∙ splice-append octets to o os (omega arith)
+              ∙ ap (splice octets to) (sym all-of)
+              ∙ w .written;
+        };
+      }
 
--- the same, where the code has it
-pub to-write-same : (all octets octets′ left left′ : List ℕ) (to to′ : ℕ) → octets′ ≡ octets → left′ ≡ left → to′ ≡ to
-    → ToWrite all octets left to → ToWrite all octets′ left′ to′
-to-write-same all octets octets′ left left′ to to′ eo el et w =
-    record {
-      records = w .records;
-      formed = w .formed;
-      cells = el ∙ w .cells;
-      room = rw (eo, et) (w .room);
-      written = (λ i. splice (eo i) (et i) (runOctets rfc8331 (w .records))) ∙ w .written;
-    }
+  -- the same, where the code has it
+  pub to-write-same : (all octets octets′ left left′ : List ℕ) (to to′ : ℕ) → octets′ ≡ octets → left′ ≡ left → to′ ≡ to
+      → ToWrite all octets left to → ToWrite all octets′ left′ to′
+  to-write-same all octets octets′ left left′ to to′ eo el et w =
+      record {
+        accepts = rw el (w .accepts);
+        room = rw (eo, el, et) (w .room);
+        written = (λ i. splice (eo i) (et i) (listOctets L (readList (el i)))) ∙ w .written;
+      }

@@ -3,14 +3,17 @@ ghost use mathlib.Core.Path.{_≡_};
 ghost use Prim.Native.Nat.{_+_};
 ghost use lib.Dec.{leb};
 ghost use Rattle.wire.specs.Cells.{readList};
-ghost use Rattle.cells.specs.Answers.{listRefusal, listedOf};
+ghost use Rattle.wire.specs.Result.{IsAccepted};
+ghost use Rattle.wire.specs.Writing.{noStream};
+ghost use Rattle.cells.specs.Answers.{listRecords, listRefusal, listedOf};
+use places::packet_size;
+use places::plus;
 use record::check::Front;
 use record::check::check_record;
 use record::header::Header;
 use wire::count::OctetCount;
+use wire::layout::Layout;
 use wire::refusal::Refusal;
-use words::size::packet_size;
-use words::size::plus;
 
 // What a list is: its records, and the octets that they take as ANC data packets.
 pub enum Listed {
@@ -43,9 +46,9 @@ impl Listed {
     }
 }
 
-// All records of the list.
-pub fn check_list(cells: &[u16]) -> Listed
-    ensures { λ r. ⌜ r ≡ listedOf (readList (now (cells .entry))) ⌝ }
+// All records of the list, and the octets that they take in the layout.
+pub fn check_list(layout: Layout, cells: &[u16]) -> Listed
+    ensures { λ r. ⌜ r ≡ listedOf layout (readList (now (cells .entry))) ⌝ }
 {
     let mut rest = cells;
     let mut octets = OctetCount(0);
@@ -60,7 +63,7 @@ pub fn check_list(cells: &[u16]) -> Listed
                 });
             }
             Front::Record(words) => {
-                let size = packet_size(words);
+                let size = packet_size(layout, words);
                 let step = Header::CELLS + (words.0 as usize);
                 rest = &rest[step..];
                 octets = plus(octets, size);
@@ -69,6 +72,21 @@ pub fn check_list(cells: &[u16]) -> Listed
         count += 1;
     }
     Listed::Records { count, octets }
+}
+
+// No record of the list has S or StreamNum. It asks for a list that was checked.
+pub fn no_stream(cells: &[u16]) -> bool
+    requires { ⌜ IsAccepted (readList (now cells)) ⌝ }
+    ensures { λ r. ⌜ r ≡ noStream (listRecords (readList (now (cells .entry)))) ⌝ }
+{
+    let mut none = true;
+    let mut rest = cells;
+    while rest.len() > 0 {
+        none = none & ((rest[3] == 0) & (rest[4] == 0));
+        let step = Header::CELLS + (rest[Header::COUNT_CELL] as usize);
+        rest = &rest[step..];
+    }
+    none
 }
 
 // So many octets behind `front` others are at most `most`.

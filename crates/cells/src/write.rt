@@ -1,26 +1,29 @@
 // Records that were checked, written as octets. Each function asks that the check accepted what it writes, and for the room.
 ghost use mathlib.Core.Path.{_≡_};
-ghost use Prim.Native.Nat.{_+_, _-_, _^_, _<_, _≤_};
+ghost use Prim.Native.Nat.{_+_, _-_, _*_, _^_, _<_, _≤_};
 ghost use mathlib.Core.List.{[], _∷_};
 ghost use lib.ListN.{length};
 ghost use Rattle.wire.specs.Anc.{WellFormed, ancOctets, ancSize, wordsAt};
-ghost use Rattle.wire.specs.Bits.{Below, bits, fieldBits, overwrite, splice};
+ghost use Rattle.wire.specs.Bits.{Below, bits, fieldBits, overwrite, splice, toBits};
 ghost use Rattle.wire.specs.Cells.{cellCount, cellRecord, headCells, readList};
 ghost use Rattle.wire.specs.Layout.{rfc8331};
 ghost use Rattle.wire.specs.Result.{IsAccepted};
-ghost use Rattle.wire.specs.Words.{HeaderTable, headerNumbers, wordBits};
+ghost use Rattle.wire.specs.Words.{HeaderTable, checksumWord, headerNumbers, sumLow, wordBits};
+ghost use Rattle.words.specs.Word.{WordsFit};
 ghost use Rattle.cells.specs.Answers.{listOctets};
 ghost use Rattle.cells.specs.Packet.{summed};
-use crate::head::write_header_words;
-use crate::head::write_location;
+use crate::head::write_head;
+use places::packet_size;
 use record::header::Header;
+use rows::row::write_singly;
 use rows::row::write_words;
 use rows::sum::sum_cells;
 use wire::count::WordCount;
+use wire::layout::DRAFT_WORDS_AT;
+use wire::layout::Layout;
 use wire::layout::WORD_BITS;
 use wire::layout::WORDS_AT;
 use words::checksum::checksum_word;
-use words::size::packet_size;
 use words::word::store;
 
 // Clears the last four octets of a packet, where its alignment bits stand.
@@ -34,47 +37,65 @@ fn clear_end(octets: &mut [u8], size: usize)
     octets[size - 1] = 0;
 }
 
-// Stores the user data words, and the checksum word behind them; `sum` is that of the words before them.
-fn write_user_words(words: &[u16], octets: &mut [u8], sum: u32)
-    requires { ⌜ (length (now words) < headerNumbers) × Below (2 ^ wordBits) (now words) × (sum < 2 ^ 16) ⌝ }
-    requires { ⌜ ancSize rfc8331 (length (now words)) ≤ length (now octets) ⌝ }
-    ensures { λ r. ⌜ bits (now (octets .exit)) ≡ splice (bits (now (octets .entry))) (wordsAt rfc8331) (fieldBits (summed (now (words .entry)) sum)) ⌝ }
+// Stores the checksum word behind the user data words, which start at the bit `at`; `sum` is that of the words before them.
+fn write_checksum(words: &[u16], octets: &mut [u8], at: usize, sum: u32)
+    requires { ⌜ (length (now words) < headerNumbers) × (sum < 2 ^ 16) × WordsFit (now octets) at (length (now words) + 1) ⌝ }
+    ensures { λ r. ⌜ bits (now (octets .exit)) ≡ splice (bits (now (octets .entry))) (at + wordBits * length (now (words .entry))) (toBits wordBits (checksumWord (sum + sumLow (now (words .entry))))) ⌝ }
 {
-    write_words(words, octets, WORDS_AT);
+    if words.len() == 0 {
+        store(octets, at, checksum_word(sum));
+        return;
+    }
     let all = sum + sum_cells(words);
-    let at = WORDS_AT + WORD_BITS * words.len();
-    store(octets, at, checksum_word(all));
+    store(octets, at + WORD_BITS * words.len(), checksum_word(all));
+}
+
+// Stores the user data words, and the checksum word behind them. An arm for each layout: the drafts' words are stored one by one.
+fn write_user_words(layout: Layout, words: &[u16], octets: &mut [u8], sum: u32)
+    requires { ⌜ (length (now words) < headerNumbers) × Below (2 ^ wordBits) (now words) × (sum < 2 ^ 16) ⌝ }
+    requires { ⌜ WordsFit (now octets) (wordsAt layout) (length (now words) + 1) ⌝ }
+    ensures { λ r. ⌜ bits (now (octets .exit)) ≡ splice (bits (now (octets .entry))) (wordsAt layout) (fieldBits (summed (now (words .entry)) sum)) ⌝ }
+{
+    match layout {
+        Layout::Rfc8331 => {
+            write_words(words, octets, WORDS_AT);
+            write_checksum(words, octets, WORDS_AT, sum);
+        }
+        Layout::Draft2015 => {
+            write_singly(words, octets, DRAFT_WORDS_AT);
+            write_checksum(words, octets, DRAFT_WORDS_AT, sum);
+        }
+    }
 }
 
 // Writes the record at the front of the cells as the packet at the front of the octets; its Data_Count.
-fn write_packet(cells: &[u16], octets: &mut [u8], table: &[u16; 256]) -> WordCount
+fn write_packet(layout: Layout, cells: &[u16], octets: &mut [u8], table: &[u16; 256]) -> WordCount
     requires { ⌜ HeaderTable (now table) × WellFormed rfc8331 (cellRecord (now cells)) ⌝ }
     requires { ⌜ headCells + cellCount (now cells) ≤ length (now cells) ⌝ }
-    requires { ⌜ ancSize rfc8331 (cellCount (now cells)) ≤ length (now octets) ⌝ }
+    requires { ⌜ ancSize layout (cellCount (now cells)) ≤ length (now octets) ⌝ }
     ensures { λ r. ⌜ r .0 ≡ cellCount (now (cells .entry)) ⌝ }
-    ensures { λ r. ⌜ now (octets .exit) ≡ overwrite (ancOctets rfc8331 (cellRecord (now (cells .entry)))) (now (octets .entry)) ⌝ }
+    ensures { λ r. ⌜ now (octets .exit) ≡ overwrite (ancOctets layout (cellRecord (now (cells .entry)))) (now (octets .entry)) ⌝ }
 {
     let words = WordCount(cells[Header::COUNT_CELL] as u8);
-    let size = packet_size(words);
+    let size = packet_size(layout, words);
     let end = Header::CELLS + (words.0 as usize);
     clear_end(octets, size.0);
-    write_location(cells, octets);
-    let sum = write_header_words(cells, octets, table);
-    write_user_words(&cells[Header::CELLS..end], octets, sum);
+    let sum = write_head(layout, cells, octets, table);
+    write_user_words(layout, &cells[Header::CELLS..end], octets, sum);
     words
 }
 
 // Writes all records of the list as a run of packets.
-pub fn write_run(cells: &[u16], octets: &mut [u8])
-    requires { ⌜ IsAccepted (readList (now cells)) × (length (listOctets (readList (now cells))) ≤ length (now octets)) ⌝ }
-    ensures { λ r. ⌜ now (octets .exit) ≡ overwrite (listOctets (readList (now (cells .entry)))) (now (octets .entry)) ⌝ }
+pub fn write_run(layout: Layout, cells: &[u16], octets: &mut [u8])
+    requires { ⌜ IsAccepted (readList (now cells)) × (length (listOctets layout (readList (now cells))) ≤ length (now octets)) ⌝ }
+    ensures { λ r. ⌜ now (octets .exit) ≡ overwrite (listOctets layout (readList (now (cells .entry)))) (now (octets .entry)) ⌝ }
 {
     let table = words::table::header_words();
     let mut rest = cells;
     let mut to: usize = 0;
     while rest.len() > 0 {
-        let words = write_packet(rest, &mut octets[to..], &table);
-        let size = packet_size(words);
+        let words = write_packet(layout, rest, &mut octets[to..], &table);
+        let size = packet_size(layout, words);
         let step = Header::CELLS + (words.0 as usize);
         rest = &rest[step..];
         to += size.0;

@@ -6,7 +6,7 @@ use mathlib.Core.List.{List, [], _∷_}
 use Prim.Native.Nat.{ℕ}
 use native.Mathlib.Omega.{arith}
 use Rattle.wire.specs.declared.refusal.Refusal.{Refusal}
-use Rattle.wire.specs.Layout.{rfc8331}
+use Rattle.wire.specs.Layout.{Layout}
 use Rattle.wire.specs.Result.{Result, refused, accepted, refuse, Checks, judge}
 use Rattle.wire.specs.Packet.{Content, readContent}
 use Rattle.depacketizer.specs.declared.admit.Stage.{Stage}
@@ -37,19 +37,19 @@ stage-first true n ts = refl
 stage-first false n ts = refl
 
 -- what is admitted or refused, stage by stage
-module _ (st : State) (room : ℕ) (s : List ℕ) where
+module _ (st : State) (L : Layout) (room : ℕ) (s : List ℕ) where
   module _ (y : Stage) (e : stageOf ((sound st room, 35) ∷ []) ≡ y) where
-    pub told : admission st room s ≡ passing y refused (admit (st .source) (st .«payload_type») s)
+    pub told : admission st L room s ≡ passing y refused (admit L (st .source) (st .«payload_type») s)
     told =
-        judge-stage ((sound st room, 35) ∷ []) (admit (st .source) (st .«payload_type») s)
-        ∙ ap (λ (z : Stage). passing z refused (admit (st .source) (st .«payload_type») s)) e
+        judge-stage ((sound st room, 35) ∷ []) (admit L (st .source) (st .«payload_type») s)
+        ∙ ap (λ (z : Stage). passing z refused (admit L (st .source) (st .«payload_type») s)) e
 
   module _ (e : stageOf ((sound st room, 35) ∷ []) ≡ stage.Passed) where
-    pub unread : (x : Refusal) → readContent rfc8331 s ≡ refused x → admission st room s ≡ refused x
+    pub unread : (x : Refusal) → readContent L s ≡ refused x → admission st L room s ≡ refused x
     unread x r = told stage.Passed e ∙ rw r
 
-    pub read : (k : Content) (y : Stage) → readContent rfc8331 s ≡ accepted k → stageOf (openedChecks (st .source) (st .«payload_type») (k .source) (k .type)) ≡ y
-        → admission st room s ≡ passing y refused (accepted k)
+    pub read : (k : Content) (y : Stage) → readContent L s ≡ accepted k → stageOf (openedChecks (st .source) (st .«payload_type») (k .source) (k .type)) ≡ y
+        → admission st L room s ≡ passing y refused (accepted k)
     read k y r a =
         told stage.Passed e
         ∙ rw r

@@ -10,6 +10,7 @@ use Rattle.wire.specs.Bits.{splice}
 use Rattle.wire.specs.Result.{accepted}
 use Rattle.wire.specs.Cells.{listOf}
 use Rattle.wire.specs.Packet.{Content}
+use Rattle.wire.specs.Layout.{Layout}
 use Rattle.rtp.specs.Answers.{checkedOf}
 use Rattle.rtp.specs.declared.packet.Checked.{Checked}
 use Rattle.rtp.specs.declared.packet.Checked.the-variants as checked
@@ -25,11 +26,11 @@ use Rattle.depacketizer.proofs.AdmitLaws.{packet-fresh}
 use Rattle.depacketizer.proofs.DecideLaws.{sound-is, appended-at}
 
 -- the step of an arrival that the check before it refused
-pub refused-step : (st : State) (s store : List ℕ) (x : Refusal) (r : Checked) → r ≡ checkedOf s (admission st (length store) s) → r ≡ checked.Refused x
-    → step st s store ≡ unchanged st store x
-refused-step st s store x r a t = step-refused st s store x (refused-is s (admission st (length store) s) x (sym a ∙ t))
+pub refused-step : (st : State) (L : Layout) (s store : List ℕ) (x : Refusal) (r : Checked) → r ≡ checkedOf L s (admission st L (length store) s) → r ≡ checked.Refused x
+    → step st L s store ≡ unchanged st store x
+refused-step st L s store x r a t = step-refused st L s store x (refused-is L s (admission st L (length store) s) x (sym a ∙ t))
 
-module _ (st : State) (s store : List ℕ) (k : Content) (h : admission st (length store) s ≡ accepted k) (m : ℕ) (n : Bool)
+module _ (st : State) (L : Layout) (s store : List ℕ) (k : Content) (h : admission st L (length store) s ≡ accepted k) (m : ℕ) (n : Bool)
     (p : freshnessOf (st .heard) (classify (distance (st .last .0) (k .number))) ≡ freshness.Fresh m n) (d : Decision)
     (e : d ≡ decisionOf (follow (cond n (gathered st) lost) (carried k) (length store))) where
   abbrev found : Gathered
@@ -40,16 +41,16 @@ module _ (st : State) (s store : List ℕ) (k : Content) (h : admission st (leng
 
   -- where its cells are appended, if they are
   at : x .append ≡ true → gatheredCells found ≡ st .cells
-  at = appended-at st (length store) n (carried k) (sound-is st (length store) (passed st (length store) s k h .0))
+  at = appended-at st (length store) n (carried k) (sound-is st (length store) (passed st L (length store) s k h .0))
 
   same-store : (b : Bool) → x .append ≡ b → appended b found k store ≡ cond b (splice store (st .cells) (listOf (k .records))) store
   same-store true t = ap (λ (c : ℕ). splice store c (listOf (k .records))) (at t)
   same-store false t = refl
 
-  pub fresh-step : step st s store
+  pub fresh-step : step st L s store
       ≡ record { answer = d .answer; state = afterOf st (k .number) d m; store = cond (d .append) (splice store (st .cells) (listOf (k .records))) store }
   fresh-step =
-      step-admitted st s store k h ∙ packet-fresh st k store m n (st .heard) p
+      step-admitted st L s store k h ∙ packet-fresh st k store m n (st .heard) p
       ∙ (λ i. record { answer = x .answer; state = afterOf st (k .number) (decisionOf x) m; store = same-store (x .append) refl i })
       ∙ λ i. record { answer = sym e i .answer; state = afterOf st (k .number) (sym e i) m; store = cond (sym e i .append) (splice store (st .cells) (listOf (k .records))) store }
 

@@ -10,6 +10,7 @@ use rtp::packet::Checked;
 use rtp::packet::Head;
 use stream::state::Phase;
 use stream::state::State;
+use wire::layout::Layout;
 use wire::refusal::Refusal;
 
 // 35: more than a field or the store can have, something gathered where not filling, or more than lost before a first arrival.
@@ -69,15 +70,15 @@ fn check_opened(source: u32, payload_type: u8, head: Head) -> Stage
     require(head.payload_type == payload_type, Refusal::TYPE_OTHER)
 }
 
-// 35, then 1 to 13, then 30, 31.
-pub(crate) fn admit(state: State, room: usize, octets: &[u8]) -> Checked
-    ensures { λ r. ⌜ r ≡ checkedOf (now (octets .entry)) (step.admission state room (now (octets .entry))) ⌝ }
+// 35, then 1 to 13 and 15, then 30, 31.
+pub(crate) fn admit(state: State, room: usize, layout: Layout, octets: &[u8]) -> Checked
+    ensures { λ r. ⌜ r ≡ checkedOf layout (now (octets .entry)) (step.admission state layout room (now (octets .entry))) ⌝ }
 {
     let stage = require(is_sound(state, room), Refusal::STATE_UNSOUND);
     let Stage::Passed = stage else {
         return Checked::Refused(stage.refusal());
     };
-    let checked = check(octets);
+    let checked = check(layout, octets);
     let Checked::Packet(outline) = checked else {
         return checked;
     };

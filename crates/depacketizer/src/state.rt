@@ -13,6 +13,7 @@ use rtp::packet::Checked;
 use stream::state::Answer;
 use stream::state::Phase;
 use stream::state::State;
+use wire::layout::Layout;
 use wire::limit::MAX_TYPE;
 use wire::number::PacketNumber;
 use wire::number::Timestamp;
@@ -95,13 +96,13 @@ impl Depacketizer {
         })
     }
 
-    // One arrival. The store has the cells gathered so far; only an answer held or whole writes to it.
-    pub fn arrive(self, octets: &[u8], store: &mut [u16]) -> Arrival
-        ensures { λ r. ⌜ r ≡ arrivalOf (step.step (self .state) (now (octets .entry)) (now (store .entry))) ⌝ }
-        ensures { λ r. ⌜ now (store .exit) ≡ step.step (self .state) (now (octets .entry)) (now (store .entry)) .store ⌝ }
+    // One arrival of octets in a layout that the caller tells. The store has the cells gathered so far; only an answer held or whole writes to it.
+    pub fn arrive(self, layout: Layout, octets: &[u8], store: &mut [u16]) -> Arrival
+        ensures { λ r. ⌜ r ≡ arrivalOf (step.step (self .state) layout (now (octets .entry)) (now (store .entry))) ⌝ }
+        ensures { λ r. ⌜ now (store .exit) ≡ step.step (self .state) layout (now (octets .entry)) (now (store .entry)) .store ⌝ }
     {
         let state = self.state;
-        let admitted = admit(state, store.len(), octets);
+        let admitted = admit(state, store.len(), layout, octets);
         let Checked::Packet(outline) = admitted else {
             return Arrival {
                 state: self,
@@ -125,7 +126,7 @@ impl Depacketizer {
         let decision = decide(state, next, summary, store.len());
         if decision.append {
             let at = state.cells;
-            read_records(octets, outline, &mut store[at..]);
+            read_records(layout, octets, outline, &mut store[at..]);
         }
         let answer = decision.answer;
         Arrival {

@@ -46,15 +46,15 @@ module _ (v : Version) (s : List ℕ) where
     unfolding readFront
     past = judge-passes 0 (fieldHeaderChecks v s) _ ph
 
-    pub refused-run : (x : Refusal) → runOf (readRun rfc8331 0 (countField v s) (drop (fieldHeaderSize v) s)) ≡ run.Refused x → readFront v s ≡ refused x
+    pub refused-run : (x : Refusal) → runOf rfc8331 (readRun rfc8331 0 (countField v s) (drop (fieldHeaderSize v) s)) ≡ run.Refused x → readFront v s ≡ refused x
     refused-run x h = past ∙ go ran h
       where
-        go : (v : Result (List Record × List ℕ)) → runOf v ≡ run.Refused x
+        go : (v : Result (List Record × List ℕ)) → runOf rfc8331 v ≡ run.Refused x
             → (v then λ q. judge 0 (limitChecks (q .0)) (accepted (fieldRead s (q .0)))) ≡ refused x
         go (refused y) h = let e : y ≡ x = cc in ap refused e
         go (accepted q) h = let z : _≡_ {A = ℕ} 0 1 = cc in absurd (omega arith)
 
-    module _ (below : Below 256 s) (used : OctetCount) (cells : ℕ) (h : runOf (readRun rfc8331 0 (countField v s) (drop (fieldHeaderSize v) s)) ≡ run.Accepted used cells) where
+    module _ (below : Below 256 s) (used : OctetCount) (cells : ℕ) (h : runOf rfc8331 (readRun rfc8331 0 (countField v s) (drop (fieldHeaderSize v) s)) ≡ run.Accepted used cells) where
       record Ran : Type 0 where
         rs : List Record
         rest : List ℕ
@@ -67,7 +67,7 @@ module _ (v : Version) (s : List ℕ) where
       run-found : Ran
       run-found = go ran refl h
         where
-          go : (v : Result (List Record × List ℕ)) → ran ≡ v → runOf v ≡ run.Accepted used cells → Ran
+          go : (v : Result (List Record × List ℕ)) → ran ≡ v → runOf rfc8331 v ≡ run.Accepted used cells → Ran
           go (refused y) e h = let z : _≡_ {A = ℕ} 0 1 = cc in absurd (omega arith)
           go (accepted q) e h =
               let u : record { 0 = runSize rfc8331 (q .0) } ≡ used = cc in

@@ -19,6 +19,7 @@ use anf::format::F_AT;
 use anf::format::Version;
 use stage::Stage;
 use wire::count::OctetCount;
+use wire::layout::Layout;
 use wire::number::Timestamp;
 use wire::refusal::Refusal;
 use words::octet::quad_at;
@@ -34,7 +35,7 @@ fn check_front(octets: &[u8], at: OctetCount, version: Version) -> FieldRead
     };
     let count = count_at(octets, version);
     let size = header.0;
-    let run = check_run(&octets[size..], count);
+    let run = check_run(Layout::Rfc8331, &octets[size..], count);
     let Run::Accepted {
         octets: used,
         cells,

@@ -38,13 +38,13 @@ module _ (f : ℕ) (cells : List ℕ) (room : ℕ) where
   refused-f e = head-fails head limits cells 0 tt e
 
   module _ (ok : fileFOk f ≡ true) where
-    pub refused-list : (x : Refusal) → listedOf (readList cells) ≡ listed.Refused x → fieldRecords f cells room ≡ refused x
-    refused-list x e = list-fails head limits cells (ok, tt) x (listed-refused (readList cells) x e)
+    pub refused-list : (x : Refusal) → listedOf rfc8331 (readList cells) ≡ listed.Refused x → fieldRecords f cells room ≡ refused x
+    refused-list x e = list-fails head limits cells (ok, tt) x (listed-refused rfc8331 (readList cells) x e)
 
-    module _ (n : ℕ) (o : OctetCount) (e : listedOf (readList cells) ≡ listed.Records n o) where
+    module _ (n : ℕ) (o : OctetCount) (e : listedOf rfc8331 (readList cells) ≡ listed.Records n o) where
       -- 21 and 23 as the code tests them: by the number of records, and by the octets of their ANC data packets
-      abbrev list : Taken (readList cells) n o
-      list = taken (readList cells) n o e
+      abbrev list : Taken rfc8331 (readList cells) n o
+      list = taken rfc8331 (readList cells) n o e
 
       within : withinLimits n (length cells) ≡ withinLimits (length (list .rs)) (length cells)
       within = ap (λ (x : ℕ). withinLimits x (length cells)) (sym (list .count))
@@ -59,9 +59,9 @@ module _ (f : ℕ) (cells : List ℕ) (room : ℕ) where
         pub no-room : leb (fieldHeaderSize writtenVersion + o .0) room ≡ false → fieldRecords f cells room ≡ refuse 23 0
         no-room b = limit-fails head limits cells (ok, tt) (list .rs) (list .reads) 1 (sym within ∙ a, tt) (sym at-most ∙ b)
 
-        pub all-fit : leb (fieldHeaderSize writtenVersion + o .0) room ≡ true → listedOf (fieldRecords f cells room) ≡ listed.Records n o
+        pub all-fit : leb (fieldHeaderSize writtenVersion + o .0) room ≡ true → listedOf rfc8331 (fieldRecords f cells room) ≡ listed.Records n o
         all-fit b =
-            ap listedOf (all-pass head limits cells (ok, tt) (list .rs) (list .reads) (sym within ∙ a, (sym at-most ∙ b, tt)))
+            ap (listedOf rfc8331) (all-pass head limits cells (ok, tt) (list .rs) (list .reads) (sym within ∙ a, (sym at-most ∙ b, tt)))
             ∙ λ i. listed.Records (list .count i) (record { 0 = list .size i })
 
 -- a field that fits: its header written, and its run behind it, it is written whole
@@ -76,12 +76,12 @@ module _ (ts f : ℕ) (cells : List ℕ) (room : ℕ) (rs : List Record) (e : fi
   written-length = ap writtenOf field-written ∙ ap (λ (n : ℕ). written.Octets (record { 0 = n })) (length-field writtenVersion (record { timestamp = ts; f = f; records = rs }))
 
   pub written-whole : (n : ℕ) → n ≡ length rs → (out front part : List ℕ) → front ≡ overwrite (pack (fieldHeaderFields writtenVersion ts f n)) out
-      → part ≡ overwrite (listOctets (readList cells)) (take (length front - fieldHeaderSize writtenVersion) (drop (fieldHeaderSize writtenVersion) front))
+      → part ≡ overwrite (listOctets rfc8331 (readList cells)) (take (length front - fieldHeaderSize writtenVersion) (drop (fieldHeaderSize writtenVersion) front))
       → take (fieldHeaderSize writtenVersion) front ++ (part ++ drop (length front - fieldHeaderSize writtenVersion) (drop (fieldHeaderSize writtenVersion) front)) ≡ octetsAfter (writeField ts f cells room) out
   written-whole n hn out front part p q =
       let run = runOctets rfc8331 rs in
       let k = pack (fieldHeaderFields writtenVersion ts f (length rs)) in
-      let i : listOctets (readList cells) ≡ run = ap listOctets (writes f cells room rs e .reads) in
+      let i : listOctets rfc8331 (readList cells) ≡ run = ap (listOctets rfc8331) (writes f cells room rs e .reads) in
       let len : fieldHeaderSize writtenVersion ≡ 0 + length k = omega (arith, length-pack [] (fieldHeaderFields writtenVersion ts f (length rs)) (fieldHeaderSize writtenVersion) refl) in
       part-written (fieldHeaderSize writtenVersion) front run part (q ∙ ap (λ (x : List ℕ). overwrite x (take (length front - fieldHeaderSize writtenVersion) (drop (fieldHeaderSize writtenVersion) front))) i)
       ∙ ap (λ (x : List ℕ). splice x (fieldHeaderSize writtenVersion) run) (p ∙ ap (λ (x : ℕ). overwrite (pack (fieldHeaderFields writtenVersion ts f x)) out) hn)

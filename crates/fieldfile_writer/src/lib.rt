@@ -13,6 +13,7 @@ use anf::format::HEADER_SIZE_2;
 use cells::check::Listed;
 use cells::write::write_run;
 use wire::count::OctetCount;
+use wire::layout::Layout;
 use wire::number::Timestamp;
 use wire::refusal::Refusal;
 use wire::written::Written;
@@ -48,6 +49,6 @@ pub fn write_field(timestamp: Timestamp, f: u8, cells: &[u16], out: &mut [u8]) -
         return Written::Refused(listed.refusal());
     };
     write_header(timestamp, f, count as u16, out);
-    write_run(cells, &mut out[HEADER_SIZE_2..]);
+    write_run(Layout::Rfc8331, cells, &mut out[HEADER_SIZE_2..]);
     Written::Octets(OctetCount(HEADER_SIZE_2 + octets.0))
 }

@@ -3,6 +3,7 @@ ghost use mathlib.Core.Path.{_≡_};
 ghost use Prim.Native.Nat.{_≤_};
 ghost use lib.ListN.{length};
 ghost use Rattle.cells.specs.Answers.{listedOf};
+ghost use Rattle.wire.specs.Layout.{rfc8331};
 ghost use Rattle.wire.specs.Bits.{overwrite, pack};
 ghost use Rattle.anf.specs.File.{fieldHeaderFields, fieldHeaderSize, fieldRecords, writtenVersion};
 use anf::format::HEADER_SIZE_2;
@@ -11,18 +12,19 @@ use cells::check::check_list;
 use cells::check::fits_behind;
 use fieldfile::rules::f_ok;
 use fieldfile::rules::within_limits;
+use wire::layout::Layout;
 use wire::number::Timestamp;
 use wire::refusal::Refusal;
 use words::octet::copy;
 
 // 53, 20, 21, 23: the records, and the octets of their ANC data packets.
 pub(crate) fn measure(f: u8, cells: &[u16], room: usize) -> Listed
-    ensures { λ r. ⌜ r ≡ listedOf (fieldRecords f (now (cells .entry)) room) ⌝ }
+    ensures { λ r. ⌜ r ≡ listedOf rfc8331 (fieldRecords f (now (cells .entry)) room) ⌝ }
 {
     if !f_ok(f) {
         return Listed::refuse(Refusal::FILE_F_INVALID);
     }
-    let listed = check_list(cells);
+    let listed = check_list(Layout::Rfc8331, cells);
     let Listed::Records { count, octets } = listed else {
         return listed;
     };

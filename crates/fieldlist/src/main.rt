@@ -12,6 +12,7 @@ use turns::close;
 use turns::is_done;
 use turns::start;
 use turns::turn;
+use wire::layout::Layout;
 use wire::limit::MAX_FIELD_CELLS;
 
 // Octets of the buffers: some frames are read at once, and a field's text may wait while room is left for another's.
@@ -31,11 +32,11 @@ fn turns_left(turns: u64, open: bool) -> u64
 
 // Whether the listing was written whole. A proved loop ends, and nothing says that a stream does: the turns are counted down from a
 // number that no run uses up.
-fn list(fd: i32, input: &mut [u8], store: &mut [u16], out: &mut [u8]) -> bool
+fn list(layout: Layout, fd: i32, input: &mut [u8], store: &mut [u16], out: &mut [u8]) -> bool
     requires { ⌜ Enough (length (now input)) (length (now store)) (length (now out)) ⌝ }
-    ensures { λ r. ⌜ Ended (now (store .entry)) (now (store .exit)) (now (out .exit)) r ⌝ }
+    ensures { λ r. ⌜ Ended layout (now (store .entry)) (now (store .exit)) (now (out .exit)) r ⌝ }
 {
-    let mut run = start(out);
+    let mut run = start(layout, out);
     let mut turns = u64::MAX;
     while turns > 0 {
         run = turn(fd, run, input, store, out);
@@ -44,13 +45,38 @@ fn list(fd: i32, input: &mut [u8], store: &mut [u16], out: &mut [u8]) -> bool
     is_done(close(run, input, out))
 }
 
-// Standard input, or the file that the argument names.
-fn open_input() -> i32 {
+// The word `old`.
+fn is_old(word: &[u8]) -> bool {
+    if word.len() != 3 {
+        return false;
+    }
+    (word[0] == b'o') & ((word[1] == b'l') & (word[2] == b'd'))
+}
+
+// The layout of the drafts where the first argument is `old` (02, K3).
+fn layout_told() -> Layout {
     if os::arg_count() < 2 {
+        return Layout::Rfc8331;
+    }
+    let mut word = io::buffer();
+    let length = os::arg(1, &mut word);
+    if is_old(&word[..length]) {
+        return Layout::Draft2015;
+    }
+    Layout::Rfc8331
+}
+
+// Standard input, or the file that the argument names, which stands behind `old`.
+fn open_input(layout: Layout) -> i32 {
+    let at = match layout {
+        Layout::Rfc8331 => 1,
+        Layout::Draft2015 => 2,
+    };
+    if os::arg_count() <= at {
         return STDIN_FILENO;
     }
     let mut path = io::buffer();
-    let length = os::arg(1, &mut path);
+    let length = os::arg(at, &mut path);
     let fd = os::open_read(&path[..length]);
     if fd < 0 {
         os::fail(&path[..length]);
@@ -59,12 +85,13 @@ fn open_input() -> i32 {
 }
 
 fn main() {
-    let fd = open_input();
+    let layout = layout_told();
+    let fd = open_input(layout);
     if fd < 0 {
         return;
     }
     let mut input = [0u8; INPUT_SIZE];
     let mut store = [0u16; MAX_FIELD_CELLS];
     let mut out = [0u8; TEXT_SIZE];
-    list(fd, &mut input, &mut store, &mut out);
+    list(layout, fd, &mut input, &mut store, &mut out);
 }

@@ -15,6 +15,7 @@ use Rattle.wire.specs.Anc.{Record}
 use Rattle.wire.specs.Cells.{readList}
 use Rattle.wire.specs.Result.{Result, refused, accepted, IsAccepted}
 use Rattle.cells.specs.declared.check.Listed.the-variants as listed
+use Rattle.wire.specs.Layout.{rfc8331}
 use Rattle.cells.specs.Answers.{listedOf}
 use Rattle.record_lines.specs.Records.{listText}
 
@@ -32,17 +33,17 @@ take-least n m s e = go (leb n (length s)) refl
         let k : m ≡ length s = omega (arith, l) in
         ap (λ (j : ℕ). take j s) k ∙ take-length s ∙ sym (take-all n s (omega (arith, l)))
 
-none-listed : (r : Result (List Record)) (x : Refusal) → listedOf r ≡ listed.Refused x → listText r ≡ []
+none-listed : (r : Result (List Record)) (x : Refusal) → listedOf rfc8331 r ≡ listed.Refused x → listText r ≡ []
 none-listed (refused y) x e = refl
 none-listed (accepted rs) x e = let o : _≡_ {A = ℕ} 0 1 = cc in absurd (omega arith)
 
 -- a list that is not refused was accepted
-pub some-listed : (r : Result (List Record)) (n : ℕ) (o : OctetCount) → listedOf r ≡ listed.Records n o → IsAccepted r
+pub some-listed : (r : Result (List Record)) (n : ℕ) (o : OctetCount) → listedOf rfc8331 r ≡ listed.Records n o → IsAccepted r
 some-listed (refused x) n o e = let q : _≡_ {A = ℕ} 0 1 = cc in absurd (omega arith)
 some-listed (accepted rs) n o e = tt
 
 -- a list that is refused has no lines
-pub no-lines : (n m : ℕ) (s : List ℕ) (x : Refusal) → m ≡ min n (length s) → listedOf (readList (take m s)) ≡ listed.Refused x → [] ≡ listText (readList (take n s))
+pub no-lines : (n m : ℕ) (s : List ℕ) (x : Refusal) → m ≡ min n (length s) → listedOf rfc8331 (readList (take m s)) ≡ listed.Refused x → [] ≡ listText (readList (take n s))
 no-lines n m s x e h = sym (ap (λ (l : List ℕ). listText (readList l)) (sym (take-least n m s e)) ∙ none-listed (readList (take m s)) x h)
 
 pub lines-of : (n m : ℕ) (s : List ℕ) → m ≡ min n (length s) → listText (readList (take m s)) ≡ listText (readList (take n s))

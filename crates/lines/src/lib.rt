@@ -17,6 +17,7 @@ use text::put;
 use text::put_decimal;
 use text::put_labelled;
 use text::put_numbered;
+use wire::layout::Layout;
 use wire::refusal::Refusal;
 
 // `8 whole ts=2501 f=3 records=1`
@@ -46,7 +47,7 @@ fn put_field(out: &mut [u8], number: u64, field: Field, store: &[u16]) -> usize
 {
     let next = put_whole(out, number, field);
     let end = least(field.cells, store.len());
-    let listed = check_list(&store[..end]);
+    let listed = check_list(Layout::Rfc8331, &store[..end]);
     let Listed::Records {
         count: _,
         octets: _,

@@ -8,7 +8,7 @@ use native.Mathlib.Omega.{arith}
 use borrow.Author.Tests.{le-leb, lt-leb, leb-true, leb-false}
 use lib.Dec.{leb}
 use Rattle.wire.specs.declared.refusal.Refusal.{Refusal}
-use Rattle.wire.specs.Layout.{rfc8331}
+use Rattle.wire.specs.Layout.{Layout}
 use Rattle.wire.specs.Result.{Result, refused, accepted}
 use Rattle.wire.specs.Packet.{Content, readContent}
 use Rattle.rtp.specs.Answers.{checkedOf}
@@ -22,33 +22,33 @@ use Rattle.record_lines.specs.Records.{cellRoom}
 use Rattle.listing.specs.declared.session.Session.{Session}
 use Rattle.listing.specs.declared.session.Session.the-variants as session
 use Rattle.frames.specs.Frames.{Front, end, cut, frame}
-use Rattle.listing.specs.Session.{isBroken, numberOf, entered, turn, turnBy, arrived}
+use Rattle.listing.specs.Session.{isBroken, numberOf, entered, layoutIn, turn, turnBy, arrived}
 use Rattle.listing.specs.Answers.{checkedNumber, enteredBy}
 use Rattle.frames.specs.Answers.{frontOf, isCut}
 
-pub number-is : (s : List ℕ) (k : Result Content) → checkedNumber (checkedOf s k) ≡ numberOf k
-number-is s (refused x) = refl
-number-is s (accepted k) = refl
+pub number-is : (L : Layout) (s : List ℕ) (k : Result Content) → checkedNumber (checkedOf L s k) ≡ numberOf k
+number-is L s (refused x) = refl
+number-is L s (accepted k) = refl
 
-entered-is : (v : Session) (s : List ℕ) (k : Result Content) → enteredBy v (checkedOf s k) ≡ entered v k
-entered-is session.Waiting s (refused x) = refl
-entered-is session.Waiting s (accepted k) = refl
-entered-is (session.Open d) s k = refl
+entered-is : (v : Session) (L : Layout) (s : List ℕ) (k : Result Content) → enteredBy v (checkedOf L s k) ≡ entered v k
+entered-is (session.Waiting M) L s (refused x) = refl
+entered-is (session.Waiting M) L s (accepted k) = refl
+entered-is (session.Open M d) L s k = refl
 
-module _ (v : Session) (octets store : List ℕ) (o : Opened) (entry : o ≡ enteredBy v (checkedOf octets (readContent rfc8331 octets))) where
+module _ (v : Session) (octets store : List ℕ) (o : Opened) (entry : o ≡ enteredBy v (checkedOf (layoutIn v) octets (readContent (layoutIn v) octets))) where
   abbrev content : Result Content
-  content = readContent rfc8331 octets
+  content = readContent (layoutIn v) octets
 
   by : (p : Opened) → o ≡ p → turn v octets store ≡ turnBy v (numberOf content) octets store p
   unfolding turn
-  by p e = ap (turnBy v (numberOf content) octets store) (sym (entered-is v octets content) ∙ sym entry ∙ e)
+  by p e = ap (turnBy v (numberOf content) octets store) (sym (entered-is v (layoutIn v) octets content) ∙ sym entry ∙ e)
 
   -- no depacketizer, and none opened
   pub turn-refused : (x : Refusal) → o ≡ opened.Refused x → turn v octets store ≡ record { session = v; store = store; text = refusedText x }
   turn-refused x e = by (opened.Refused x) e
 
   -- one that is open
-  pub turn-arrived : (d : Depacketizer) → o ≡ opened.Open d → turn v octets store ≡ arrived (numberOf content) (step (d .state) octets store)
+  pub turn-arrived : (d : Depacketizer) → o ≡ opened.Open d → turn v octets store ≡ arrived (layoutIn v) (numberOf content) (step (d .state) (layoutIn v) octets store)
   turn-arrived d e = by (opened.Open d) e
 
 -- a frame is broken exactly where the code says that it is cut

@@ -33,8 +33,8 @@ checkedOpening (checked.Packet o) = openedOf (openOf (o .summary .head .source) 
 
 -- the depacketizer that a packet arrives at
 abbrev pub enteredBy : Session → Checked → Opened
-enteredBy session.Waiting k = checkedOpening k
-enteredBy (session.Open d) k = opened.Open d
+enteredBy (session.Waiting L) k = checkedOpening k
+enteredBy (session.Open L d) k = opened.Open d
 
 -- why none was opened
 abbrev pub openedRefusal : Opened → Refusal

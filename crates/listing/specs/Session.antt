@@ -2,7 +2,7 @@
 use mathlib.Core.Bool.{Bool, true, false, cond}
 use mathlib.Core.List.{List, [], _∷_, _++_}
 use Prim.Native.Nat.{ℕ}
-use Rattle.wire.specs.Layout.{rfc8331}
+use Rattle.wire.specs.Layout.{Layout}
 use Rattle.wire.specs.Result.{Result, refused, accepted}
 use Rattle.wire.specs.Packet.{Content, readContent}
 use Rattle.depacketizer.specs.declared.state.Opened.{Opened}
@@ -27,8 +27,13 @@ opening (accepted k) = openedOf (openOf (k .source) (k .type))
 
 -- the depacketizer that a packet arrives at: the one that is open, or else the one that it opens
 abbrev pub entered : Session → Result Content → Opened
-entered session.Waiting k = opening k
-entered (session.Open d) k = opened.Open d
+entered (session.Waiting L) k = opening k
+entered (session.Open L d) k = opened.Open d
+
+-- the layout of a session's packets: told by the caller (02, K3)
+abbrev pub layoutIn : Session → Layout
+layoutIn (session.Waiting L) = L
+layoutIn (session.Open L d) = L
 
 -- What one packet does: the session then, the store, and the text that is printed.
 pub record Turn : Type 0 where
@@ -37,17 +42,18 @@ pub record Turn : Type 0 where
   pub text : List ℕ
 
 -- a packet of number `n` arrived: the depacketizer's next state, the store, and the text of its answer
-abbrev pub arrived : ℕ → Step → Turn
-arrived n x = record { session = session.Open (record { state = x .state }); store = x .store; text = answerText n (x .answer) (x .store) }
+abbrev pub arrived : Layout → ℕ → Step → Turn
+arrived L n x = record { session = session.Open L (record { state = x .state }); store = x .store; text = answerText n (x .answer) (x .store) }
 
 -- by the depacketizer: a packet that opens none is refused, and changes nothing
 abbrev pub turnBy : Session → ℕ → List ℕ → List ℕ → Opened → Turn
 turnBy s n octets store (opened.Refused x) = record { session = s; store = store; text = refusedText x }
-turnBy s n octets store (opened.Open d) = arrived n (step (d .state) octets store)
+turnBy s n octets store (opened.Open d) = arrived (layoutIn s) n (step (d .state) (layoutIn s) octets store)
 
 -- one packet: the first that passes 1 to 13 opens; every later one arrives
 unfoldable pub turn : Session → List ℕ → List ℕ → Turn
-turn s octets store = turnBy s (numberOf (readContent rfc8331 octets)) octets store (entered s (readContent rfc8331 octets))
+turn s octets store =
+    let k = readContent (layoutIn s) octets in turnBy s (numberOf k) octets store (entered s k)
 
 -- All packets in order; then the session and the text.
 pub record Printed : Type 0 where
@@ -65,8 +71,8 @@ run s store (p ∷ ps) = printedThen (turn s p store .text) (run (turn s p store
 
 -- "Without a keeper the counts are 0."
 abbrev pub countsOf : Session → List ℕ
-countsOf session.Waiting = countsText 0 0 0
-countsOf (session.Open d) = countsText (d .state .fresh) (d .state .late) (d .state .missing)
+countsOf (session.Waiting L) = countsText 0 0 0
+countsOf (session.Open L d) = countsText (d .state .fresh) (d .state .late) (d .state .missing)
 
 -- "`cut` for a broken last frame, before the counts"
 unfoldable pub cutText : Bool → List ℕ
@@ -93,6 +99,6 @@ remaining s store input =
     let p : Printed = run s store (f .packets) in
     p .text ++ endText (f .broken) (p .session)
 
--- THE WHOLE OUTPUT, for a store lent at the start
-unfoldable pub listing : List ℕ → List ℕ → List ℕ
-listing store input = title ++ remaining session.Waiting store input
+-- THE WHOLE OUTPUT, for packets of a layout and a store lent at the start
+unfoldable pub listing : Layout → List ℕ → List ℕ → List ℕ
+listing L store input = title ++ remaining (session.Waiting L) store input

@@ -4,7 +4,6 @@ ghost use mathlib.Core.Bool.{not};
 ghost use mathlib.Core.Path.{_≡_};
 ghost use lib.Dec.{leb};
 ghost use lib.ListN.{length};
-ghost use Rattle.wire.specs.Layout.{rfc8331};
 ghost use Rattle.wire.specs.Packet.{readContent};
 ghost use Rattle.rtp.specs.Answers.{checkedOf};
 ghost use Rattle.text.specs.Put.{Put};
@@ -25,6 +24,7 @@ use lines::put_refused;
 use rtp::check::check;
 use rtp::packet::Checked;
 use text::put;
+use wire::layout::Layout;
 use wire::limit::MAX_FIELD_CELLS;
 use wire::refusal::Refusal;
 
@@ -36,10 +36,10 @@ pub const LINE_ROOM: usize = 160;
 // Octets of what one packet can print, over a store of the cells that a field may have.
 pub const FIELD_ROOM: usize = LINE_ROOM + CELL_ROOM * MAX_FIELD_CELLS;
 
-// Waiting for the first packet that opens the depacketizer, or opened.
+// Waiting for the first packet that opens the depacketizer, or opened; all packets are in one layout.
 pub enum Session {
-    Waiting,
-    Open(Depacketizer),
+    Waiting(Layout),
+    Open(Layout, Depacketizer),
 }
 
 // What a frame gave: the session then, the octets of the frame and of the text.
@@ -95,13 +95,23 @@ fn opening(checked: Checked) -> Opened
     }
 }
 
+// The layout that packets are told.
+fn layout_of(session: Session) -> Layout
+    ensures { λ r. ⌜ r ≡ listing.layoutIn session ⌝ }
+{
+    match session {
+        Session::Waiting(layout) => layout,
+        Session::Open(layout, _) => layout,
+    }
+}
+
 // The depacketizer that a packet arrives at.
 fn enter(session: Session, checked: Checked) -> Opened
     ensures { λ r. ⌜ r ≡ enteredBy session checked ⌝ }
 {
     match session {
-        Session::Waiting => opening(checked),
-        Session::Open(depacketizer) => Opened::Open(depacketizer),
+        Session::Waiting(_) => opening(checked),
+        Session::Open(_, depacketizer) => Opened::Open(depacketizer),
     }
 }
 
@@ -123,19 +133,20 @@ fn list_packet(session: Session, octets: &[u8], store: &mut [u16], out: &mut [u8
     ensures { λ r. ⌜ now (store .exit) ≡ listing.turn session (now (octets .entry)) (now (store .entry)) .store ⌝ }
     ensures { λ r. ⌜ Put (now (out .entry)) 0 (listing.turn session (now (octets .entry)) (now (store .entry)) .text) (now (out .exit)) (r .length) ⌝ }
 {
-    let checked = check(octets);
+    let layout = layout_of(session);
+    let checked = check(layout, octets);
     let number = number_of(checked);
     let opened = enter(session, checked);
     let Opened::Open(depacketizer) = opened else {
         let length = put_refused(out, refusal_of(opened));
         return Reply { session, length };
     };
-    let arrival = depacketizer.arrive(octets, store);
+    let arrival = depacketizer.arrive(layout, octets, store);
     let answer = arrival.answer;
     let next = arrival.state;
     let length = put_answer(out, number, answer, store);
     Reply {
-        session: Session::Open(next),
+        session: Session::Open(layout, next),
         length,
     }
 }
@@ -213,8 +224,8 @@ fn put_counts_of(out: &mut [u8], at: usize, session: Session) -> usize
     ensures { λ r. ⌜ Put (now (out .entry)) at (listing.countsOf session) (now (out .exit)) r ⌝ }
 {
     match session {
-        Session::Waiting => put_counts(out, at, 0, 0, 0),
-        Session::Open(depacketizer) => {
+        Session::Waiting(_) => put_counts(out, at, 0, 0, 0),
+        Session::Open(_, depacketizer) => {
             let state = depacketizer.state;
             put_counts(out, at, state.fresh, state.late, state.missing)
         }

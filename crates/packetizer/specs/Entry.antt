@@ -3,19 +3,19 @@ use mathlib.Core.List.{List}
 use Prim.Native.Nat.{ℕ, _^_, _<_}
 use lib.ListN.{length}
 use Rattle.wire.specs.declared.written.Written.{Written}
-use Rattle.wire.specs.Layout.{rfc8331}
+use Rattle.wire.specs.Layout.{Layout}
 use Rattle.wire.specs.Writing.{writeContent}
 use Rattle.wire.specs.Written.{octetsAfter, writtenOf}
 use Rattle.rtp.specs.declared.packet.Head.{Head}
 use Rattle.packetizer.specs.Answers.{contentOf}
 
--- what `write` returns for these six values, this list and these lent octets
-abbrev pub writeReturns : Head → (cells out : List ℕ) → Written
-writeReturns h cells out = writtenOf (writeContent rfc8331 (contentOf h) cells (length out))
+-- what `write` returns for these six values, this list and these lent octets, in the layout that it is told
+abbrev pub writeReturns : Layout → Head → (cells out : List ℕ) → Written
+writeReturns L h cells out = writtenOf (writeContent L (contentOf h) cells (length out))
 
 -- what the lent octets then hold
-abbrev pub writeLeaves : Head → (cells out : List ℕ) → List ℕ
-writeLeaves h cells out = octetsAfter (writeContent rfc8331 (contentOf h) cells (length out)) out
+abbrev pub writeLeaves : Layout → Head → (cells out : List ℕ) → List ℕ
+writeLeaves L h cells out = octetsAfter (writeContent L (contentOf h) cells (length out)) out
 
 -- what the types of the six values say of them: three are of 32 bits (the others are tested, by 24, or a flag)
 pub record OfTypes (h : Head) : Type 0 where

@@ -1,18 +1,22 @@
 -- The octets before the ANC data packets of a packet that is written (01, "Written packets have P, X and CC zero").
-use mathlib.Core.List.{_++_}
+use mathlib.Core.List.{[], _∷_, _++_}
 use Prim.Native.Nat.{ℕ, _+_}
 use Rattle.wire.specs.Bits.{Fields}
-use Rattle.wire.specs.Layout.{rfc8331, payloadHeaderSize}
+use Rattle.wire.specs.Layout.{Layout, fBits, reservedBits, payloadHeaderSize}
 use Rattle.wire.specs.Packet.{headerLeast, rtpFields, payloadHeader}
 use Rattle.wire.specs.Writing.{plain}
 use Rattle.rtp.specs.declared.packet.Head.{Head}
 use Rattle.packetizer.specs.Answers.{contentOf}
 
 -- "An empty list gives a 20-octet packet": the octets before the ANC data packets
-abbrev pub frontSize : ℕ
-frontSize = headerLeast + payloadHeaderSize rfc8331
+abbrev pub frontSize : Layout → ℕ
+frontSize L = headerLeast + payloadHeaderSize L
 
 -- the RTP header and the payload header, with so many records in so many octets; the reserved bits are "written as zero (house rule)"
-abbrev pub frontFields : Head → (count size : ℕ) → Fields
-frontFields h count size =
-    rtpFields (plain (contentOf h)) ++ payloadHeader rfc8331 (plain (contentOf h) .extended) size count (contentOf h .f) 0
+abbrev pub frontFields : Layout → Head → (count size : ℕ) → Fields
+frontFields L h count size =
+    rtpFields (plain (contentOf h)) ++ payloadHeader L (plain (contentOf h) .extended) size count (contentOf h .f) 0
+
+-- the last of them, where the layout has them: F and the reserved bits
+abbrev pub fFields : Layout → ℕ → Fields
+fFields L f = (fBits L, f) ∷ (reservedBits L, 0) ∷ []

@@ -10,21 +10,23 @@ use cells::check::Listed;
 use cells::write::write_run;
 use rtp::packet::Head;
 use wire::count::OctetCount;
-use wire::layout::FRONT_SIZE;
+use wire::layout::Layout;
 use wire::written::Written;
+use writing::front_size;
 use writing::measure;
 use writing::write_front;
 
-// Writes a packet with the records of the cells into the first octets of `out`.
-pub fn write(head: Head, cells: &[u16], out: &mut [u8]) -> Written
-    ensures { λ r. ⌜ r ≡ writeReturns head (now (cells .entry)) (now (out .entry)) ⌝ }
-    ensures { λ r. ⌜ now (out .exit) ≡ writeLeaves head (now (cells .entry)) (now (out .entry)) ⌝ }
+// Writes a packet of the layout with the records of the cells into the first octets of `out`.
+pub fn write(layout: Layout, head: Head, cells: &[u16], out: &mut [u8]) -> Written
+    ensures { λ r. ⌜ r ≡ writeReturns layout head (now (cells .entry)) (now (out .entry)) ⌝ }
+    ensures { λ r. ⌜ now (out .exit) ≡ writeLeaves layout head (now (cells .entry)) (now (out .entry)) ⌝ }
 {
-    let listed = measure(head, cells, out.len());
+    let listed = measure(layout, head, cells, out.len());
     let Listed::Records { count, octets } = listed else {
         return Written::Refused(listed.refusal());
     };
-    write_front(head, count as u8, octets, out);
-    write_run(cells, &mut out[FRONT_SIZE..]);
-    Written::Octets(OctetCount(FRONT_SIZE + octets.0))
+    let front = front_size(layout);
+    write_front(layout, head, count as u8, octets, out);
+    write_run(layout, cells, &mut out[front..]);
+    Written::Octets(OctetCount(front + octets.0))
 }

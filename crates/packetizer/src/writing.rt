@@ -4,18 +4,25 @@ ghost use mathlib.Core.Path.{_≡_};
 ghost use Prim.Native.Nat.{_<_, _≤_, _^_};
 ghost use lib.Dec.{leb};
 ghost use lib.ListN.{length};
-ghost use Rattle.wire.specs.Bits.{overwrite, pack};
-ghost use Rattle.wire.specs.Layout.{rfc8331};
-ghost use Rattle.wire.specs.Writing.{headOk, maxCells, maxRecords, maxType, packetRecords};
-ghost use Rattle.cells.specs.Answers.{listedOf};
+ghost use Rattle.wire.specs.Bits.{overwrite, pack, splice};
+ghost use Rattle.wire.specs.Cells.{readList};
+ghost use Rattle.wire.specs.Layout.{draft2015};
+ghost use Rattle.wire.specs.Result.{IsAccepted};
+ghost use Rattle.wire.specs.Writing.{headOk, layoutOk, maxCells, maxRecords, maxType, packetRecords};
+ghost use Rattle.cells.specs.Answers.{listRecords, listedOf};
 ghost use Rattle.packetizer.specs.Answers.{contentOf};
-ghost use Rattle.packetizer.specs.Front.{frontFields, frontSize};
+ghost use Rattle.packetizer.specs.Front.{fFields, frontFields, frontSize};
 use cells::check::Listed;
 use cells::check::check_list;
 use cells::check::fits_behind;
+use cells::check::no_stream;
+use places::payload_header_size;
 use rtp::packet::Head;
 use wire::count::OctetCount;
-use wire::layout::FRONT_SIZE;
+use wire::layout::DRAFT_FRONT_SIZE;
+use wire::layout::F_AT;
+use wire::layout::Layout;
+use wire::layout::RTP_HEADER_SIZE;
 use wire::limit::MAX_CELLS;
 use wire::limit::MAX_PACKET;
 use wire::limit::MAX_RECORDS;
@@ -38,22 +45,45 @@ fn within_limits(records: usize, cells: usize) -> bool
     (records <= MAX_RECORDS) & (cells <= MAX_CELLS)
 }
 
-// 24, 20, 21, 22, 23: the records, and the octets of their ANC data packets.
-pub(crate) fn measure(head: Head, cells: &[u16], room: usize) -> Listed
-    ensures { λ r. ⌜ r ≡ listedOf (packetRecords rfc8331 (contentOf head) (now (cells .entry)) room) ⌝ }
+// Octets before the ANC data packets.
+pub(crate) fn front_size(layout: Layout) -> usize
+    ensures { λ r. ⌜ r ≡ frontSize layout ⌝ }
+{
+    RTP_HEADER_SIZE + payload_header_size(layout)
+}
+
+// 25: "F, S or StreamNum not zero in old writing" (02, K3). It asks for a list that was checked.
+fn layout_ok(layout: Layout, f: u8, cells: &[u16]) -> bool
+    requires { ⌜ IsAccepted (readList (now cells)) ⌝ }
+    ensures { λ r. ⌜ r ≡ layoutOk layout f (listRecords (readList (now (cells .entry)))) ⌝ }
+{
+    match layout {
+        Layout::Rfc8331 => true,
+        Layout::Draft2015 => (f == 0) & no_stream(cells),
+    }
+}
+
+// 24, 20, 21, 25, 22, 23: the records, and the octets of their ANC data packets.
+pub(crate) fn measure(layout: Layout, head: Head, cells: &[u16], room: usize) -> Listed
+    ensures { λ r. ⌜ r ≡ listedOf layout (packetRecords layout (contentOf head) (now (cells .entry)) room) ⌝ }
 {
     if !head_ok(head) {
         return Listed::refuse(Refusal::HEAD_INVALID);
     }
-    let listed = check_list(cells);
+    let listed = check_list(layout, cells);
     let Listed::Records { count, octets } = listed else {
         return listed;
     };
+    let front = front_size(layout);
     let within = within_limits(count, cells.len());
-    let short = fits_behind(FRONT_SIZE, octets, MAX_PACKET);
-    let enough = fits_behind(FRONT_SIZE, octets, room);
+    let held = layout_ok(layout, head.f, cells);
+    let short = fits_behind(front, octets, MAX_PACKET);
+    let enough = fits_behind(front, octets, room);
     if !within {
         return Listed::refuse(Refusal::OVER_LIMIT);
+    }
+    if !held {
+        return Listed::refuse(Refusal::NOT_IN_LAYOUT);
     }
     if !short {
         return Listed::refuse(Refusal::PACKET_TOO_LONG);
@@ -64,10 +94,10 @@ pub(crate) fn measure(head: Head, cells: &[u16], room: usize) -> Listed
     listed
 }
 
-// The RTP header and the payload header.
-fn front(head: Head, count: u8, size: OctetCount) -> [u8; FRONT_SIZE]
-    requires { ⌜ (head .«payload_type» ≤ maxType) × (head .f ≤ 3) × (size .0 < 2 ^ 16) ⌝ }
-    ensures { λ r. ⌜ r ≡ pack (frontFields head count (size .0)) ⌝ }
+// The RTP header, and the payload header up to ANC_Count, with which the drafts' ends.
+fn front(head: Head, count: u8, size: OctetCount) -> [u8; DRAFT_FRONT_SIZE]
+    requires { ⌜ (head .«payload_type» ≤ maxType) × (size .0 < 2 ^ 16) ⌝ }
+    ensures { λ r. ⌜ r ≡ pack (frontFields draft2015 head count (size .0)) ⌝ }
 {
     let number = head.number;
     let number = number.0;
@@ -92,17 +122,37 @@ fn front(head: Head, count: u8, size: OctetCount) -> [u8; FRONT_SIZE]
         (size.0 / 256) as u8,
         (size.0 % 256) as u8,
         count,
-        head.f * 64,
-        0,
-        0,
     ]
 }
 
+// Writes F and the reserved bits, where the layout has them, behind ANC_Count.
+fn write_f(layout: Layout, f: u8, octets: &mut [u8])
+    requires { ⌜ (f ≤ 3) × (frontSize layout ≤ length (now octets)) ⌝ }
+    ensures { λ r. ⌜ now (octets .exit) ≡ splice (now (octets .entry)) (frontSize draft2015) (pack (fFields layout f)) ⌝ }
+{
+    match layout {
+        Layout::Rfc8331 => {
+            let at = RTP_HEADER_SIZE + F_AT;
+            octets[at] = f * 64;
+            octets[at + 1] = 0;
+            octets[at + 2] = 0;
+        }
+        Layout::Draft2015 => {}
+    }
+}
+
 // Writes the RTP header and the payload header to the first octets.
-pub(crate) fn write_front(head: Head, count: u8, size: OctetCount, octets: &mut [u8])
-    requires { ⌜ (head .«payload_type» ≤ maxType) × (head .f ≤ 3) × (size .0 < 2 ^ 16) × (frontSize ≤ length (now octets)) ⌝ }
-    ensures { λ r. ⌜ now (octets .exit) ≡ overwrite (pack (frontFields head count (size .0))) (now (octets .entry)) ⌝ }
+pub(crate) fn write_front(
+    layout: Layout,
+    head: Head,
+    count: u8,
+    size: OctetCount,
+    octets: &mut [u8],
+)
+    requires { ⌜ (head .«payload_type» ≤ maxType) × (head .f ≤ 3) × (size .0 < 2 ^ 16) × (frontSize layout ≤ length (now octets)) ⌝ }
+    ensures { λ r. ⌜ now (octets .exit) ≡ overwrite (pack (frontFields layout head count (size .0))) (now (octets .entry)) ⌝ }
 {
     let front = front(head, count, size);
     copy(&front, octets);
+    write_f(layout, head.f, octets);
 }

@@ -18,7 +18,7 @@ fn low(w: u16) -> u32
 }
 
 // Of `count` words from the bit `bit` on, one a turn.
-fn sum_singly(octets: &[u8], bit: usize, count: usize) -> u32
+pub fn sum_singly(octets: &[u8], bit: usize, count: usize) -> u32
     requires { ⌜ WordsFit (now octets) bit count ⌝ }
     ensures { λ r. ⌜ r ≡ sumLow (rowAt wordBits (now (octets .entry)) bit count) ⌝ }
 {

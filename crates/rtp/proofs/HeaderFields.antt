@@ -66,8 +66,8 @@ module _ (s : List ℕ) (octet : (j : ℕ) → getD s j 0 < 256) (long : headerL
       let z : headerSize s ≡ fixed + 4 + 4 * words = omega (arith, sources-at) in
       record { whole = λ m. sym z; cut = λ m. omega arith }
 
--- the payload header, at the octet `header`
-module _ (s : List ℕ) (octet : (j : ℕ) → getD s j 0 < 256) (header : ℕ) (here : header ≡ headerSize s) (long : header + payloadHeaderSize rfc8331 ≤ length s) where
+-- the payload header, at the octet `header`, as far as the layouts share it
+module _ (s : List ℕ) (octet : (j : ℕ) → getD s j 0 < 256) (header : ℕ) (here : header ≡ headerSize s) (long : header + 5 ≤ length s) where
   pub length-at : bitsAt s (8 * (header + 2)) 16 ≡ lengthField s
   length-at = let k : 8 * (header + 2) ≡ payloadAt s + 16 = omega arith in ap (λ (n : ℕ). bitsAt s n 16) k
 
@@ -79,8 +79,9 @@ module _ (s : List ℕ) (octet : (j : ℕ) → getD s j 0 < 256) (header : ℕ) 
       let k : payloadAt s + 16 + 16 ≡ 8 * (header + 4) + 0 = omega arith in
       ap (λ (n : ℕ). bitsAt s n 8) k ∙ within-octet s octet (header + 4) (omega arith) 0 8 (omega arith) ∙ omega (arith, octet (header + 4))
 
-  pub f-at : fField rfc8331 s ≡ getD s (header + 5) 0 / 64
-  f-at =
+  -- F, which RFC 8331's layout has
+  pub f-at : header + payloadHeaderSize rfc8331 ≤ length s → fField rfc8331 s ≡ getD s (header + 5) 0 / 64
+  f-at more =
       let k : fAt s ≡ 8 * (header + 5) + 0 = omega arith in
       ap (λ (n : ℕ). bitsAt s n 2) k ∙ within-octet s octet (header + 5) (omega arith) 0 2 (omega arith) ∙ omega (arith, octet (header + 5))
 

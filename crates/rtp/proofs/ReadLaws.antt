@@ -10,7 +10,7 @@ use lib.Dec.{eqb, leb}
 use lib.ListN.{length, take, drop}
 use Rattle.wire.specs.declared.refusal.Refusal.{Refusal}
 use Rattle.wire.specs.Bits.{Below, overwrite}
-use Rattle.wire.specs.Layout.{rfc8331}
+use Rattle.wire.specs.Layout.{Layout}
 use Rattle.wire.specs.Result.{Result, refused, accepted, refuse, IsAccepted}
 use Rattle.wire.specs.Anc.{Record, readRun}
 use Rattle.wire.specs.Cells.{listOf}
@@ -23,79 +23,80 @@ use Rattle.rtp.specs.declared.packet.Outline.{Outline}
 use Rattle.rtp.specs.declared.packet.Checked.the-variants as checked
 use Rattle.rtp.specs.declared.packet.Read.the-variants as read
 
--- a packet whose check refused is refused
-pub refused-is : (s : List ℕ) (r : Result Content) (x : Refusal) → checkedOf s r ≡ checked.Refused x → r ≡ refused x
-refused-is s (refused y) x h = let e : y ≡ x = cc in ap refused e
-refused-is s (accepted k) x h = let z : _≡_ {A = ℕ} 0 1 = cc in absurd (omega arith)
+module _ (L : Layout) where
+  -- a packet whose check refused is refused
+  pub refused-is : (s : List ℕ) (r : Result Content) (x : Refusal) → checkedOf L s r ≡ checked.Refused x → r ≡ refused x
+  refused-is s (refused y) x h = let e : y ≡ x = cc in ap refused e
+  refused-is s (accepted k) x h = let z : _≡_ {A = ℕ} 0 1 = cc in absurd (omega arith)
 
-pub into-refused : (s : List ℕ) (room : ℕ) (x : Refusal) → checkedOf s (readContent rfc8331 s) ≡ checked.Refused x → readInto rfc8331 s room ≡ refused x
-unfolding readInto
-into-refused s room x h = rw (refused-is s (readContent rfc8331 s) x h)
-
--- what a check accepted, with the outline that the check gave
-pub record Found (s : List ℕ) (r : Result Content) (o : Outline) : Type 0 where
-  pub says : Content
-  pub reads : r ≡ accepted says
-  pub outline : record { summary = summaryOf says; at = runAt rfc8331 s; length = record { 0 = lengthField s } } ≡ o
-
-pub found : (s : List ℕ) (r : Result Content) (o : Outline) → checkedOf s r ≡ checked.Packet o → Found s r o
-found s (refused y) o h = let z : _≡_ {A = ℕ} 0 1 = cc in absurd (omega arith)
-found s (accepted k) o h = record { says = k; reads = refl; outline = (cc) }
-
-module _ (s : List ℕ) (o : Outline) (h : checkedOf s (readContent rfc8331 s) ≡ checked.Packet o) where
-  -- the run, where the outline says that it stands
-  abbrev pub outlineRun : Result (List Record × List ℕ)
-  outlineRun = readRun rfc8331 0 (o .summary .records) (take (o .at + o .length .0 - o .at) (drop (o .at) s))
-
-  pub record Outlined : Type 0 where
-    pub accepts : IsAccepted outlineRun
-    pub size : length (runCells outlineRun) ≡ o .summary .cells
-    pub after : (l : List ℕ) → overwrite (runCells outlineRun) l ≡ cellsAfter (readContent rfc8331 s) l
-    pub whole : o .at + o .length .0 ≤ length s
-
-  pub outlined : Below 256 s → Outlined
-  unfolding readContent readRecords
-  outlined below =
-      let f = found s (readContent rfc8331 s) o h in
-      let k = f .says in
-      let a = then-accepts (readPacket rfc8331 s) _ k (f .reads) in
-      let p = a .0 in
-      let says : content p ≡ k = accepted-inj (a .2) in
-      let n : Answer rfc8331 s p = answer-iff rfc8331 s p .0 (a .1) in
-      let z = sizes rfc8331 s (n .header) (n .padding) (n .payload) in
-      let i = region-iff rfc8331 s below (p .records) .0 (n .records) in
-      let b = then-accepts (readRun rfc8331 0 (ancCount s) (take (lengthField s) (drop (runAt rfc8331 s) s))) _ (p .records) (n .records) in
-      let c = judge-accepts 0 ((eqb (length (b .0 .1)) 0, 13) ∷ []) (accepted (b .0 .0)) (p .records) (b .2) in
-      let rs : b .0 .0 ≡ k .records = accepted-inj (c .1) ∙ ap (λ (y : Content). y .records) says in
-      let count : o .summary .records ≡ ancCount s = ap (λ (y : Outline). y .summary .records) (sym (f .outline)) ∙ ap (λ (y : Content). length (y .records)) (sym says) ∙ i .0 in
-      let at : o .at ≡ runAt rfc8331 s = ap (λ (y : Outline). y .at) (sym (f .outline)) in
-      let long : o .length .0 ≡ lengthField s = ap (λ (y : Outline). y .length .0) (sym (f .outline)) in
-      let len : o .at + o .length .0 - o .at ≡ lengthField s = omega arith in
-      let ran : outlineRun ≡ accepted (k .records, b .0 .1) =
-      ap₂ (λ (x : ℕ) (y : List ℕ). readRun rfc8331 0 x y) count (ap₂ (λ (x y : ℕ). take x (drop y s)) len at)
-      ∙ b .1 ∙ ap (λ (y : List Record). accepted (y, b .0 .1)) rs in
-      let cs : runCells outlineRun ≡ listOf (k .records) = ap runCells ran in
-      record {
-        accepts = subst IsAccepted (sym ran) tt;
-        size = ap length cs ∙ ap (λ (y : Outline). y .summary .cells) (f .outline);
-        after = λ l. ap (λ (y : List ℕ). overwrite y l) cs ∙ ap (λ (r : Result Content). cellsAfter r l) (sym (f .reads));
-        whole = omega (arith, z .whole);
-      }
-
-  -- 14, where the list is too short
-  pub into-short : (room : ℕ) → room < o .summary .cells → readInto rfc8331 s room ≡ refuse 14 0
+  pub into-refused : (s : List ℕ) (room : ℕ) (x : Refusal) → checkedOf L s (readContent L s) ≡ checked.Refused x → readInto L s room ≡ refused x
   unfolding readInto
-  into-short room l =
-      let f = found s (readContent rfc8331 s) o h in
-      let e : length (listOf (f .says .records)) ≡ o .summary .cells = ap (λ (y : Outline). y .summary .cells) (f .outline) in
-      let t : leb (length (listOf (f .says .records))) room ≡ false = lt-leb (length (listOf (f .says .records))) room (omega arith) in
-      rw (f .reads, t)
+  into-refused s room x h = rw (refused-is s (readContent L s) x h)
 
-  -- and nothing more to refuse where it is not
-  pub into-fits : (room : ℕ) → o .summary .cells ≤ room → (readInto rfc8331 s room ≡ readContent rfc8331 s) × (readOf (readContent rfc8331 s) ≡ read.Packet (o .summary))
-  unfolding readInto
-  into-fits room l =
-      let f = found s (readContent rfc8331 s) o h in
-      let e : length (listOf (f .says .records)) ≡ o .summary .cells = ap (λ (y : Outline). y .summary .cells) (f .outline) in
-      let t : leb (length (listOf (f .says .records))) room ≡ true = le-leb (length (listOf (f .says .records))) room (omega arith) in
-      (rw (f .reads, t), ap readOf (f .reads) ∙ ap (λ (y : Outline). read.Packet (y .summary)) (f .outline))
+  -- what a check accepted, with the outline that the check gave
+  pub record Found (s : List ℕ) (r : Result Content) (o : Outline) : Type 0 where
+    pub says : Content
+    pub reads : r ≡ accepted says
+    pub outline : record { summary = summaryOf says; at = runAt L s; length = record { 0 = lengthField s } } ≡ o
+
+  pub found : (s : List ℕ) (r : Result Content) (o : Outline) → checkedOf L s r ≡ checked.Packet o → Found s r o
+  found s (refused y) o h = let z : _≡_ {A = ℕ} 0 1 = cc in absurd (omega arith)
+  found s (accepted k) o h = record { says = k; reads = refl; outline = (cc) }
+
+  module _ (s : List ℕ) (o : Outline) (h : checkedOf L s (readContent L s) ≡ checked.Packet o) where
+    -- the run, where the outline says that it stands
+    abbrev pub outlineRun : Result (List Record × List ℕ)
+    outlineRun = readRun L 0 (o .summary .records) (take (o .at + o .length .0 - o .at) (drop (o .at) s))
+
+    pub record Outlined : Type 0 where
+      pub accepts : IsAccepted outlineRun
+      pub size : length (runCells outlineRun) ≡ o .summary .cells
+      pub after : (l : List ℕ) → overwrite (runCells outlineRun) l ≡ cellsAfter (readContent L s) l
+      pub whole : o .at + o .length .0 ≤ length s
+
+    pub outlined : Below 256 s → Outlined
+    unfolding readContent readRecords
+    outlined below =
+        let f = found s (readContent L s) o h in
+        let k = f .says in
+        let a = then-accepts (readPacket L s) _ k (f .reads) in
+        let p = a .0 in
+        let says : content p ≡ k = accepted-inj (a .2) in
+        let n : Answer L s p = answer-iff L s p .0 (a .1) in
+        let z = sizes L s (n .header) (n .padding) (n .payload) in
+        let i = region-iff L s below (p .records) .0 (n .records) in
+        let b = then-accepts (readRun L 0 (ancCount s) (take (lengthField s) (drop (runAt L s) s))) _ (p .records) (n .records) in
+        let c = judge-accepts 0 ((eqb (length (b .0 .1)) 0, 13) ∷ []) (accepted (b .0 .0)) (p .records) (b .2) in
+        let rs : b .0 .0 ≡ k .records = accepted-inj (c .1) ∙ ap (λ (y : Content). y .records) says in
+        let count : o .summary .records ≡ ancCount s = ap (λ (y : Outline). y .summary .records) (sym (f .outline)) ∙ ap (λ (y : Content). length (y .records)) (sym says) ∙ i .0 in
+        let at : o .at ≡ runAt L s = ap (λ (y : Outline). y .at) (sym (f .outline)) in
+        let long : o .length .0 ≡ lengthField s = ap (λ (y : Outline). y .length .0) (sym (f .outline)) in
+        let len : o .at + o .length .0 - o .at ≡ lengthField s = omega arith in
+        let ran : outlineRun ≡ accepted (k .records, b .0 .1) =
+        ap₂ (λ (x : ℕ) (y : List ℕ). readRun L 0 x y) count (ap₂ (λ (x y : ℕ). take x (drop y s)) len at)
+        ∙ b .1 ∙ ap (λ (y : List Record). accepted (y, b .0 .1)) rs in
+        let cs : runCells outlineRun ≡ listOf (k .records) = ap runCells ran in
+        record {
+          accepts = subst IsAccepted (sym ran) tt;
+          size = ap length cs ∙ ap (λ (y : Outline). y .summary .cells) (f .outline);
+          after = λ l. ap (λ (y : List ℕ). overwrite y l) cs ∙ ap (λ (r : Result Content). cellsAfter r l) (sym (f .reads));
+          whole = omega (arith, z .whole);
+        }
+
+    -- 14, where the list is too short
+    pub into-short : (room : ℕ) → room < o .summary .cells → readInto L s room ≡ refuse 14 0
+    unfolding readInto
+    into-short room l =
+        let f = found s (readContent L s) o h in
+        let e : length (listOf (f .says .records)) ≡ o .summary .cells = ap (λ (y : Outline). y .summary .cells) (f .outline) in
+        let t : leb (length (listOf (f .says .records))) room ≡ false = lt-leb (length (listOf (f .says .records))) room (omega arith) in
+        rw (f .reads, t)
+
+    -- and nothing more to refuse where it is not
+    pub into-fits : (room : ℕ) → o .summary .cells ≤ room → (readInto L s room ≡ readContent L s) × (readOf (readContent L s) ≡ read.Packet (o .summary))
+    unfolding readInto
+    into-fits room l =
+        let f = found s (readContent L s) o h in
+        let e : length (listOf (f .says .records)) ≡ o .summary .cells = ap (λ (y : Outline). y .summary .cells) (f .outline) in
+        let t : leb (length (listOf (f .says .records))) room ≡ true = le-leb (length (listOf (f .says .records))) room (omega arith) in
+        (rw (f .reads, t), ap readOf (f .reads) ∙ ap (λ (y : Outline). read.Packet (y .summary)) (f .outline))

@@ -6,7 +6,7 @@ use lib.Dec.{eqb}
 use lib.ListN.{length}
 use Rattle.wire.specs.declared.refusal.Refusal.{Refusal}
 use Rattle.wire.specs.Bits.{overwrite}
-use Rattle.wire.specs.Layout.{rfc8331}
+use Rattle.wire.specs.Layout.{Layout}
 use Rattle.wire.specs.Result.{Result, refused, accepted, noRefusal, judge}
 use Rattle.wire.specs.Cells.{listOf}
 use Rattle.wire.specs.Packet.{Content, content, packetRead, headerSize, runAt, lengthField, headerChecks, paddingChecks, payloadChecks}
@@ -34,14 +34,14 @@ abbrev pub summaryOf : Content → Summary
 summaryOf k = record { head = headOf k; records = length (k .records); cells = length (listOf (k .records)) }
 
 -- the six values that stand in octets, where the header's fields put them
-abbrev pub headAt : List ℕ → Head
-headAt s = headOf (content (packetRead rfc8331 [] s))
+abbrev pub headAt : Layout → List ℕ → Head
+headAt L s = headOf (content (packetRead L [] s))
 
 -- the three stages one after the other, 1 to 8: the octets of the header with its sources and extension, and those of the ANC data packets
-abbrev pub frontChecked : List ℕ → Result (ℕ × ℕ)
-frontChecked s =
+abbrev pub frontChecked : Layout → List ℕ → Result (ℕ × ℕ)
+frontChecked L s =
     judge 0 (headerChecks s)
-    (judge 0 (paddingChecks rfc8331 s) (judge 0 (payloadChecks rfc8331 s) (accepted (headerSize s, lengthField s))))
+    (judge 0 (paddingChecks L s) (judge 0 (payloadChecks L s) (accepted (headerSize s, lengthField s))))
 
 -- 2, "(rest)": a header's size, or any number over the octets where it is cut
 pub record SizeFound (s : List ℕ) (size : ℕ) : Type 0 where
@@ -49,9 +49,9 @@ pub record SizeFound (s : List ℕ) (size : ℕ) : Type 0 where
   pub cut : length s < headerSize s → length s < size
 
 -- a packet checked, up to 13: the refusal, or what it says and where its ANC data packets stand
-abbrev pub checkedOf : List ℕ → Result Content → Checked
-checkedOf s (refused x) = checked.Refused x
-checkedOf s (accepted k) = checked.Packet (record { summary = summaryOf k; at = runAt rfc8331 s; length = record { 0 = lengthField s } })
+abbrev pub checkedOf : Layout → List ℕ → Result Content → Checked
+checkedOf L s (refused x) = checked.Refused x
+checkedOf L s (accepted k) = checked.Packet (record { summary = summaryOf k; at = runAt L s; length = record { 0 = lengthField s } })
 
 -- "A refusal returns its number and an index": the one that the check gave
 abbrev pub checkedRefusal : Checked → Refusal

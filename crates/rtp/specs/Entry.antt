@@ -4,20 +4,20 @@ use mathlib.Core.List.{List}
 use Prim.Native.Nat.{ℕ, _+_, _*_, _≤_}
 use lib.ListN.{length}
 use Rattle.wire.specs.Bits.{bit}
-use Rattle.wire.specs.Layout.{rfc8331}
+use Rattle.wire.specs.Layout.{Layout}
 use Rattle.wire.specs.Cells.{listOf}
 use Rattle.wire.specs.Packet.{Packet, WellFormedPacket, packetOctets, readInto}
 use Rattle.rtp.specs.declared.packet.Summary.{Summary}
 use Rattle.rtp.specs.declared.packet.Read.{Read}
 use Rattle.rtp.specs.Answers.{readOf, cellsAfter}
 
--- what `read` returns for these octets and this lent list
-abbrev pub readReturns : (octets cells : List ℕ) → Read
-readReturns s cells = readOf (readInto rfc8331 s (length cells))
+-- what `read` returns for these octets, in the layout that it is told, and this lent list
+abbrev pub readReturns : Layout → (octets cells : List ℕ) → Read
+readReturns L s cells = readOf (readInto L s (length cells))
 
 -- what the lent list then holds
-abbrev pub readLeaves : (octets cells : List ℕ) → List ℕ
-readLeaves s cells = cellsAfter (readInto rfc8331 s (length cells)) cells
+abbrev pub readLeaves : Layout → (octets cells : List ℕ) → List ℕ
+readLeaves L s cells = cellsAfter (readInto L s (length cells)) cells
 
 -- what is returned is the packet's own, value by value
 pub record Says (k : Packet) (m : Summary) : Type 0 where
@@ -31,8 +31,8 @@ pub record Says (k : Packet) (m : Summary) : Type 0 where
   pub cells : m .cells ≡ length (listOf (k .records))
 
 -- the octets are those of a well-formed packet that says this, and its records fit the lent list
-pub record Holds (octets cells : List ℕ) (k : Packet) (m : Summary) : Type 0 where
-  pub formed : WellFormedPacket rfc8331 k
-  pub octets-are : octets ≡ packetOctets rfc8331 k
+pub record Holds (L : Layout) (octets cells : List ℕ) (k : Packet) (m : Summary) : Type 0 where
+  pub formed : WellFormedPacket L k
+  pub octets-are : octets ≡ packetOctets L k
   pub says : Says k m
   pub fits : length (listOf (k .records)) ≤ length cells

@@ -2,7 +2,7 @@
 ghost use mathlib.Core.Path.{_≡_};
 ghost use Prim.Native.Nat.{_+_, _≤_};
 ghost use lib.ListN.{length};
-ghost use Rattle.wire.specs.Layout.{payloadHeaderSize, rfc8331};
+ghost use Rattle.wire.specs.Layout.{payloadHeaderSize};
 ghost use Rattle.wire.specs.Packet.{headerLeast, headerSize, readContent};
 ghost use Rattle.wire.specs.Result.{accepted};
 ghost use Rattle.rtp.specs.Answers.{cellsAfter, checkedOf, frontChecked, headAt};
@@ -13,14 +13,15 @@ use crate::packet::Summary;
 use crate::stages::check_header;
 use crate::stages::check_padding;
 use crate::stages::check_payload;
+use crate::stages::f_at;
 use anc::check::Run;
 use anc::check::check_run;
 use anc::read::read_run;
+use places::payload_header_size;
 use stage::Stage;
 use wire::count::OctetCount;
 use wire::layout::ANC_COUNT_AT;
-use wire::layout::F_AT;
-use wire::layout::PAYLOAD_HEADER_SIZE;
+use wire::layout::Layout;
 use wire::number::PacketNumber;
 use wire::number::Timestamp;
 use wire::refusal::Refusal;
@@ -29,9 +30,9 @@ use words::octet::quad_at;
 use words::octet::wide;
 
 // The six values of a packet whose payload header stands at `header`.
-fn head_at(octets: &[u8], header: OctetCount) -> Head
-    requires { ⌜ (header .0 ≡ headerSize (now octets)) × (headerLeast ≤ header .0) × (header .0 + payloadHeaderSize rfc8331 ≤ length (now octets)) ⌝ }
-    ensures { λ r. ⌜ r ≡ headAt (now (octets .entry)) ⌝ }
+fn head_at(layout: Layout, octets: &[u8], header: OctetCount) -> Head
+    requires { ⌜ (header .0 ≡ headerSize (now octets)) × (headerLeast ≤ header .0) × (header .0 + payloadHeaderSize layout ≤ length (now octets)) ⌝ }
+    ensures { λ r. ⌜ r ≡ headAt layout (now (octets .entry)) ⌝ }
 {
     let at = header.0;
     let second = wide(octets[1]);
@@ -43,20 +44,20 @@ fn head_at(octets: &[u8], header: OctetCount) -> Head
         marker: second / 128 == 1,
         number: PacketNumber((high * 65536 + low) as u32),
         timestamp: Timestamp(quad_at(octets, 4)),
-        f: (wide(octets[at + F_AT]) / 64) as u8,
+        f: f_at(layout, octets, at),
     }
 }
 
 // The ANC data packets, and 13, of a packet that passed 1 to 8.
-fn check_packets(octets: &[u8], header: OctetCount, size: OctetCount) -> Checked
-    requires { ⌜ frontChecked (now octets) ≡ accepted (header .0, size .0) ⌝ }
-    ensures { λ r. ⌜ r ≡ checkedOf (now (octets .entry)) (readContent rfc8331 (now (octets .entry))) ⌝ }
+fn check_packets(layout: Layout, octets: &[u8], header: OctetCount, size: OctetCount) -> Checked
+    requires { ⌜ frontChecked layout (now octets) ≡ accepted (header .0, size .0) ⌝ }
+    ensures { λ r. ⌜ r ≡ checkedOf layout (now (octets .entry)) (readContent layout (now (octets .entry))) ⌝ }
 {
     let from = header.0;
-    let at = from + PAYLOAD_HEADER_SIZE;
+    let at = from + payload_header_size(layout);
     let end = at + size.0;
     let count = octets[from + ANC_COUNT_AT];
-    let run = check_run(&octets[at..end], count as usize);
+    let run = check_run(layout, &octets[at..end], count as usize);
     let Run::Accepted {
         octets: used,
         cells,
@@ -70,7 +71,7 @@ fn check_packets(octets: &[u8], header: OctetCount, size: OctetCount) -> Checked
             index: 0,
         });
     }
-    let head = head_at(octets, header);
+    let head = head_at(layout, octets, header);
     let summary = Summary {
         head,
         records: count,
@@ -84,33 +85,33 @@ fn check_packets(octets: &[u8], header: OctetCount, size: OctetCount) -> Checked
 }
 
 // Everything but 14.
-pub fn check(octets: &[u8]) -> Checked
-    ensures { λ r. ⌜ r ≡ checkedOf (now (octets .entry)) (readContent rfc8331 (now (octets .entry))) ⌝ }
+pub fn check(layout: Layout, octets: &[u8]) -> Checked
+    ensures { λ r. ⌜ r ≡ checkedOf layout (now (octets .entry)) (readContent layout (now (octets .entry))) ⌝ }
 {
     let stage = check_header(octets);
     let Stage::Passed(header) = stage else {
         return Checked::Refused(stage.refusal());
     };
-    let stage = check_padding(octets, header);
+    let stage = check_padding(layout, octets, header);
     let Stage::Passed(payload) = stage else {
         return Checked::Refused(stage.refusal());
     };
-    let stage = check_payload(octets, header, payload);
+    let stage = check_payload(layout, octets, header, payload);
     let Stage::Passed(length) = stage else {
         return Checked::Refused(stage.refusal());
     };
-    check_packets(octets, header, length)
+    check_packets(layout, octets, header, length)
 }
 
 // Writes the cells of a packet that `check` accepted to the first cells.
-pub fn read_records(octets: &[u8], outline: Outline, cells: &mut [u16])
-    requires { ⌜ checkedOf (now octets) (readContent rfc8331 (now octets)) ≡ Checked.Packet outline ⌝ }
+pub fn read_records(layout: Layout, octets: &[u8], outline: Outline, cells: &mut [u16])
+    requires { ⌜ checkedOf layout (now octets) (readContent layout (now octets)) ≡ Checked.Packet outline ⌝ }
     requires { ⌜ outline .summary .cells ≤ length (now cells) ⌝ }
-    ensures { λ r. ⌜ now (cells .exit) ≡ cellsAfter (readContent rfc8331 (now (octets .entry))) (now (cells .entry)) ⌝ }
+    ensures { λ r. ⌜ now (cells .exit) ≡ cellsAfter (readContent layout (now (octets .entry))) (now (cells .entry)) ⌝ }
 {
     let summary = outline.summary;
     let at = outline.at;
     let length = outline.length;
     let end = at + length.0;
-    read_run(&octets[at..end], summary.records as usize, cells);
+    read_run(layout, &octets[at..end], summary.records as usize, cells);
 }

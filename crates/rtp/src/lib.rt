@@ -12,14 +12,15 @@ use check::check;
 use check::read_records;
 use packet::Checked;
 use packet::Read;
+use wire::layout::Layout;
 use wire::refusal::Refusal;
 
-// Reads a packet: its records into the first cells, and what stands beside them.
-pub fn read(octets: &[u8], cells: &mut [u16]) -> Read
-    ensures { λ r. ⌜ r ≡ readReturns (now (octets .entry)) (now (cells .entry)) ⌝ }
-    ensures { λ r. ⌜ now (cells .exit) ≡ readLeaves (now (octets .entry)) (now (cells .entry)) ⌝ }
+// Reads a packet of the layout: its records into the first cells, and what stands beside them.
+pub fn read(layout: Layout, octets: &[u8], cells: &mut [u16]) -> Read
+    ensures { λ r. ⌜ r ≡ readReturns layout (now (octets .entry)) (now (cells .entry)) ⌝ }
+    ensures { λ r. ⌜ now (cells .exit) ≡ readLeaves layout (now (octets .entry)) (now (cells .entry)) ⌝ }
 {
-    let checked = check(octets);
+    let checked = check(layout, octets);
     let Checked::Packet(outline) = checked else {
         return Read::Refused(checked.refusal());
     };
@@ -30,6 +31,6 @@ pub fn read(octets: &[u8], cells: &mut [u16]) -> Read
             index: 0,
         });
     }
-    read_records(octets, outline, cells);
+    read_records(layout, octets, outline, cells);
     Read::Packet(summary)
 }

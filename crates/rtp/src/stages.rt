@@ -2,17 +2,18 @@
 ghost use mathlib.Core.Path.{_≡_};
 ghost use Prim.Native.Nat.{_+_, _≤_};
 ghost use lib.ListN.{length};
-ghost use Rattle.wire.specs.Layout.{payloadHeaderSize, rfc8331};
-ghost use Rattle.wire.specs.Packet.{headerChecks, headerLeast, headerSize, lengthField, paddingChecks, paddingCount, paddingFlag, payloadChecks, payloadSize};
+ghost use Rattle.wire.specs.Layout.{payloadHeaderSize};
+ghost use Rattle.wire.specs.Packet.{fField, headerChecks, headerLeast, headerSize, lengthField, paddingChecks, paddingCount, paddingFlag, payloadChecks, payloadSize};
 ghost use Rattle.wire.specs.Result.{accepted, judge};
 ghost use Rattle.stage.specs.Answers.{stageOf};
 ghost use Rattle.rtp.specs.Answers.{SizeFound};
+use places::payload_header_size;
 use stage::Stage;
 use wire::count::OctetCount;
 use wire::layout::ANC_COUNT_AT;
 use wire::layout::F_AT;
 use wire::layout::LENGTH_AT;
-use wire::layout::PAYLOAD_HEADER_SIZE;
+use wire::layout::Layout;
 use wire::layout::RTP_HEADER_SIZE;
 use wire::layout::RTP_WORD;
 use wire::limit::MAX_PACKET;
@@ -75,9 +76,9 @@ fn padding_count(octets: &[u8]) -> OctetCount
 }
 
 // 4, 5: the payload's octets.
-pub(crate) fn check_padding(octets: &[u8], header: OctetCount) -> Stage
+pub(crate) fn check_padding(layout: Layout, octets: &[u8], header: OctetCount) -> Stage
     requires { ⌜ (header .0 ≡ headerSize (now octets)) × (header .0 ≤ length (now octets)) × (headerLeast ≤ length (now octets)) ⌝ }
-    ensures { λ r. ⌜ r ≡ stageOf (judge 0 (paddingChecks rfc8331 (now (octets .entry))) (accepted (payloadSize (now (octets .entry))))) ⌝ }
+    ensures { λ r. ⌜ r ≡ stageOf (judge 0 (paddingChecks layout (now (octets .entry))) (accepted (payloadSize (now (octets .entry))))) ⌝ }
 {
     let padding = padding_count(octets);
     let after = octets.len() - header.0;
@@ -87,22 +88,38 @@ pub(crate) fn check_padding(octets: &[u8], header: OctetCount) -> Stage
     if after < padding.0 {
         return Stage::refuse(Refusal::PADDING_WRONG);
     }
-    if after - padding.0 < PAYLOAD_HEADER_SIZE {
+    if after - padding.0 < payload_header_size(layout) {
         return Stage::refuse(Refusal::PAYLOAD_CUT);
     }
     Stage::Passed(OctetCount(after - padding.0))
 }
 
+// F of the payload header at the octet `at`; 0 in the drafts' layout, which has none.
+pub(crate) fn f_at(layout: Layout, octets: &[u8], at: usize) -> u8
+    requires { ⌜ (at ≡ headerSize (now octets)) × (at + payloadHeaderSize layout ≤ length (now octets)) ⌝ }
+    ensures { λ r. ⌜ r ≡ fField layout (now (octets .entry)) ⌝ }
+{
+    match layout {
+        Layout::Rfc8331 => octets[at + F_AT] / 64,
+        Layout::Draft2015 => 0,
+    }
+}
+
 // 6, 7, 8: the octets of the ANC data packets.
-pub(crate) fn check_payload(octets: &[u8], header: OctetCount, payload: OctetCount) -> Stage
+pub(crate) fn check_payload(
+    layout: Layout,
+    octets: &[u8],
+    header: OctetCount,
+    payload: OctetCount,
+) -> Stage
     requires { ⌜ (header .0 ≡ headerSize (now octets)) × (payload .0 ≡ payloadSize (now octets)) ⌝ }
-    requires { ⌜ (payloadHeaderSize rfc8331 ≤ payload .0) × (header .0 + payload .0 ≤ length (now octets)) ⌝ }
-    ensures { λ r. ⌜ r ≡ stageOf (judge 0 (payloadChecks rfc8331 (now (octets .entry))) (accepted (lengthField (now (octets .entry))))) ⌝ }
+    requires { ⌜ (payloadHeaderSize layout ≤ payload .0) × (header .0 + payload .0 ≤ length (now octets)) ⌝ }
+    ensures { λ r. ⌜ r ≡ stageOf (judge 0 (payloadChecks layout (now (octets .entry))) (accepted (lengthField (now (octets .entry))))) ⌝ }
 {
     let at = header.0;
     let length = OctetCount(pair_at(octets, at + LENGTH_AT));
-    let f_valid = wide(octets[at + F_AT]) / 64 != 1;
-    let length_right = length.0 == payload.0 - PAYLOAD_HEADER_SIZE;
+    let f_valid = f_at(layout, octets, at) != 1;
+    let length_right = length.0 == payload.0 - payload_header_size(layout);
     let counted = (octets[at + ANC_COUNT_AT] != 0) | (length.0 == 0);
     if !f_valid {
         return Stage::refuse(Refusal::F_INVALID);

@@ -1,5 +1,6 @@
 // Writes packets with the records A and B of 01, "Marked examples", reads them back and prints both ways: the octets in hex,
-// then what was read and its cells. The first four are the frames of 01, "`fieldlist`".
+// then what was read and its cells. The first four are the frames of 01, "`fieldlist`"; the last are in the layout of the drafts of
+// 2015 (02, K3).
 use printing::number;
 use printing::print;
 use printing::print_cells;
@@ -7,6 +8,7 @@ use printing::print_octets;
 use printing::print_refusal;
 use rtp::packet::Head;
 use rtp::packet::Read;
+use wire::layout::Layout;
 use wire::number::PacketNumber;
 use wire::number::Timestamp;
 use wire::written::Written;
@@ -25,9 +27,9 @@ fn print_head(head: Head) {
 }
 
 // Reads a packet and prints what it says.
-fn read_back(octets: &[u8]) {
+fn read_back(layout: Layout, octets: &[u8]) {
     let mut cells = [0u16; 32];
-    let read = rtp::read(octets, &mut cells);
+    let read = rtp::read(layout, octets, &mut cells);
     match read {
         Read::Refused(refusal) => print_refusal(refusal),
         Read::Packet(summary) => {
@@ -43,16 +45,16 @@ fn read_back(octets: &[u8]) {
 }
 
 // Writes a packet, prints its octets and reads it back.
-fn there_and_back(head: Head, cells: &[u16]) {
+fn there_and_back(layout: Layout, head: Head, cells: &[u16]) {
     let mut out = [0u8; 64];
-    let written = packetizer::write(head, cells, &mut out);
+    let written = packetizer::write(layout, head, cells, &mut out);
     match written {
         Written::Refused(refusal) => print_refusal(refusal),
         Written::Octets(size) => {
             let n = size.0;
             if n <= 64 {
                 print_octets(&out[..n]);
-                read_back(&out[..n]);
+                read_back(layout, &out[..n]);
             }
         }
     }
@@ -70,11 +72,12 @@ fn head(packet: u32, time: u32, f: u8) -> Head {
 }
 
 fn main() {
+    let rfc = Layout::Rfc8331;
     let a = [0u16, 9, 0, 0, 0, 0x41, 5, 0];
-    there_and_back(head(7, 1000, 2), &a);
-    there_and_back(head(8, 2501, 3), &a);
-    there_and_back(head(8, 2501, 3), &a);
-    there_and_back(head(10, 5504, 3), &a);
+    there_and_back(rfc, head(7, 1000, 2), &a);
+    there_and_back(rfc, head(8, 2501, 3), &a);
+    there_and_back(rfc, head(8, 2501, 3), &a);
+    there_and_back(rfc, head(10, 5504, 3), &a);
     let both = [
         0u16,
         9,
@@ -95,11 +98,17 @@ fn main() {
         0x2AA,
         0x155,
     ];
-    there_and_back(head(0x10000, 0, 0), &both);
+    there_and_back(rfc, head(0x10000, 0, 0), &both);
     // No records: 20 octets.
-    there_and_back(head(0xFFFFFFFF, 0xFFFFFFFF, 0), &both[..0]);
+    there_and_back(rfc, head(0xFFFFFFFF, 0xFFFFFFFF, 0), &both[..0]);
     // 24, 20 with the record's index, 23.
-    there_and_back(head(7, 1000, 1), &a);
-    there_and_back(head(7, 1000, 2), &both[..9]);
-    read_back(&b"too short"[..]);
+    there_and_back(rfc, head(7, 1000, 1), &a);
+    there_and_back(rfc, head(7, 1000, 2), &both[..9]);
+    read_back(rfc, &b"too short"[..]);
+    // Record A; no records: 17 octets; F and S are 25.
+    let draft = Layout::Draft2015;
+    there_and_back(draft, head(7, 1000, 0), &a);
+    there_and_back(draft, head(7, 1000, 0), &both[..0]);
+    there_and_back(draft, head(7, 1000, 2), &a);
+    there_and_back(draft, head(7, 1000, 0), &both);
 }

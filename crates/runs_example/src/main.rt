@@ -10,6 +10,7 @@ use rtp::packet::Head;
 use rtp::packet::Read;
 use std::num::wrapping_add_u16;
 use wire::layout::FRONT_SIZE;
+use wire::layout::Layout;
 use wire::limit::MAX_CELLS;
 use wire::limit::MAX_PACKET;
 use wire::limit::MAX_RECORDS;
@@ -63,7 +64,7 @@ fn sum(cells: &[u16]) -> u16 {
 
 // Reads a packet and prints what was read.
 fn read_back(octets: &[u8], cells: &mut [u16]) {
-    let read = rtp::read(octets, cells);
+    let read = rtp::read(Layout::Rfc8331, octets, cells);
     match read {
         Read::Refused(refusal) => print_refusal(refusal),
         Read::Packet(summary) => {
@@ -80,7 +81,7 @@ fn read_back(octets: &[u8], cells: &mut [u16]) {
 
 // Writes a list as a packet and reads that back.
 fn there_and_back(list: &[u16], out: &mut [u8], cells: &mut [u16]) {
-    let written = packetizer::write(head(), list, out);
+    let written = packetizer::write(Layout::Rfc8331, head(), list, out);
     match written {
         Written::Refused(refusal) => print_refusal(refusal),
         Written::Octets(size) => {
@@ -188,7 +189,7 @@ fn run_bits(packet: &mut [u8], cells: &mut [u16]) {
 // The packet of one record A, written once, and read with changes.
 fn run_changes(out: &mut [u8], cells: &mut [u16]) {
     let a = A;
-    let written = packetizer::write(head(), &a, out);
+    let written = packetizer::write(Layout::Rfc8331, head(), &a, out);
     let Written::Octets(size) = written else {
         return;
     };

@@ -8,7 +8,7 @@ use native.Mathlib.Omega.{arith}
 use lib.Dec.{eqb}
 use lib.ListN.{length}
 use borrow.Author.Tests.{eq-eqb, ne-eqb}
-use Rattle.wire.specs.Layout.{rfc8331}
+use Rattle.wire.specs.Layout.{Layout}
 use Rattle.wire.specs.Result.{accepted}
 use Rattle.wire.specs.Packet.{Content, readContent}
 use Rattle.stream.specs.declared.state.State.{State}
@@ -41,9 +41,9 @@ follow-appends (filling t f r c) p room = go (eqb t (p .timestamp) && eqb f (p .
     go false = refl
 
 -- "Held and whole append their cells after the gathered ones; other answers write nothing."
-pub store-after : (st : State) (octets store : List ℕ) → StoreAfter store (step st octets store)
-store-after st octets store =
-    step-is st octets store (StoreAfter store) (λ x e. refl) (λ e. refl)
+pub store-after : (st : State) (L : Layout) (octets store : List ℕ) → StoreAfter store (step st L octets store)
+store-after st L octets store =
+    step-is st L octets store (StoreAfter store) (λ x e. refl) (λ e. refl)
     (λ k q h g m e. ap (λ (t : Bool). appended t g k store) (sym (follow-appends g (carried k) (length store)) ∙ e))
 
 -- what a fresh packet leaves, marked or not
@@ -82,10 +82,10 @@ fresh-phase st g missing k store =
     }
 
 -- "After any marked fresh arrival the keeper is ready; after an unmarked one that isn't held it is lost."
-pub phase-after : (st : State) (octets store : List ℕ) (k : Content) → readContent rfc8331 octets ≡ accepted k
-    → PhaseAfter k (step st octets store)
-phase-after st octets store k e =
-    step-is st octets store (PhaseAfter k) (λ x. record { marked = λ f m. absurd (f x refl); unmarked = λ f m n. absurd (f x refl) })
+pub phase-after : (st : State) (L : Layout) (octets store : List ℕ) (k : Content) → readContent L octets ≡ accepted k
+    → PhaseAfter k (step st L octets store)
+phase-after st L octets store k e =
+    step-is st L octets store (PhaseAfter k) (λ x. record { marked = λ f m. absurd (f x refl); unmarked = λ f m n. absurd (f x refl) })
     (record { marked = λ f m. absurd (f _ refl); unmarked = λ f m n. absurd (f _ refl) })
     (λ k′ e′ h g m.
     let q : k′ ≡ k = cc in

@@ -6,6 +6,7 @@ use mathlib.Core.List.{List, []}
 use Prim.Native.Nat.{ℕ, _+_}
 use lib.Dec.{eqb}
 use lib.ListN.{length}
+use Rattle.wire.specs.Layout.{Layout, rfc8331}
 use Rattle.wire.specs.Cells.{listOf}
 use Rattle.wire.specs.Packet.{Content}
 use Rattle.wire.proofs.ListLaws.{length-splice}
@@ -36,16 +37,16 @@ follow-fits (filling t f r c) p room = go (eqb t (p .timestamp) && eqb f (p .f))
     go true = join-fits r c p room
     go false = dropped-fits (p .marked) room
 
-sound-after : (st : State) (octets store : List ℕ) → sound st (length store) ≡ true → sound (step st octets store .state) (length store) ≡ true
-sound-after st octets store e =
-    step-is st octets store (λ (x : Step). sound (x .state) (length store) ≡ true) (λ x. e) e
+sound-after : (st : State) (L : Layout) (octets store : List ℕ) → sound st (length store) ≡ true → sound (step st L octets store .state) (length store) ≡ true
+sound-after st L octets store e =
+    step-is st L octets store (λ (x : Step). sound (x .state) (length store) ≡ true) (λ x. e) e
     (λ k q h g m.
     sound-heard (follow g (carried k) (length store) .gathered) (length store) (follow-fits g (carried k) (length store)))
 
 sound-passes : (st : State) (store : List ℕ) → sound st (length store) ≡ true → Passes35 st store
-sound-passes st store h octets x e n =
-    admitted-not-35 st (admit (st .source) (st .«payload_type») octets) store x (admit-numbered (st .source) (st .«payload_type») octets)
-    (sym (ap (λ (z : Step). z .answer) (sound-step st octets store h)) ∙ e)
+sound-passes st store h L octets x e n =
+    admitted-not-35 st (admit L (st .source) (st .«payload_type») octets) store x (admit-numbered L (st .source) (st .«payload_type») octets)
+    (sym (ap (λ (z : Step). z .answer) (sound-step st L octets store h)) ∙ e)
     n
 
 passes-sound : (st : State) (store : List ℕ) → Passes35 st store → sound st (length store) ≡ true
@@ -54,7 +55,7 @@ passes-sound st store p = go (sound st (length store)) refl
     go : (b : Bool) → sound st (length store) ≡ b → b ≡ true
     go true e = refl
     go false e =
-        absurd (p [] (record { number = 35; index = 0 }) (ap (λ (z : Step). z .answer) (step-refused st [] store (record { number = 35; index = 0 }) (rw e))) refl)
+        absurd (p rfc8331 [] (record { number = 35; index = 0 }) (ap (λ (z : Step). z .answer) (step-refused st rfc8331 [] store (record { number = 35; index = 0 }) (rw e))) refl)
 
 appended-length : (t : Bool) (g : Gathered) (k : Content) (store : List ℕ) → follow g (carried k) (length store) .append ≡ t
     → length (appended t g k store) ≡ length store
@@ -63,15 +64,15 @@ appended-length true g k store e =
 appended-length false g k store e = refl
 
 -- a step keeps the store's length
-pub length-after : (st : State) (octets store : List ℕ) → length (step st octets store .store) ≡ length store
-length-after st octets store =
-    step-is st octets store (λ (x : Step). length (x .store) ≡ length store) (λ x. refl) refl
+pub length-after : (st : State) (L : Layout) (octets store : List ℕ) → length (step st L octets store .store) ≡ length store
+length-after st L octets store =
+    step-is st L octets store (λ (x : Step). length (x .store) ≡ length store) (λ x. refl) refl
     (λ k q h g m. appended-length _ g k store refl)
 
 -- from a state that 35 lets pass, a step gives a state that 35 lets pass with the store that the step leaves
-pub passes-after : (st : State) (octets store : List ℕ) → Passes35 st store
-    → Passes35 (step st octets store .state) (step st octets store .store)
-passes-after st octets store p =
-    let z : Step = step st octets store in
+pub passes-after : (st : State) (L : Layout) (octets store : List ℕ) → Passes35 st store
+    → Passes35 (step st L octets store .state) (step st L octets store .store)
+passes-after st L octets store p =
+    let z : Step = step st L octets store in
     sound-passes (z .state) (z .store)
-    (ap (λ (n : ℕ). sound (z .state) n) (length-after st octets store) ∙ sound-after st octets store (passes-sound st store p))
+    (ap (λ (n : ℕ). sound (z .state) n) (length-after st L octets store) ∙ sound-after st L octets store (passes-sound st store p))

@@ -16,7 +16,7 @@ use Rattle.wire.specs.Packet.{Content}
 use Rattle.wire.specs.Writing.{maxType}
 use Rattle.stream.specs.declared.state.Answer.the-variants as answer
 use Rattle.stream.specs.Step.{Step, packetStep, admit, admittedStep, openOf}
-use Rattle.stream.specs.Stream.{sent, Stream, contentAt, Fits, WellFormedStream, Arriving, other, packet, OfStream, Call, Calls, none, _before_, Proper, Handed, Run, octetsOf, done, callStep, runFrom, openRun, run, listed, arrived, listedFresh, fresh, span, Demand3After, Demand3}
+use Rattle.stream.specs.Stream.{sent, Stream, contentAt, Fits, WellFormedStream, Arriving, other, packet, OfStream, Call, Calls, none, _before_, Proper, Handed, Run, octetsOf, layoutOf, done, callStep, runFrom, openRun, run, listed, arrived, listedFresh, fresh, span, Demand3After, Demand3}
 use Rattle.stream.proofs.WalkLaws.{packetAt, handedBefore, handed-idle, handed-all}
 use Rattle.stream.proofs.NumberLaws.{admit-numbered}
 use Rattle.stream.proofs.StepLaws.{sound-step, admitted-not-35}
@@ -25,7 +25,7 @@ use Rattle.stream.proofs.FreshLaws.{invariant-fresh}
 
 -- what an arrival's octets are read as
 abbrev reading : Stream → Arriving → Result Content
-reading s a = admit (s .source) (s .type) (octetsOf s a)
+reading s a = admit (layoutOf s a) (s .source) (s .type) (octetsOf s a)
 
 -- a call passes 35, and reads with the opened source and type
 call-step : {earlier : List Handed} (s : Stream) (js l : List ℕ) (r : Run) (c : Call) → WellFormedStream s → Each (Fits (c .store)) (s .fields)
@@ -34,8 +34,9 @@ call-step : {earlier : List Handed} (s : Stream) (js l : List ℕ) (r : Run) (c 
 call-step s js l r c w e v =
     let t : List ℕ = storeIn r (c .store) in
     let o : List ℕ = octetsOf s (c .arriving) in
-    sound-step (r .state) o t (sound-run s js l r (c .store) w e v)
-    ∙ ap₂ (λ (source type : ℕ). admittedStep (r .state) (admit source type o) t) (v .source) (v .type)
+    let L = layoutOf s (c .arriving) in
+    sound-step (r .state) L o t (sound-run s js l r (c .store) w e v)
+    ∙ ap₂ (λ (source type : ℕ). admittedStep (r .state) (admit L source type o) t) (v .source) (v .type)
 
 invariant-packet : {earlier : List Handed} (s : Stream) (js l : List ℕ) (r : Run) (i : ℕ) (offered : List ℕ) → WellFormedStream s
     → i < length (sent (s .fields)) → Each (Fits offered) (s .fields) → Invariant s earlier js l r
@@ -54,7 +55,7 @@ invariant-packet {earlier = earlier} s js l r i offered w h e v = go (leb (top l
 invariant-admitted : {earlier : List Handed} (s : Stream) (js l : List ℕ) (r : Run) (a : Arriving) (offered : List ℕ) → WellFormedStream s → OfStream s a
     → Each (Fits offered) (s .fields) → Invariant s earlier js l r
     → Invariant s earlier (listed a js) (listedFresh a js l) (done r (admittedStep (r .state) (reading s a) (storeIn r offered)))
-invariant-admitted s js l r (other o) offered w h e v = rw (h .1) (invariant-refused s js l r offered (h .0) e v)
+invariant-admitted s js l r (other L o) offered w h e v = rw (h .1) (invariant-refused s js l r offered (h .0) e v)
 invariant-admitted s js l r (packet i) offered w h e v = rw (w .accepts i h) (invariant-packet s js l r i offered w h e v)
 
 -- one call more, from any run
@@ -109,7 +110,7 @@ never-35 s w cs c p x e n =
     let v = invariant-run s [] [] cs w (p .0) in
     let q = call-step s (arrived cs) (fresh cs) (run s cs) c w (p .2) v in
     admitted-not-35 (run s cs .state) (reading s (c .arriving)) (storeIn (run s cs) (c .store)) x
-    (admit-numbered (s .source) (s .type) (octetsOf s (c .arriving)))
+    (admit-numbered (layoutOf s (c .arriving)) (s .source) (s .type) (octetsOf s (c .arriving)))
     (sym (ap (λ (z : Step). z .answer) q) ∙ e)
     n
 

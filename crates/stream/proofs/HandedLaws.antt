@@ -48,7 +48,7 @@ module _ (s : Stream) (cs : Calls) (h : Handed) (v : Invariant s [] (arrived cs)
   arrival-handed : (a : Arriving)
       → handedBefore ps l (top l) ++ (h ∷ []) ≡ handedBefore ps (listedFresh a (arrived cs) l) (top (listedFresh a (arrived cs) l))
       → HandedAt s cs a h
-  arrival-handed (other o) e = none-handed e (other o)
+  arrival-handed (other L o) e = none-handed e (other L o)
   arrival-handed (packet i) e = go (allBelow i (arrived cs)) refl e
     where
       go : (b : Bool) → allBelow i (arrived cs) ≡ b

@@ -14,3 +14,4 @@ pub mod RunInvariant
 pub mod StepLaws
 pub mod StreamExamples
 pub mod WalkLaws
+pub mod DraftRun

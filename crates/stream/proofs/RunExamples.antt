@@ -9,8 +9,9 @@ use lib.IntN.{pos, negsuc}
 use lib.ListN.{take, set}
 use Rattle.wire.specs.Bits.{toBits, num, bits, bitsAt, rowAt}
 use Rattle.wire.specs.Words.{headerWord, checksumWord}
+use Rattle.wire.specs.Layout.{rfc8331}
 use Rattle.wire.specs.Result.{accepted, refuse}
-use Rattle.wire.specs.Anc.{Each, ancSize, ancRecord, headersOk, checksumOk, alignmentOk, ancChecks, readAnc, readRun}
+use Rattle.wire.specs.Anc.{Each, ancSize, ancRecord, headersOk, rOk, checksumOk, alignmentOk, ancChecks, readAnc, readRun}
 use Rattle.wire.specs.Packet.{packetRead, headerChecks, paddingChecks, payloadChecks, readRecords, readPacket, readContent}
 use Rattle.wire.specs.Cells.{listOf}
 use Rattle.wire.proofs.Examples.{a, aOctets}
@@ -47,6 +48,7 @@ single timestamp f octets =
 abbrev pub stream : Stream
 stream =
     record {
+      layout = rfc8331;
       source = 1;
       type = 112;
       start = 7;
@@ -54,17 +56,17 @@ stream =
     }
 
 -- each packet is admitted, and says what the stream says of it
-pub admits : (admit 1 112 frame7Octets ≡ accepted frame7) × (admit 1 112 frame8Octets ≡ accepted frame8)
-    × (admit 1 112 frame9Octets ≡ accepted (frame 9 4002 2)) × (admit 1 112 frame10Octets ≡ accepted frame10)
-unfolding toBits num bits bitsAt rowAt headerWord checksumWord ancSize ancRecord headersOk checksumOk alignmentOk ancChecks readAnc readRun packetRead headerChecks paddingChecks payloadChecks readRecords readPacket readContent
+pub admits : (admit rfc8331 1 112 frame7Octets ≡ accepted frame7) × (admit rfc8331 1 112 frame8Octets ≡ accepted frame8)
+    × (admit rfc8331 1 112 frame9Octets ≡ accepted (frame 9 4002 2)) × (admit rfc8331 1 112 frame10Octets ≡ accepted frame10)
+unfolding toBits num bits bitsAt rowAt headerWord checksumWord ancSize ancRecord headersOk rOk checksumOk alignmentOk ancChecks readAnc readRun packetRead headerChecks paddingChecks payloadChecks readRecords readPacket readContent
 admits = (refl, refl, refl, refl)
 
 -- eleven octets are refused by 2
-pub refuses : admit 1 112 (take 11 frame7Octets) ≡ refuse 2 0
+pub refuses : admit rfc8331 1 112 (take 11 frame7Octets) ≡ refuse 2 0
 unfolding toBits num bits bitsAt headerChecks readPacket readContent
 refuses = refl
 
-accepts : (i : ℕ) → i < 4 → admit 1 112 (nth stream i .part .octets) ≡ accepted (contentAt stream i (nth stream i))
+accepts : (i : ℕ) → i < 4 → admit rfc8331 1 112 (nth stream i .part .octets) ≡ accepted (contentAt stream i (nth stream i))
 accepts zero h = admits .0
 accepts (suc zero) h = admits .1
 accepts (suc (suc zero)) h = admits .2
@@ -87,7 +89,7 @@ lend l i = record { arriving = packet i; store = l }
 abbrev pub calls : Calls
 calls =
     none before lend store 0
-    before record { arriving = other (take 11 frame7Octets); store = store }
+    before record { arriving = other rfc8331 (take 11 frame7Octets); store = store }
     before lend store 1
     before lend store 1
     before lend store 3
@@ -140,13 +142,14 @@ pub answered : (answers stream calls
       late = 1;
       missing = 1;
     })
-unfolding toBits num bits bitsAt rowAt headerWord checksumWord ancSize ancRecord headersOk checksumOk alignmentOk ancChecks readAnc readRun packetRead headerChecks paddingChecks payloadChecks readRecords readPacket readContent step
+unfolding toBits num bits bitsAt rowAt headerWord checksumWord ancSize ancRecord headersOk rOk checksumOk alignmentOk ancChecks readAnc readRun packetRead headerChecks paddingChecks payloadChecks readRecords readPacket readContent step
 answered = (refl, refl)
 
 -- A field of two packets behind packet 7: 8, unmarked, and these octets, both with record A.
 abbrev two : List ℕ → Stream
 two second =
     record {
+      layout = rfc8331;
       source = 1;
       type = 112;
       start = 7;
@@ -193,5 +196,5 @@ pub pair-answered : (answers pair (lends wide (2 ∷ 1 ∷ 0 ∷ []))
     × (answers mixed (lends wide (2 ∷ 1 ∷ 0 ∷ [])) ≡ answer.Skipped ∷ answer.Held ∷ answer.Mixed ∷ [])
     × (run mixed (lends wide (2 ∷ 1 ∷ 0 ∷ [])) .store ≡ run mixed (lends wide (1 ∷ 0 ∷ [])) .store)
     × (answers retimed (lends wide (2 ∷ 1 ∷ 0 ∷ [])) ≡ answer.Skipped ∷ answer.Held ∷ answer.Mixed ∷ [])
-unfolding toBits num bits bitsAt rowAt headerWord checksumWord ancSize ancRecord headersOk checksumOk alignmentOk ancChecks readAnc readRun packetRead headerChecks paddingChecks payloadChecks readRecords readPacket readContent step
+unfolding toBits num bits bitsAt rowAt headerWord checksumWord ancSize ancRecord headersOk rOk checksumOk alignmentOk ancChecks readAnc readRun packetRead headerChecks paddingChecks payloadChecks readRecords readPacket readContent step
 pair-answered = (refl, refl, refl, refl, refl, refl, refl, refl)

@@ -9,7 +9,7 @@ use lib.Dec.{eqb}
 use lib.ListN.{length}
 use Rattle.wire.specs.declared.refusal.Refusal.{Refusal}
 use Rattle.wire.specs.Result.{Result, refused, accepted, refuse}
-use Rattle.wire.specs.Layout.{rfc8331}
+use Rattle.wire.specs.Layout.{Layout}
 use Rattle.wire.specs.Packet.{Content, readContent}
 use Rattle.stream.specs.declared.state.State.{State}
 use Rattle.stream.specs.declared.state.Field.{Field}
@@ -102,12 +102,12 @@ checked-refuses true st r store x h e = admitted-refuses st r store x h e
 checked-refuses false st r store x h e = unchanged-refuses st store x (record { number = 35; index = 0 }) (λ n. omega arith) e
 
 -- "Lent memory is unchanged, and so is the keeper's state, but 32 adds one to the late count": over any state
-pub refused-keeps : (st : State) (octets store : List ℕ) (x : Refusal) → step st octets store .answer ≡ answer.Refused x
-    → Refuses st store x (step st octets store)
+pub refused-keeps : (st : State) (L : Layout) (octets store : List ℕ) (x : Refusal) → step st L octets store .answer ≡ answer.Refused x
+    → Refuses st store x (step st L octets store)
 unfolding step
-refused-keeps st octets store x e =
-    checked-refuses (sound st (length store)) st (admit (st .source) (st .«payload_type») octets) store x
-    (admit-numbered (st .source) (st .«payload_type») octets)
+refused-keeps st L octets store x e =
+    checked-refuses (sound st (length store)) st (admit L (st .source) (st .«payload_type») octets) store x
+    (admit-numbered L (st .source) (st .«payload_type») octets)
     e
 
 -- what passes 35 is not refused by it
@@ -122,48 +122,48 @@ admitted-not-35 st (accepted k) store x h e n =
     omega arith
 
 -- the step of a sound state
-pub sound-step : (st : State) (octets store : List ℕ) → sound st (length store) ≡ true
-    → step st octets store ≡ admittedStep st (admit (st .source) (st .«payload_type») octets) store
+pub sound-step : (st : State) (L : Layout) (octets store : List ℕ) → sound st (length store) ≡ true
+    → step st L octets store ≡ admittedStep st (admit L (st .source) (st .«payload_type») octets) store
 unfolding step
-sound-step st octets store h = rw h
+sound-step st L octets store h = rw h
 
 -- what an admitted packet has passed
-pub passed : (st : State) (room : ℕ) (s : List ℕ) (k : Content) → admission st room s ≡ accepted k
-    → (sound st room ≡ true) × (readContent rfc8331 s ≡ accepted k)
-passed st room s k h =
-    let p = judge-accepts 0 ((sound st room, 35) ∷ []) (admit (st .source) (st .«payload_type») s) k h in
-    let a = then-accepts (readContent rfc8331 s) _ k (p .1) in
+pub passed : (st : State) (L : Layout) (room : ℕ) (s : List ℕ) (k : Content) → admission st L room s ≡ accepted k
+    → (sound st room ≡ true) × (readContent L s ≡ accepted k)
+passed st L room s k h =
+    let p = judge-accepts 0 ((sound st room, 35) ∷ []) (admit L (st .source) (st .«payload_type») s) k h in
+    let a = then-accepts (readContent L s) _ k (p .1) in
     let b = judge-accepts 0 (openedChecks (st .source) (st .«payload_type») (a .0 .source) (a .0 .type)) (accepted (a .0)) k (a .2) in
     (p .0 .0, a .1 ∙ b .1)
 
 -- the step of what is refused, and of what is admitted
-module _ (st : State) (s store : List ℕ) where
-  pub step-refused : (x : Refusal) → admission st (length store) s ≡ refused x → step st s store ≡ unchanged st store x
+module _ (st : State) (L : Layout) (s store : List ℕ) where
+  pub step-refused : (x : Refusal) → admission st L (length store) s ≡ refused x → step st L s store ≡ unchanged st store x
   unfolding step
   step-refused x h = ap (λ (r : Result Content). admittedStep st r store) h
 
-  pub step-admitted : (k : Content) → admission st (length store) s ≡ accepted k → step st s store ≡ packetStep (st .heard) st k store
+  pub step-admitted : (k : Content) → admission st L (length store) s ≡ accepted k → step st L s store ≡ packetStep (st .heard) st k store
   unfolding step
   step-admitted k h = ap (λ (r : Result Content). admittedStep st r store) h
 
 -- Every step refuses and changes nothing, or counts one more as late, or is that of a fresh packet. What holds of these three holds of
 -- every step.
-module _ (st : State) (octets store : List ℕ) (P : Step → Type 0) (refuses : (x : Refusal) → P (unchanged st store x)) (lates : P (lateStep st store))
-    (freshens : (k : Content) → readContent rfc8331 octets ≡ accepted k → sound st (length store) ≡ true → (found : Gathered) (missing : ℕ)
+module _ (st : State) (L : Layout) (octets store : List ℕ) (P : Step → Type 0) (refuses : (x : Refusal) → P (unchanged st store x)) (lates : P (lateStep st store))
+    (freshens : (k : Content) → readContent L octets ≡ accepted k → sound st (length store) ≡ true → (found : Gathered) (missing : ℕ)
     → P (freshStep st found missing k store)) where
-  class-is : (c : Class) (k : Content) → readContent rfc8331 octets ≡ accepted k → sound st (length store) ≡ true → P (classStep c st k store)
+  class-is : (c : Class) (k : Content) → readContent L octets ≡ accepted k → sound st (length store) ≡ true → P (classStep c st k store)
   class-is late k e h = lates
   class-is next k e h = freshens k e h (gathered st) 0
   class-is (gap n) k e h = freshens k e h lost n
 
-  packet-is : (b : Bool) (k : Content) → readContent rfc8331 octets ≡ accepted k → sound st (length store) ≡ true → P (packetStep b st k store)
+  packet-is : (b : Bool) (k : Content) → readContent L octets ≡ accepted k → sound st (length store) ≡ true → P (packetStep b st k store)
   packet-is false k e h = freshens k e h lost 0
   packet-is true k e h = class-is (classify (distance (st .last .0) (k .number))) k e h
 
-  admitted-is : (r : Result Content) → admission st (length store) octets ≡ r → P (admittedStep st r store)
+  admitted-is : (r : Result Content) → admission st L (length store) octets ≡ r → P (admittedStep st r store)
   admitted-is (refused x) e = refuses x
-  admitted-is (accepted k) e = let p = passed st (length store) octets k e in packet-is (st .heard) k (p .1) (p .0)
+  admitted-is (accepted k) e = let p = passed st L (length store) octets k e in packet-is (st .heard) k (p .1) (p .0)
 
-  pub step-is : P (step st octets store)
+  pub step-is : P (step st L octets store)
   unfolding step
-  step-is = admitted-is (admission st (length store) octets) refl
+  step-is = admitted-is (admission st L (length store) octets) refl

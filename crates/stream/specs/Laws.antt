@@ -4,6 +4,7 @@ use mathlib.Core.Bool.{Bool, true, false}
 use mathlib.Core.List.{List}
 use Prim.Native.Nat.{ℕ}
 use Rattle.wire.specs.declared.refusal.Refusal.{Refusal}
+use Rattle.wire.specs.Layout.{Layout}
 use Rattle.wire.specs.Cells.{allBelow}
 use Rattle.wire.specs.Packet.{Content}
 use Rattle.stream.specs.declared.state.State.{State}
@@ -37,7 +38,7 @@ StoreAfter store x = appends (x .answer) ≡ false → x .store ≡ store
 
 -- 35 lets a state pass with a store: no arrival is refused by it
 abbrev pub Passes35 : State → List ℕ → Type 0
-Passes35 st store = (octets : List ℕ) (x : Refusal) → step st octets store .answer ≡ answer.Refused x → x .number ≡ 35 → ⊥
+Passes35 st store = (L : Layout) (octets : List ℕ) (x : Refusal) → step st L octets store .answer ≡ answer.Refused x → x .number ≡ 35 → ⊥
 
 -- "A field is handed out by the answer whole to the fresh arrival of its last packet", "as sent": what arrives where `h` is handed out
 pub record HandedAt (s : Stream) (cs : Calls) (a : Arriving) (h : Handed) : Type 0 where

@@ -6,7 +6,7 @@ use lib.Dec.{eqb, leb, ltb}
 use lib.IntN.{ℤ, pos, negsuc}
 use lib.ListN.{length}
 use Rattle.wire.specs.Bits.{splice}
-use Rattle.wire.specs.Layout.{rfc8331}
+use Rattle.wire.specs.Layout.{Layout}
 use Rattle.wire.specs.Result.{Result, refused, accepted, Checks, judge, _then_}
 use Rattle.wire.specs.Cells.{listOf}
 use Rattle.wire.specs.Packet.{Content, readContent}
@@ -251,9 +251,9 @@ abbrev pub openedChecks : (source type saidSource saidType : ℕ) → Checks
 openedChecks source type saidSource saidType = (eqb saidSource source, 30) ∷ (eqb saidType type, 31) ∷ []
 
 -- "1 to 13, then 30, 31": what the octets say, or the refusal
-abbrev pub admit : (source type : ℕ) → List ℕ → Result Content
-admit source type octets =
-    readContent rfc8331 octets then λ k. judge 0 (openedChecks source type (k .source) (k .type)) (accepted k)
+abbrev pub admit : Layout → (source type : ℕ) → List ℕ → Result Content
+admit L source type octets =
+    readContent L octets then λ k. judge 0 (openedChecks source type (k .source) (k .type)) (accepted k)
 
 -- the step of an arrival that is refused, or admitted
 abbrev pub admittedStep : State → Result Content → List ℕ → Step
@@ -280,12 +280,12 @@ sound st room =
     && ((isFilling (st .phase) || (eqb (st .records) 0 && eqb (st .cells) 0)) && (st .heard || isLost (st .phase)))
 
 -- "An arrival passes 35, then 1 to 13, then 30, 31, ..": what it says, or the refusal
-abbrev pub admission : State → (room : ℕ) → List ℕ → Result Content
-admission st room octets = judge 0 ((sound st room, 35) ∷ []) (admit (st .source) (st .«payload_type») octets)
+abbrev pub admission : State → Layout → (room : ℕ) → List ℕ → Result Content
+admission st L room octets = judge 0 ((sound st room, 35) ∷ []) (admit L (st .source) (st .«payload_type») octets)
 
--- ".. 32": one arrival. "Lent memory is unchanged, and so is the keeper's state, but 32 adds one to the late count."
-unfoldable pub step : State → List ℕ → List ℕ → Step
-step st octets store = admittedStep st (admission st (length store) octets) store
+-- ".. 32": one arrival, of octets in a layout that the caller tells (02, K3). "Lent memory is unchanged, and so is the keeper's state, but 32 adds one to the late count."
+unfoldable pub step : State → Layout → List ℕ → List ℕ → Step
+step st L octets store = admittedStep st (admission st L (length store) octets) store
 
 -- "A keeper just opened is lost, has no last fresh number, and its counts are 0."
 abbrev pub openState : (source type : ℕ) → State

@@ -6,6 +6,7 @@ use Prim.Native.Nat.{ℕ, zero, suc, _+_, _-_, _^_, _%_, _≤_, _<_, min}
 use lib.Dec.{eqb}
 use lib.ListN.{length, take, getD}
 use Rattle.wire.specs.declared.refusal.Refusal.{Refusal}
+use Rattle.wire.specs.Layout.{Layout}
 use Rattle.wire.specs.Result.{refused, accepted}
 use Rattle.wire.specs.Anc.{Record, Each}
 use Rattle.wire.specs.Cells.{listOf, allBelow}
@@ -64,8 +65,9 @@ abbrev pub sent : List Field → List Sent
 sent [] = []
 sent (x ∷ xs) = sentOf x [] (parts x) ++ sent xs
 
--- A stream: the opened source and type, the number of the first packet sent, and the fields.
+-- A stream, "all in one layout" (02, K3): the opened source and type, the number of the first packet sent, and the fields.
 pub record Stream : Type 0 where
+  pub layout : Layout
   pub source : ℕ
   pub type : ℕ
   pub start : ℕ
@@ -105,16 +107,16 @@ Within x = (recordCount (parts x) ≤ maxFieldRecords) × (length (cellsIn (part
 pub record WellFormedStream (s : Stream) : Type 0 where
   pub few : length (sent (s .fields)) ≤ 2 ^ 31
   pub within : Each Within (s .fields)
-  pub accepts : (i : ℕ) → i < length (sent (s .fields)) → admit (s .source) (s .type) (nth s i .part .octets) ≡ accepted (contentAt s i (nth s i))
+  pub accepts : (i : ℕ) → i < length (sent (s .fields)) → admit (s .layout) (s .source) (s .type) (nth s i .part .octets) ≡ accepted (contentAt s i (nth s i))
 
--- An arrival: packet `i` of the stream, or other octets.
+-- An arrival: packet `i` of the stream, or other octets, told any layout.
 pub data Arriving : Type 0 where
-  other : List ℕ → Arriving
+  other : Layout → List ℕ → Arriving
   packet : ℕ → Arriving
 
--- "the other octets among it are refused by 1 to 13, 30 or 31"
+-- "the other octets among it are refused by 1 to 13, 30 or 31", and 15, "counted with 1 to 13" (02, K3)
 abbrev pub OfStream : Stream → Arriving → Type 0
-OfStream s (other o) = (x : Refusal) × (admit (s .source) (s .type) o ≡ refused x)
+OfStream s (other L o) = (x : Refusal) × (admit L (s .source) (s .type) o ≡ refused x)
 OfStream s (packet i) = i < length (sent (s .fields))
 
 -- a store that the fields fit
@@ -169,8 +171,13 @@ storeFor (filling t f r c) left offered = left
 
 -- "An arrival of a sent packet has exactly that packet's octets."
 abbrev pub octetsOf : Stream → Arriving → List ℕ
-octetsOf s (other o) = o
+octetsOf s (other L o) = o
 octetsOf s (packet i) = nth s i .part .octets
+
+-- "with that layout told at every arrival of a sent packet" (02, K3)
+abbrev pub layoutOf : Stream → Arriving → Layout
+layoutOf s (other L o) = L
+layoutOf s (packet i) = s .layout
 
 -- a run with one step more
 abbrev pub done : Run → Step → Run
@@ -178,7 +185,7 @@ done r x = record { state = x .state; store = x .store; handed = r .handed ++ ha
 
 -- the step of a call
 abbrev pub callStep : Stream → Run → Call → Step
-callStep s r c = step (r .state) (octetsOf s (c .arriving)) (storeFor (gathered (r .state)) (r .store) (c .store))
+callStep s r c = step (r .state) (layoutOf s (c .arriving)) (octetsOf s (c .arriving)) (storeFor (gathered (r .state)) (r .store) (c .store))
 
 -- "Each call gets the state that the call before returned": a run that goes on from another
 abbrev pub runFrom : Run → Stream → Calls → Run
@@ -195,7 +202,7 @@ run s cs = runFrom (openRun s [] []) s cs
 
 -- a list of packets, with the one that arrives put first
 abbrev pub listed : Arriving → List ℕ → List ℕ
-listed (other o) l = l
+listed (other L o) l = l
 listed (packet i) l = i ∷ l
 
 -- The sent packets that arrived, the latest first.
@@ -205,7 +212,7 @@ arrived (cs before c) = listed (c .arriving) (arrived cs)
 
 -- "An arrival of a sent packet is fresh if sent later than every such arrival before it": by the order of sending
 abbrev pub listedFresh : Arriving → (arrived fresh : List ℕ) → List ℕ
-listedFresh (other o) js l = l
+listedFresh (other L o) js l = l
 listedFresh (packet i) js l = cond (allBelow i js) (i ∷ l) l
 
 -- the fresh arrivals, the latest first

@@ -10,6 +10,7 @@ use lib.Dec.{eqb, ltb}
 use lib.ListN.{length, take, drop, length-take, take-append-drop, drop-of-length-le}
 use lib.Seq.{take-all, take-length, take-append-seam}
 use Rattle.frames.specs.Frames.{Front, end, cut, frame, front}
+use Rattle.wire.specs.Layout.{Layout}
 use Rattle.listing.specs.Session.{turn, remaining, listing, endText, isBroken}
 use Rattle.listing.proofs.StreamLaws.{next-frame, last-lines, shorter}
 use Rattle.turns.specs.declared.Run.{Run}
@@ -20,9 +21,9 @@ use Rattle.turns.proofs.TurnLaws.{length-here}
 abbrev pub printed : Run → (input store out unread : List ℕ) → List ℕ
 printed v input store out unread = unwritten v out ++ remaining (v .session) store (unlisted v input ++ unread)
 
-start-prints : (out out′ : List ℕ) (r : Run) → Started out out′ r → (input store unread : List ℕ) → printed r input store out′ unread ≡ listing store unread
+start-prints : (L : Layout) (out out′ : List ℕ) (r : Run) → Started L out out′ r → (input store unread : List ℕ) → printed r input store out′ unread ≡ listing L store unread
 unfolding listing
-start-prints out out′ r t input store unread =
+start-prints L out out′ r t input store unread =
     let n : r .end - r .at ≡ 0 = omega (arith, t .bounds .1) in
     let none : unlisted r input ≡ [] = ap (λ (k : ℕ). take k (drop (r .at) input)) n in
     λ i. t .text i ++ remaining (t .session i) store (none i ++ unread)
@@ -178,39 +179,39 @@ module _ (v : Run) (input store out : List ℕ) (r : Run) (input′ store′ out
       go true cut e (u, x) = other cut e (λ z. let y : _≡_ {A = ℕ} 0 1 = cc in omega arith) (refilled-keeps v input out inside r input′ out′ x (u .text) .rest h)
       go true (frame a b) e x = not-done (r .«open») (r .filled) (x .goes-on) h
 
-module _ {store₀ : List ℕ} where
-  pub bounds : {read written : List ℕ} {v : Run} {input store out : List ℕ} → Passed store₀ read written v input store out → InBounds v (length input) (length out)
+module _ {L : Layout} {store₀ : List ℕ} where
+  pub bounds : {read written : List ℕ} {v : Run} {input store out : List ℕ} → Passed L store₀ read written v input store out → InBounds v (length input) (length out)
   bounds (started t) = (t .bounds .0, omega (arith, t .bounds .1), t .bounds .2)
   bounds (turned p o t) = t .bounds
 
   -- THE INVARIANT OF A RUN
-  pub run-prints : {read written : List ℕ} {v : Run} {input store out : List ℕ} → Passed store₀ read written v input store out
-      → (unread : List ℕ) → written ++ printed v input store out unread ≡ listing store₀ (read ++ unread)
-  run-prints {v = v} {input = input} (started {out} {out′} t) unread = start-prints out out′ v t input store₀ unread
+  pub run-prints : {read written : List ℕ} {v : Run} {input store out : List ℕ} → Passed L store₀ read written v input store out
+      → (unread : List ℕ) → written ++ printed v input store out unread ≡ listing L store₀ (read ++ unread)
+  run-prints {v = v} {input = input} (started {out} {out′} t) unread = start-prints L out out′ v t input store₀ unread
   run-prints (turned {read} {written} {v} {input} {store} {out} {r} {input′} {store′} {out′} p o t) unread =
       let g = readIn v r input′ in
       append-assoc written (writtenIn v r out) (printed r input′ store′ out′ unread)
       ∙ ap (λ (z : List ℕ). written ++ z) (sym (turn-prints v input store out r input′ store′ out′ (bounds p) t unread))
       ∙ run-prints p (g ++ unread)
-      ∙ ap (listing store₀) (sym (append-assoc read g unread))
+      ∙ ap (listing L store₀) (sym (append-assoc read g unread))
 
-  run-ends : {read written : List ℕ} {v : Run} {input store out : List ℕ} → Passed store₀ read written v input store out
+  run-ends : {read written : List ℕ} {v : Run} {input store out : List ℕ} → Passed L store₀ read written v input store out
       → isDone v ≡ true → (p rest : List ℕ) → front (unlisted v input) ≡ frame p rest → ⊥
   run-ends {v = v} (started t) h = absurd (not-done (v .«open») (v .filled) (t .goes-on) h)
   run-ends (turned {read} {written} {v} {input} {store} {out} {r} {input′} {store′} {out′} p o t) h =
       turn-ends v input store out r input′ store′ out′ (bounds p) o t h
 
-  pub run-begins : {read written : List ℕ} {v : Run} {input store out : List ℕ} → Passed store₀ read written v input store out
-      → (unread : List ℕ) → Begins (listing store₀ (read ++ unread)) written
+  pub run-begins : {read written : List ℕ} {v : Run} {input store out : List ℕ} → Passed L store₀ read written v input store out
+      → (unread : List ℕ) → Begins (listing L store₀ (read ++ unread)) written
   run-begins {read} {written} {v} {input} {store} {out} p unread =
       ap (take (length written)) (sym (run-prints p unread)) ∙ take-append-seam written (printed v input store out unread)
 
   -- THE WHOLE: the texts written, joined, are the listing of the pieces read, joined
-  pub run-whole : {read written : List ℕ} {v : Run} {input store out : List ℕ} → Passed store₀ read written v input store out
-      → (r : Run) (out′ : List ℕ) (c : Closed v input out r out′) → isDone r ≡ true → written ++ writtenIn (c .ready) r out′ ≡ listing store₀ read
+  pub run-whole : {read written : List ℕ} {v : Run} {input store out : List ℕ} → Passed L store₀ read written v input store out
+      → (r : Run) (out′ : List ℕ) (c : Closed v input out r out′) → isDone r ≡ true → written ++ writtenIn (c .ready) r out′ ≡ listing L store₀ read
   run-whole {read} {written} {v} {input} {store} {out} p r out′ c h = go (isDone v) refl (c .step)
     where
-      go : (b : Bool) → isDone v ≡ b → Closing b v input out (c .ready) r out′ → written ++ writtenIn (c .ready) r out′ ≡ listing store₀ read
+      go : (b : Bool) → isDone v ≡ b → Closing b v input out (c .ready) r out′ → written ++ writtenIn (c .ready) r out′ ≡ listing L store₀ read
       go false e (a, x, same) =
           let f : isDone v ≡ true = subst (λ (z : Run). isDone z ≡ true) x h in
           let z : _≡_ {A = ℕ} 0 1 = cc (e, f) in
@@ -225,4 +226,4 @@ module _ {store₀ : List ℕ} where
           ap (λ (j : ℕ). written ++ take j out′) n
           ∙ ap (λ (z : List ℕ). written ++ z) (x .text ∙ sym lines ∙ sym (λ i. take (d .empty i) out ++ remaining (v .session) store (unlisted v input ++ [])))
           ∙ run-prints p []
-          ∙ ap (listing store₀) (append-nil read)
+          ∙ ap (listing L store₀) (append-nil read)

@@ -9,6 +9,7 @@ use lib.Dec.{eqb, ltb}
 use lib.IntN.{ℤ, pos, negsuc}
 use lib.ListN.{length, take, drop}
 use Rattle.wire.specs.Bits.{overwrite}
+use Rattle.wire.specs.Layout.{Layout}
 use Rattle.wire.specs.Writing.{maxFieldCells}
 use Rattle.lines.specs.Room.{lineRoom, roomy}
 use Rattle.record_lines.specs.Records.{cellRoom}
@@ -62,8 +63,8 @@ octetsOf (text.Octets n) = n
 octetsOf (text.Refused x) = 0
 
 -- at the start no depacketizer is open, nothing is read, and the first line is to be written
-pub record Started (out out′ : List ℕ) (r : Run) : Type 0 where
-  pub session : r .session ≡ session.Waiting
+pub record Started (L : Layout) (out out′ : List ℕ) (r : Run) : Type 0 where
+  pub session : r .session ≡ session.Waiting L
   pub bounds : InBounds r 0 (length out′)
   pub text : unwritten r out′ ≡ title
   pub octets : out′ ≡ overwrite title out
@@ -165,14 +166,14 @@ pub record Closed (v : Run) (input out : List ℕ) (r : Run) (out′ : List ℕ)
   pub step : Closing (isDone v) v input out ready r out′
 
 -- A RUN, turn by turn, with the pieces read and the texts written so far, each joined
-pub data Passed (store₀ : List ℕ) : (read written : List ℕ) (v : Run) (input store out : List ℕ) → Type 0 where
-  started : {out out′ input : List ℕ} {r : Run} → Started out out′ r → Passed store₀ [] [] r input store₀ out′
+pub data Passed (L : Layout) (store₀ : List ℕ) : (read written : List ℕ) (v : Run) (input store out : List ℕ) → Type 0 where
+  started : {out out′ input : List ℕ} {r : Run} → Started L out out′ r → Passed L store₀ [] [] r input store₀ out′
   turned : {read written : List ℕ} {v : Run} {input store out : List ℕ} {r : Run} {input′ store′ out′ : List ℕ}
-      → Passed store₀ read written v input store out → v .«open» ≡ true → Turned v input store out r input′ store′ out′
-      → Passed store₀ (read ++ readIn v r input′) (written ++ writtenIn v r out) r input′ store′ out′
+      → Passed L store₀ read written v input store out → v .«open» ≡ true → Turned v input store out r input′ store′ out′
+      → Passed L store₀ (read ++ readIn v r input′) (written ++ writtenIn v r out) r input′ store′ out′
 
 -- the turns that were made, and the most that are: a proved loop ends, and nothing says that a stream does
-abbrev pub turnsOf : {store₀ read written : List ℕ} {v : Run} {input store out : List ℕ} → Passed store₀ read written v input store out → ℕ
+abbrev pub turnsOf : {L : Layout} {store₀ read written : List ℕ} {v : Run} {input store out : List ℕ} → Passed L store₀ read written v input store out → ℕ
 turnsOf (started t) = 0
 turnsOf (turned p o t) = turnsOf p + 1
 
@@ -181,16 +182,16 @@ maxTurns = 2 ^ 64 - 1
 
 -- THE WHOLE RUN. It goes on until the input ends, a write fails or no turn is left. What was written is what the listing begins with, whatever is still
 -- to be read; and where all was written, with the last lines, it is the listing of what was read
-pub record Ended (store store′ out′ : List ℕ) (isWhole : Bool) : Type 0 where
+pub record Ended (L : Layout) (store store′ out′ : List ℕ) (isWhole : Bool) : Type 0 where
   pub read : List ℕ
   pub written : List ℕ
   pub before : Run
   pub input : List ℕ
   pub out : List ℕ
-  pub passed : Passed store read written before input store′ out
+  pub passed : Passed L store read written before input store′ out
   pub after : Run
   pub closed : Closed before input out after out′
   pub answer : isWhole ≡ isDone after
   pub ends : before .«open» ≡ true → turnsOf passed ≡ maxTurns
-  pub begins : (unread : List ℕ) → Begins (listing store (read ++ unread)) written
-  pub whole : isWhole ≡ true → written ++ writtenIn (closed .ready) after out′ ≡ listing store read
+  pub begins : (unread : List ℕ) → Begins (listing L store (read ++ unread)) written
+  pub whole : isWhole ≡ true → written ++ writtenIn (closed .ready) after out′ ≡ listing L store read

@@ -15,6 +15,7 @@ use listing::session::Turn;
 use listing::session::begin;
 use listing::session::finish;
 use listing::session::list_frame;
+use wire::layout::Layout;
 
 // The octets from `at` to `end` of the input are still to be listed, and the first `filled` of the output to be written.
 pub struct Run {
@@ -165,14 +166,14 @@ fn octets_of(text: Text) -> usize
     }
 }
 
-// The first line is put, and nothing is read.
-pub fn start(out: &mut [u8]) -> Run
+// The first line is put, and nothing is read; packets are told this layout.
+pub fn start(layout: Layout, out: &mut [u8]) -> Run
     requires { ⌜ lineRoom ≤ length (now out) ⌝ }
-    ensures { λ r. ⌜ Started (now (out .entry)) (now (out .exit)) r ⌝ }
+    ensures { λ r. ⌜ Started layout (now (out .entry)) (now (out .exit)) r ⌝ }
 {
     let filled = octets_of(begin(out));
     Run {
-        session: Session::Waiting,
+        session: Session::Waiting(layout),
         at: 0,
         end: 0,
         filled,

@@ -7,7 +7,7 @@ use mathlib.Core.List.{List, [], _∷_, _++_, nil≢cons, append-assoc, cons-eq-
 use Prim.Native.Nat.{ℕ, zero, suc, _+_, _*_, _%_, _^_, _<_, _≤_}
 use native.Mathlib.Nat.{mod-lt, zero-add, suc-inj}
 use native.Mathlib.Omega.{arith}
-use lib.Dec.{lit<}
+use lib.Dec.{leb, lit<}
 use lib.ListN.{length, take, drop, length-append, length-take, take-append-drop}
 use lib.Seq.{take-at, drop-at}
 use lib.Pow.{pow-pos}
@@ -16,7 +16,7 @@ use Rattle.wire.specs.Bits.{num, bitsAt, rowAt, Fields, row, width, Fit,
 use Rattle.wire.specs.Words.{wordBits, headerNumbers, headerWord, isHeaderWord, sumLow, checksumWord}
 use Rattle.wire.specs.Layout.{Layout, rfc8331, sBits, streamBits, rBits, alignment, leastSize}
 use Rattle.wire.specs.Result.{accepted}
-use Rattle.wire.specs.Anc.{Each, Record, WellFormed, checksum, headerFields, bodyFields, padding, ancFields, ancOctets, runOctets, bodyBits, ancSize, didAt, wordsAt, dataCount, ancRecord, headersOk, checksumOk, alignmentOk, ancChecks, readAnc, behind, readRun, runSize}
+use Rattle.wire.specs.Anc.{Each, Record, WellFormed, checksum, headerFields, bodyFields, padding, ancFields, ancOctets, runOctets, bodyBits, ancSize, didAt, wordsAt, dataCount, ancRecord, headersOk, rOk, checksumOk, alignmentOk, ancChecks, readAnc, behind, readRun, runSize}
 use Rattle.wire.proofs.BitLaws.{Reads, packed, unpacked, reads-append, width-row, length-rowAt, reads-rowAt, rowAt-reads, below-drop, below-octets, below-append, fit-append}
 use Rattle.wire.proofs.SizeLaws.{width-body, width-anc, length-anc, least-size}
 use Rattle.wire.proofs.WordLaws.{header-mod, header-lt, header-passes, checksum-lt}
@@ -59,22 +59,18 @@ module _ (L : Layout) (r : Record) where
         words = fit-row wordBits (r .words) .0 (fit-append (row wordBits (r .words)) sumFields .0 (b .1) .0);
       }
 
--- R bits read as zero: no layout has any yet
-no-r : (L : Layout) (s : List ℕ) (k : ℕ) → bitsAt s k (rBits L) ≡ 0
-unfolding bitsAt num
-no-r rfc8331 s k = refl
-
 module _ (L : Layout) (s : List ℕ) where
   -- octets that pass are long enough, and read as the fields of their record
   passed-reads : Passed (ancChecks L s)
       → (ancSize L (dataCount L s) ≤ length s) × (length (ancRecord L s .words) ≡ dataCount L s) × Reads s 0 (ancFields L (ancRecord L s))
-  unfolding ancChecks ancRecord headersOk checksumOk alignmentOk rowAt
+  unfolding ancChecks ancRecord headersOk rOk checksumOk alignmentOk rowAt
   passed-reads p =
       let r = ancRecord L s in
       let n = dataCount L s in
       let w = r .words in
       let lw : length w ≡ n = length-rowAt wordBits s (wordsAt L) n in
       let headers : headersOk L s ≡ true = search in
+      let quiet : rOk L s ≡ true = search in
       let sums : checksumOk L s ≡ true = search in
       let zeros : alignmentOk L s ≡ true = search in
       let h1 = and-true (isHeaderWord (bitsAt s (didAt L) wordBits)) _ headers in
@@ -93,7 +89,7 @@ module _ (L : Layout) (s : List ℕ) where
         leb-true (ancSize L n) (length s) search,
         lw,
         reads-append s 0 (bodyFields L r) _ .1 (
-          (refl, (refl, (refl, (refl, (refl, (e1, (e2, (e3, (no-r L s _, tail))))))))),
+          (refl, (refl, (refl, (refl, (refl, (e1, (e2, (e3, (eqb-true (bitsAt s (didAt L + wordBits + wordBits + wordBits) (rBits L)) 0 quiet, tail))))))))),
           (ap₂ (λ (x y : ℕ). bitsAt s x (padding (alignment L) y)) (zero-add _ ∙ wb) wb ∙ eqb-true (bitsAt s (bodyBits L n) (padding (alignment L) (bodyBits L n))) 0 zeros, tt),
         ),
       )
@@ -101,7 +97,7 @@ module _ (L : Layout) (s : List ℕ) where
   -- octets that read as the fields of a well-formed record pass, and the record is theirs
   reads-passed : (r : Record) → WellFormed L r → Reads s 0 (ancFields L r) → ancSize L (length (r .words)) ≤ length s
       → (ancRecord L s ≡ r) × Passed (ancChecks L s)
-  unfolding ancChecks ancRecord headersOk checksumOk alignmentOk rowAt
+  unfolding ancChecks ancRecord headersOk rOk checksumOk alignmentOk rowAt
   reads-passed r f rd l =
       let w = r .words in
       let b = reads-append s 0 (bodyFields L r) _ .0 rd in
@@ -110,6 +106,7 @@ module _ (L : Layout) (s : List ℕ) where
       let e1 : bitsAt s (didAt L) wordBits ≡ headerWord (r .did) = search in
       let e2 : bitsAt s (didAt L + wordBits) wordBits ≡ headerWord (r .sdid) = search in
       let e3 : bitsAt s (didAt L + wordBits + wordBits) wordBits ≡ headerWord (length w) = search in
+      let er : bitsAt s (didAt L + wordBits + wordBits + wordBits) (rBits L) ≡ 0 = search in
       let hc : bitsAt s 0 1 ≡ r .c = search in
       let hl : bitsAt s 1 11 ≡ r .line = search in
       let ho : bitsAt s 12 12 ≡ r .offset = search in
@@ -121,22 +118,16 @@ module _ (L : Layout) (s : List ℕ) where
       let hw : rowAt wordBits s (wordsAt L) (dataCount L s) ≡ w = ap (rowAt wordBits s (wordsAt L)) n ∙ rowAt-reads wordBits s (wordsAt L) w (t .0) in
       let wb = ap (bodyBits L) n ∙ sym (width-body L r) in
       let sum = ap (λ (x : ℕ). bitsAt s (wordsAt L + x) wordBits) (ap (λ (x : ℕ). wordBits * x) n ∙ sym (width-row wordBits w)) ∙ t .1 .0
-      ∙ (λ i. checksumWord (sumLow (sym e1 i ∷ sym e2 i ∷ sym e3 i ∷ sym hw i))) in (
-        λ i. record { c = hc i; line = hl i; offset = ho i; s = hs i; stream = ht i; did = hd i; sdid = hsd i; words = hw i },
-        (
-          le-leb (leastSize L) (length s) (omega (arith, least-size L (length w))),
-          (
-            and-both (header-passes _ _ e1 (f .did)) (and-both (header-passes _ _ e2 (f .sdid)) (and-both (header-passes _ _ e3 (f .count)) refl)),
-            (
-              le-leb (ancSize L (dataCount L s)) (length s) (rw n l),
-              (
-                eq-eqb (bitsAt s (wordsAt L + wordBits * dataCount L s) wordBits) _ sum,
-                (eq-eqb _ 0 (ap₂ (λ (x y : ℕ). bitsAt s x (padding (alignment L) y)) (wb ∙ sym (zero-add _)) wb ∙ b .1 .0), tt),
-              ),
-            ),
-          ),
-        ),
-      )
+      ∙ (λ i. checksumWord (sumLow (sym e1 i ∷ sym e2 i ∷ sym e3 i ∷ sym hw i))) in
+      let least : leb (leastSize L) (length s) ≡ true = le-leb (leastSize L) (length s) (omega (arith, least-size L (length w))) in
+      let headers : headersOk L s ≡ true =
+      and-both (header-passes _ _ e1 (f .did)) (and-both (header-passes _ _ e2 (f .sdid)) (and-both (header-passes _ _ e3 (f .count)) refl)) in
+      let whole : leb (ancSize L (dataCount L s)) (length s) ≡ true = le-leb (ancSize L (dataCount L s)) (length s) (rw n l) in
+      let quiet : rOk L s ≡ true = eq-eqb _ 0 er in
+      let sums : checksumOk L s ≡ true = eq-eqb (bitsAt s (wordsAt L + wordBits * dataCount L s) wordBits) _ sum in
+      let zeros : alignmentOk L s ≡ true =
+      eq-eqb _ 0 (ap₂ (λ (x y : ℕ). bitsAt s x (padding (alignment L) y)) (wb ∙ sym (zero-add _)) wb ∙ b .1 .0) in
+      (λ i. record { c = hc i; line = hl i; offset = ho i; s = hs i; stream = ht i; did = hd i; sdid = hsd i; words = hw i }, search)
 
   -- the record of octets that pass is well-formed, and its octets stand at the front
   passed-stands : Below 256 s → Passed (ancChecks L s)

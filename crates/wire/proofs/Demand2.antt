@@ -1,7 +1,7 @@
 -- Demand 2: which packets are accepted, that what is written reads back, and when rewriting gives the same octets; also that 22 is never given.
 -- From `packet-iff` and `list-iff`: a packet that is accepted, and a list that is taken, are what they are written as.
 use mathlib.Core.Path.{_≡_, refl, ap, sym, _∙_, subst}
-use mathlib.Core.Bool.{not, _&&_}
+use mathlib.Core.Bool.{true, not, _&&_}
 use mathlib.Core.Logic.{_↔_}
 use mathlib.Core.List.{List, [], _∷_, _++_}
 use Prim.Native.Nat.{ℕ, _+_, _*_, _/_, _%_, _^_, _<_, _≤_, zero-le}
@@ -12,14 +12,15 @@ use lib.ListN.{length, length-append}
 use lib.Pow.{pow-pos}
 use borrow.Author.Tests.{ne-eqb, leb-true, le-leb}
 use Rattle.wire.specs.Bits.{pack, Fit, Below, row}
-use Rattle.wire.specs.Layout.{Layout, rfc8331, fBits, reservedBits, payloadHeaderSize}
+use Rattle.wire.specs.Layout.{Layout, rfc8331, draft2015, fBits, reservedBits, payloadHeaderSize}
 use Rattle.wire.specs.Result.{accepted, _then_}
 use Rattle.wire.specs.Anc.{Record, WellFormed, Each, ancOctets, runOctets}
 use Rattle.wire.specs.Cells.{listOf, readList}
-use Rattle.wire.specs.Packet.{maxPacket, Packet, rtpFields, extensionFields, payloadFields, packetFields, packetOctets, lastOctet, WellFormedPacket, sourceCount, packetRead, readPacket, BareOctets, Content, content, readContent}
-use Rattle.wire.specs.Writing.{maxRecords, maxCells, maxType, plain, contentOctets, HeadFits, withRecords, headChecks, limitChecks, packetRecords, writeContent}
-use Rattle.wire.proofs.BitLaws.{length-rowAt, below-octets, below-append, fit-append}
+use Rattle.wire.specs.Packet.{maxPacket, Packet, rtpFields, extensionFields, payloadFields, packetFields, packetOctets, lastOctet, WellFormedPacket, sourceCount, hasExtension, paddingFlag, packetRead, readPacket, BareOctets, Content, content, readContent}
+use Rattle.wire.specs.Writing.{layoutOk, maxRecords, maxCells, maxType, plain, contentOctets, HeadFits, withRecords, headChecks, limitChecks, packetRecords, writeContent}
+use Rattle.wire.proofs.BitLaws.{no-bits, length-rowAt, below-octets, below-append, fit-append}
 use Rattle.wire.proofs.ResultLaws.{Passed, accepted-inj, then-accepts, and-true, and-both}
+use Rattle.wire.proofs.LayoutLaws.{places, layout-iff}
 use Rattle.wire.proofs.SizeLaws.{length-anc, size-cells}
 use Rattle.wire.proofs.AncLaws.{below-run}
 use Rattle.wire.proofs.CellLaws.{list-iff}
@@ -57,24 +58,18 @@ content-plain k =
 pub plain-read : (L : Layout) (k : Content) → WellFormedPacket L (plain k) → readContent L (contentOctets L k) ≡ accepted k
 plain-read L k h = acceptance L (contentOctets L k) (below-packet L (plain k) tt) k .1 (plain k, h, refl, content-plain k)
 
--- the records of a list, and F up to 3, are what each layout writes
-layout-each : (L : Layout) (rs : List Record) → Each (WellFormed rfc8331) rs ↔ Each (WellFormed L) rs
-layout-each rfc8331 rs = (λ h. h, λ h. h)
-
-layout-f : (L : Layout) (f : ℕ) → (f ≤ 3) ↔ (f < 2 ^ fBits L)
-layout-f rfc8331 f = (λ h. omega arith, λ h. omega arith)
-
 -- what passes the writer's checks is a well-formed packet
 plain-formed : (L : Layout) (k : Content) → HeadFits k → k .type ≤ maxType → k .f ≤ 3 → (k .f ≡ 1 → ⊥) → Each (WellFormed rfc8331) (k .records)
-    → length (k .records) ≤ maxRecords → length (contentOctets L k) ≤ maxPacket → WellFormedPacket L (plain k)
-plain-formed L k h t f nf r n l =
+    → layoutOk L (k .f) (k .records) ≡ true → length (k .records) ≤ maxRecords → length (contentOctets L k) ≤ maxPacket → WellFormedPacket L (plain k)
+plain-formed L k h t f nf r ok n l =
     let z = pow-pos (reservedBits L) in
-    let fl = layout-f L (k .f) .0 f in
+    let y = layout-iff L (k .f) (k .records) .0 (r, f, ok) in
+    let fl = y .1 in
     let run : length (runOctets L (k .records)) < 65536 = omega (arith, length-packet L (plain k)) in
     record {
       fit = omega (arith, h .marker, h .number, h .timestamp, h .source);
       f = nf;
-      records = layout-each L (k .records) .0 r;
+      records = y .0;
       some = zero-le;
       count = sym (zero-mul 0);
       short = l;
@@ -92,13 +87,15 @@ written-read L k cells room o h e =
     let p = passes (headChecks k) (λ rs. limitChecks L (withRecords k rs) (length cells) room) cells rs (b .1) in
     let a1 = and-true (leb (k .type) maxType) (leb (k .f) 3 && not (eqb (k .f) 1)) (p .head-passed .0) in
     let a2 = and-true (leb (k .f) 3) (not (eqb (k .f) 1)) (a1 .1) in
-    let c = p .limits-passed in
-    let n = leb-true (length rs) maxRecords (and-true _ _ (c .0) .0) in
-    let l = leb-true (length (contentOctets L q)) maxPacket (c .1 .0) in
-    let m = leb-true (length (contentOctets L q)) room (c .1 .1 .0) in
+    let c : Passed (limitChecks L q (length cells) room) = p .limits-passed in
+    let within : leb (length rs) maxRecords && leb (length cells) maxCells ≡ true = search in
+    let held : layoutOk L (k .f) rs ≡ true = search in
+    let n = leb-true (length rs) maxRecords (and-true _ _ within .0) in
+    let l = leb-true (length (contentOctets L q)) maxPacket search in
+    let m = leb-true (length (contentOctets L q)) room search in
     let r = list-iff cells rs .0 (p .reads) in
     let hq : HeadFits q = record { marker = h .marker; number = h .number; timestamp = h .timestamp; source = h .source } in
-    let g = plain-formed L q hq (leb-true (k .type) maxType (a1 .0)) (leb-true (k .f) 3 (a2 .0)) (not-eqb (k .f) 1 (a2 .1)) (r .0) n l in
+    let g = plain-formed L q hq (leb-true (k .type) maxType (a1 .0)) (leb-true (k .f) 3 (a2 .0)) (not-eqb (k .f) 1 (a2 .1)) (r .0) held n l in
     let same : contentOctets L q ≡ o = accepted-inj (b .2) in
     (rs, r .1, r .0, sym same, subst (λ (x : List ℕ). length x ≤ room) same m, ap (readContent L) (sym same) ∙ plain-read L q g)
 
@@ -109,15 +106,17 @@ unfolding writeContent
 writes L k rs room h l m =
     let q = withRecords k rs in
     let n = length (listOf rs) in
-    let r = list-iff (listOf rs) rs .1 (layout-each L rs .1 (h .records), refl) in
+    let y = layout-iff L (k .f) rs .1 (h .records, omega (arith, h .fit)) in
+    let r = list-iff (listOf rs) rs .1 (y .0, refl) in
     let head : Passed (headChecks k) = (
-      and-both (le-leb (k .type) maxType (omega (arith, h .fit))) (and-both (le-leb (k .f) 3 (layout-f L (k .f) .1 (omega (arith, h .fit)))) (rw (ne-eqb (k .f) 1 (h .f)))),
+      and-both (le-leb (k .type) maxType (omega (arith, h .fit))) (and-both (le-leb (k .f) 3 (y .1)) (rw (ne-eqb (k .f) 1 (h .f)))),
       tt,
     ) in
-    let limits : Passed (limitChecks L q n room) = (
-      and-both (le-leb (length rs) maxRecords (omega (arith, h .fit))) (le-leb n maxCells l),
-      (le-leb (length (contentOctets L q)) maxPacket (h .short), (le-leb (length (contentOctets L q)) room m, tt)),
-    ) in
+    let within : leb (length rs) maxRecords && leb n maxCells ≡ true = and-both (le-leb (length rs) maxRecords (omega (arith, h .fit))) (le-leb n maxCells l) in
+    let held : layoutOk L (k .f) rs ≡ true = y .2 in
+    let short : leb (length (contentOctets L q)) maxPacket ≡ true = le-leb (length (contentOctets L q)) maxPacket (h .short) in
+    let enough : leb (length (contentOctets L q)) room ≡ true = le-leb (length (contentOctets L q)) room m in
+    let limits : Passed (limitChecks L q n room) = search in
     ap (λ x. x then λ rs. accepted (contentOctets L (withRecords k rs)))
     (all-pass (headChecks k) (λ rs. limitChecks L (withRecords k rs) n room) (listOf rs) head rs r limits)
 
@@ -243,15 +242,16 @@ module _ (L : Layout) (s : List ℕ) (below : Below 256 s) (k : Content) (e : re
       let w : writeContent L k (listOf (k .records)) room ≡ accepted (contentOctets L k) = writes L k (k .records) room rewritten-formed l m in
       (λ t. rewritten-octets-iff .0 (accepted-inj (sym w ∙ t)), λ o. w ∙ ap accepted (rewritten-octets-iff .1 o))
 
+-- "Demand 2 holds for each by itself, without reserved bits in the old one": there the fourth condition always holds
+pub bare-draft : (s : List ℕ) → BareOctets draft2015 s ↔ ((paddingFlag s ≡ 0) × (hasExtension s ≡ 0) × (sourceCount s ≡ 0))
+bare-draft s = (λ b. (b .padding, b .extension, b .sources), λ p. record { padding = p .0; extension = p .1; sources = p .2; reserved = no-bits s _ })
+
 -- a run takes at most one and a half octets for each cell of its list
 pub run-cells : (L : Layout) (rs : List Record) → 2 * length (runOctets L rs) ≤ 3 * length (listOf rs)
 run-cells L [] = le-refl 0
 run-cells L (r ∷ rs) =
     omega (arith, run-cells L rs, length-append (ancOctets L r) (runOctets L rs), length-anc L r, size-cells L (length (r .words)), length-append (r .words) (listOf rs))
 
-payload-small : (L : Layout) → payloadHeaderSize L ≤ 8
-payload-small rfc8331 = omega arith
-
 -- what fits a packet's cells fits a packet, so 22 is never given
 pub never-22 : (L : Layout) (k : Content) → length (listOf (k .records)) ≤ maxCells → length (contentOctets L k) ≤ maxPacket
-never-22 L k l = omega (arith, run-cells L (k .records), payload-small L, length-packet L (plain k))
+never-22 L k l = omega (arith, run-cells L (k .records), places L .payload-near, length-packet L (plain k))

@@ -8,7 +8,7 @@ use Rattle.wire.specs.Bits.{toBits, num, bits, octets, bitsAt, rowAt, fi
 use Rattle.wire.specs.Words.{headerWord, checksumWord}
 use Rattle.wire.specs.Layout.{rfc8331}
 use Rattle.wire.specs.Result.{accepted, refuse}
-use Rattle.wire.specs.Anc.{Record, checksum, bodyBits, padding, ancOctets, ancSize, ancRecord, headersOk, checksumOk, alignmentOk, ancChecks, readAnc, readRun}
+use Rattle.wire.specs.Anc.{Record, checksum, bodyBits, padding, ancOctets, ancSize, ancRecord, headersOk, rOk, checksumOk, alignmentOk, ancChecks, readAnc, readRun}
 use Rattle.wire.specs.Cells.{cellsOf, listOf, cellRecord, headInRange, cellChecks, recordsFrom, readList}
 
 -- header words
@@ -42,7 +42,7 @@ written = (refl, refl, refl)
 -- A and B read, alone and as a run
 pub read : (i : ℕ) → (readAnc rfc8331 i aOctets ≡ accepted a) × (readAnc rfc8331 i bOctets ≡ accepted b)
     × (readRun rfc8331 0 2 (aOctets ++ (bOctets ++ (7 ∷ []))) ≡ accepted (a ∷ b ∷ [], 7 ∷ []))
-unfolding toBits num bits bitsAt rowAt headerWord checksumWord ancSize ancRecord headersOk checksumOk alignmentOk ancChecks readAnc readRun
+unfolding toBits num bits bitsAt rowAt headerWord checksumWord ancSize ancRecord headersOk rOk checksumOk alignmentOk ancChecks readAnc readRun
 read i = (refl, refl, refl)
 
 -- A and B as cells
@@ -71,7 +71,7 @@ pub refusals : (i : ℕ) → (readAnc rfc8331 i (take 11 aOctets) ≡ refuse 9 i
     × (readAnc rfc8331 i (take 15 (set (ancOctets rfc8331 three) 4 0x10)) ≡ refuse 10 i)
     × (readAnc rfc8331 i (set (set aOctets 8 0x47) 11 0x01) ≡ refuse 11 i)
     × (readRun rfc8331 0 2 (aOctets ++ take 11 bOctets) ≡ refuse 9 1)
-unfolding toBits num bits octets fieldBits bitsAt rowAt headerWord checksumWord ancSize ancRecord headersOk checksumOk alignmentOk ancChecks readAnc readRun
+unfolding toBits num bits octets fieldBits bitsAt rowAt headerWord checksumWord ancSize ancRecord headersOk rOk checksumOk alignmentOk ancChecks readAnc readRun
 refusals i = (refl, refl, refl, refl, refl, refl, refl, refl)
 
 -- a list refused: a record cut in its first eight cells and in its words, a cell too large, a word too large

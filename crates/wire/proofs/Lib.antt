@@ -4,6 +4,7 @@ pub mod ListLaws
 pub mod Store
 pub mod ResultLaws
 pub mod WordLaws
+pub mod LayoutLaws
 pub mod SizeLaws
 pub mod PacketStore
 pub mod HeadLaws
@@ -17,3 +18,4 @@ pub mod PacketIff
 pub mod WritingLaws
 pub mod Demand2
 pub mod PacketExamples
+pub mod DraftExamples

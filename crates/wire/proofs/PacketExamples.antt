@@ -8,7 +8,7 @@ use Rattle.wire.specs.Bits.{toBits, num, bits, octets, bitsAt, rowAt, fi
 use Rattle.wire.specs.Words.{headerWord, checksumWord}
 use Rattle.wire.specs.Layout.{rfc8331}
 use Rattle.wire.specs.Result.{accepted, refuse}
-use Rattle.wire.specs.Anc.{ancSize, ancRecord, headersOk, checksumOk, alignmentOk, ancChecks, readAnc, readRun}
+use Rattle.wire.specs.Anc.{ancSize, ancRecord, headersOk, rOk, checksumOk, alignmentOk, ancChecks, readAnc, readRun}
 use Rattle.wire.specs.Cells.{cellsOf, listOf, cellRecord, headInRange, cellChecks, recordsFrom}
 use Rattle.wire.specs.Packet.{Packet, packetOctets, packetRead, headerChecks, paddingChecks, payloadChecks, readRecords, readPacket, Content, readContent, readInto}
 use Rattle.wire.specs.Writing.{writeContent}
@@ -72,7 +72,7 @@ fullOctets = fullFront ++ (aOctets ++ (bOctets ++ (7 ∷ 2 ∷ [])))
 pub full-packet : (packetOctets rfc8331 full ≡ fullOctets) × (readPacket rfc8331 fullOctets ≡ accepted full)
     × (readContent rfc8331 fullOctets ≡ accepted both)
     × (writeContent rfc8331 both (listOf (a ∷ b ∷ [])) 44 ≡ accepted bothOctets) × (readContent rfc8331 bothOctets ≡ accepted both)
-unfolding toBits num bits octets bitsAt rowAt fieldBits headerWord checksumWord ancSize ancRecord headersOk checksumOk alignmentOk ancChecks readAnc readRun packetOctets packetRead headerChecks paddingChecks payloadChecks readRecords readPacket readContent cellRecord headInRange cellChecks recordsFrom writeContent
+unfolding toBits num bits octets bitsAt rowAt fieldBits headerWord checksumWord ancSize ancRecord headersOk rOk checksumOk alignmentOk ancChecks readAnc readRun packetOctets packetRead headerChecks paddingChecks payloadChecks readRecords readPacket readContent cellRecord headInRange cellChecks recordsFrom writeContent
 full-packet = (refl, refl, refl, refl, refl)
 
 -- 2: under 12 octets; a contributing source cut; the extension's first four octets cut; its words cut
@@ -107,19 +107,19 @@ pub refused-payload : (readContent rfc8331 (set emptyOctets 17 0x40) ≡ refuse 
     × (readContent rfc8331 (set emptyOctets 15 1) ≡ refuse 7 0)
     × (readContent rfc8331 (set emptyOctets 15 12 ++ aOctets) ≡ refuse 8 0)
     × (readContent rfc8331 (set fullFront 28 1 ++ (aOctets ++ (bOctets ++ (7 ∷ 2 ∷ [])))) ≡ refuse 13 0)
-unfolding toBits num bits bitsAt rowAt headerWord checksumWord ancSize ancRecord headersOk checksumOk alignmentOk ancChecks readAnc readRun headerChecks paddingChecks payloadChecks readRecords readPacket readContent
+unfolding toBits num bits bitsAt rowAt headerWord checksumWord ancSize ancRecord headersOk rOk checksumOk alignmentOk ancChecks readAnc readRun headerChecks paddingChecks payloadChecks readRecords readPacket readContent
 refused-payload = (refl, refl, refl, refl)
 
 -- 9 and 11 with the index of the ANC data packet: three said and two there; B's checksum wrong
 pub refused-anc : (readContent rfc8331 (set fullFront 28 3 ++ (aOctets ++ (bOctets ++ (7 ∷ 2 ∷ [])))) ≡ refuse 9 2)
     × (readContent rfc8331 (fullFront ++ (aOctets ++ (set bOctets 11 0x80 ++ (7 ∷ 2 ∷ [])))) ≡ refuse 11 1)
-unfolding toBits num bits bitsAt rowAt headerWord checksumWord ancSize ancRecord headersOk checksumOk alignmentOk ancChecks readAnc readRun headerChecks paddingChecks payloadChecks readRecords readPacket readContent
+unfolding toBits num bits bitsAt rowAt headerWord checksumWord ancSize ancRecord headersOk rOk checksumOk alignmentOk ancChecks readAnc readRun headerChecks paddingChecks payloadChecks readRecords readPacket readContent
 refused-anc = (refl, refl)
 
 -- 14: A and B take 18 cells; refused octets are not asked for their cells
 pub refused-14 : (readInto rfc8331 fullOctets 18 ≡ accepted both) × (readInto rfc8331 fullOctets 17 ≡ refuse 14 0)
     × (readInto rfc8331 (set emptyOctets 17 0x40) 0 ≡ refuse 6 0)
-unfolding toBits num bits bitsAt rowAt headerWord checksumWord ancSize ancRecord headersOk checksumOk alignmentOk ancChecks readAnc readRun packetRead headerChecks paddingChecks payloadChecks readRecords readPacket readContent readInto
+unfolding toBits num bits bitsAt rowAt headerWord checksumWord ancSize ancRecord headersOk rOk checksumOk alignmentOk ancChecks readAnc readRun packetRead headerChecks paddingChecks payloadChecks readRecords readPacket readContent readInto
 refused-14 = (refl, refl, refl)
 
 -- the empty content with another payload type and another F
@@ -179,5 +179,5 @@ frames-written = refl
 
 -- the frames read
 pub frames-read : map (readContent rfc8331) framesOctets ≡ map accepted frames
-unfolding toBits num bits bitsAt rowAt headerWord checksumWord ancSize ancRecord headersOk checksumOk alignmentOk ancChecks readAnc readRun packetRead headerChecks paddingChecks payloadChecks readRecords readPacket readContent
+unfolding toBits num bits bitsAt rowAt headerWord checksumWord ancSize ancRecord headersOk rOk checksumOk alignmentOk ancChecks readAnc readRun packetRead headerChecks paddingChecks payloadChecks readRecords readPacket readContent
 frames-read = refl

@@ -7,9 +7,10 @@ use Prim.Native.Nat.{ℕ, zero, suc, _+_, _*_, _/_, _%_, _<_, _≤_}
 use native.Mathlib.Nat.{eq-zero-or-pos, add-zero}
 use native.Mathlib.Omega.{arith}
 use lib.ListN.{length}
+use Rattle.wire.specs.declared.layout.Layout.the-variants as layout
 use Rattle.wire.specs.Bits.{width, row}
 use Rattle.wire.specs.Words.{wordBits}
-use Rattle.wire.specs.Layout.{Layout, rfc8331, alignment, leastSize}
+use Rattle.wire.specs.Layout.{Layout, rfc8331, draft2015, alignment, leastSize}
 use Rattle.wire.specs.Anc.{Record, checksum, bodyFields, padding, ancFields, ancOctets, bodyBits, ancSize}
 use Rattle.wire.specs.Cells.{headCells}
 use Rattle.wire.proofs.BitLaws.{width-append, width-row, length-pack}
@@ -21,7 +22,13 @@ width-body L r =
 -- body and alignment fill whole octets
 pub size-bits : (L : Layout) (n : ℕ) → bodyBits L n + padding (alignment L) (bodyBits L n) ≡ 8 * ancSize L n
 unfolding ancSize
-size-bits rfc8331 n = omega arith
+size-bits layout.Rfc8331 n = omega arith
+size-bits layout.Draft2015 n = omega arith
+
+-- the alignment bits lie in the last four octets
+pub pad-few : (L : Layout) (n : ℕ) → padding (alignment L) n < 32
+pad-few layout.Rfc8331 n = omega arith
+pad-few layout.Draft2015 n = omega arith
 
 pub width-anc : (L : Layout) (r : Record) → width (ancFields L r) ≡ 8 * ancSize L (length (r .words))
 width-anc L r =
@@ -39,8 +46,14 @@ pub size-rfc8331 : (n : ℕ) → ancSize rfc8331 n ≡ 4 * ((72 + 10 * n + 31) /
 unfolding ancSize
 size-rfc8331 n = rounded-up (72 + 10 * n)
 
+-- "ceiling((66 + 10n) / 8) octets"
+pub size-draft2015 : (n : ℕ) → ancSize draft2015 n ≡ (66 + 10 * n + 7) / 8
+unfolding ancSize
+size-draft2015 n = omega arith
+
 pub least-size : (L : Layout) (n : ℕ) → leastSize L ≤ ancSize L n
-least-size rfc8331 n = rw (size-rfc8331 n) (omega arith)
+least-size layout.Rfc8331 n = rw (size-rfc8331 n) (omega arith)
+least-size layout.Draft2015 n = rw (size-draft2015 n) (omega arith)
 
 -- a record of n words takes headCells + n cells, and at most one and a half octets for each
 half-more : (n : ℕ) → 2 * (4 * ((72 + 10 * n + 31) / 32)) ≤ 24 + 3 * n
@@ -51,8 +64,10 @@ half-more (suc (suc (suc zero))) = omega arith
 half-more (suc (suc (suc (suc n)))) = omega arith
 
 pub size-cells : (L : Layout) (n : ℕ) → 2 * ancSize L n ≤ 3 * (headCells + n)
-size-cells rfc8331 n = rw (size-rfc8331 n) (omega (arith, half-more n))
+size-cells layout.Rfc8331 n = rw (size-rfc8331 n) (omega (arith, half-more n))
+size-cells layout.Draft2015 n = rw (size-draft2015 n) (omega arith)
 
 -- and at least one octet for each
 pub cells-octets : (L : Layout) (n : ℕ) → headCells + n ≤ ancSize L n
-cells-octets rfc8331 n = rw (size-rfc8331 n) (omega arith)
+cells-octets layout.Rfc8331 n = rw (size-rfc8331 n) (omega arith)
+cells-octets layout.Draft2015 n = rw (size-draft2015 n) (omega arith)

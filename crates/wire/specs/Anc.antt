@@ -1,4 +1,5 @@
--- An ANC data packet (RFC 8331, section 2.1; 01, "The packet"): its record, its octets, and how it is read.
+-- An ANC data packet (RFC 8331, section 2.1; 01, "The packet"; in the drafts' layout document 001, section 2.1; 02, K3): its record, its
+-- octets, and how it is read.
 use mathlib.Core.Bool.{Bool, true, _&&_}
 use mathlib.Core.List.{List, [], _∷_, _++_}
 use Prim.Native.Nat.{ℕ, zero, suc, _+_, _-_, _*_, _/_, _%_, _^_, _<_}
@@ -56,11 +57,24 @@ checksum r =
 --     +           +-+-+-+-+-+-+-+-+-+-+-+-+-+-+-+-+-+-+-+-+-+-+-+-+-+-+
 --     |           |   Checksum_Word   |           word_align          |
 --     +-+-+-+-+-+-+-+-+-+-+-+-+-+-+-+-+-+-+-+-+-+-+-+-+-+-+-+-+-+-+-+-+
--- the 32 bits before DID
+--
+-- Document 001, figure 1, from ANC_Count, the last octet of the payload header, on:
+--
+--     +-+-+-+-+-+-+-+-+-+-+-+-+-+-+-+-+-+-+-+-+-+-+-+-+-+-+-+-+-+-+-+-+
+--     | ANC_Count     |C|   Line_Number       |   Horizontal_Offset   |
+--     +-+-+-+-+-+-+-+-+-+-+-+-+-+-+-+-+-+-+-+-+-+-+-+-+-+-+-+-+-+-+-+-+
+--     |        DID        |        SDID       |   Data_Count      | R |
+--     +-+-+-+-+-+-+-+-+-+-+-+-+-+-+-+-+-+-+-+-+-+-+-+-+-+-+-+-+-+-+-+-+
+--     |                            User_Data_Words...
+--     +-+-+-+-+-+-+-+-+-+-+-+-+-+-+-+-+-+-+-+-+-+-+-+-+-+-+-+-+-+-+-+-+
+--     |   Checksum_Word   |octet_align|    (next ANC data packet)...
+--     +-+-+-+-+-+-+-+-+-+-+-+-+-+-+-+-+-+-+-+-+-+-+-+-+-+-+-+-+-+-+-+-+
+--
+-- the bits before DID
 abbrev pub locationFields : Layout → Record → Fields
 locationFields L r = (1, r .c) ∷ (11, r .line) ∷ (12, r .offset) ∷ (sBits L, r .s) ∷ (streamBits L, r .stream) ∷ []
 
--- all before the user data words
+-- all before the user data words; 001: "R is a field of two reserved bits that MUST be set to zero"
 abbrev pub headerFields : Layout → Record → Fields
 headerFields L r =
     locationFields L r
@@ -75,7 +89,7 @@ bodyFields L r = headerFields L r ++ (row wordBits (r .words) ++ (wordBits, chec
 abbrev pub padding : ℕ → ℕ → ℕ
 padding a n = (a - n % a) % a
 
--- ".. then zero bits up to a multiple of 32"
+-- ".. then zero bits up to a multiple of 32"; "zero bits to a full octet"
 abbrev pub ancFields : Layout → Record → Fields
 ancFields L r = bodyFields L r ++ (padding (alignment L) (width (bodyFields L r)), 0) ∷ []
 
@@ -88,11 +102,11 @@ abbrev pub runOctets : Layout → List Record → List ℕ
 runOctets L [] = []
 runOctets L (r ∷ rs) = ancOctets L r ++ runOctets L rs
 
--- bits before the alignment of a packet with `n` user data words: 72 + 10n in RFC 8331's layout
+-- bits before the alignment of a packet with `n` user data words: 72 + 10n in RFC 8331's layout, 66 + 10n in the drafts'
 abbrev pub bodyBits : Layout → ℕ → ℕ
 bodyBits L n = sAt + sBits L + streamBits L + 4 * wordBits + rBits L + wordBits * n
 
--- "Size in octets: 4 x ceiling((72 + 10n) / 32)"
+-- "Size in octets: 4 x ceiling((72 + 10n) / 32)"; "ceiling((66 + 10n) / 8) octets"
 unfoldable pub ancSize : Layout → ℕ → ℕ
 ancSize L n = (bodyBits L n + padding (alignment L) (bodyBits L n)) / 8
 
@@ -133,7 +147,11 @@ areHeaderWords (w ∷ ws) = isHeaderWord w && areHeaderWords ws
 unfoldable pub headersOk : Layout → List ℕ → Bool
 headersOk L s = areHeaderWords (headerWords L s)
 
--- 11: "checksum word wrong"
+-- 15: "an R bit set"
+unfoldable pub rOk : Layout → List ℕ → Bool
+rOk L s = eqb (bitsAt s (didAt L + wordBits + wordBits + wordBits) (rBits L)) 0
+
+-- 11: "checksum word wrong"; "The nine-bit checksum sentence of 001 decides."
 unfoldable pub checksumOk : Layout → List ℕ → Bool
 checksumOk L s =
     eqb (bitsAt s (wordsAt L + wordBits * dataCount L s) wordBits)
@@ -143,12 +161,14 @@ checksumOk L s =
 unfoldable pub alignmentOk : Layout → List ℕ → Bool
 alignmentOk L s = eqb (bitsAt s (bodyBits L (dataCount L s)) (padding (alignment L) (bodyBits L (dataCount L s)))) 0
 
--- 01, "Order of reading": "each ANC packet in turn: 9 (under 12 octets left), 10, 9 (its size), 11, 12"
+-- 01, "Order of reading": "each ANC packet in turn: 9 (under 12 octets left), 10, 9 (its size), 11, 12"; 02, K3: "15 .. after the second
+-- 9 and before 11"
 unfoldable pub ancChecks : Layout → List ℕ → Checks
 ancChecks L s =
     (leb (leastSize L) (length s), 9)
     ∷ (headersOk L s, 10)
     ∷ (leb (ancSize L (dataCount L s)) (length s), 9)
+    ∷ (rOk L s, 15)
     ∷ (checksumOk L s, 11)
     ∷ (alignmentOk L s, 12)
     ∷ []

@@ -1,9 +1,10 @@
--- Writing an RTP packet (01, "Writing": 24, 20, 21, 22, 23; "Written packets have P, X and CC zero").
-use mathlib.Core.Bool.{Bool, not, _&&_}
+-- Writing an RTP packet (01, "Writing": 24, 20, 21, 22, 23; "Written packets have P, X and CC zero"; 02, K3: 25 after 21).
+use mathlib.Core.Bool.{Bool, true, not, _&&_}
 use mathlib.Core.List.{List, [], _∷_}
 use Prim.Native.Nat.{ℕ, _/_, _%_, _^_, _<_}
 use lib.Dec.{eqb, leb}
 use lib.ListN.{length}
+use Rattle.wire.specs.declared.layout.Layout.the-variants as layout
 use Rattle.wire.specs.Layout.{Layout}
 use Rattle.wire.specs.Result.{Result, accepted, Checks, judge, _then_}
 use Rattle.wire.specs.Anc.{Record}
@@ -80,10 +81,21 @@ headOk type f = leb type maxType && (leb f 3 && not (eqb f 1))
 abbrev pub headChecks : Content → Checks
 headChecks k = (headOk (k .type) (k .f), 24) ∷ []
 
--- 21, 22, 23, for a list of so many cells and lent room for so many octets
+-- S and StreamNum of each record are zero
+abbrev pub noStream : List Record → Bool
+noStream [] = true
+noStream (r ∷ rs) = (eqb (r .s) 0 && eqb (r .stream) 0) && noStream rs
+
+-- 25: "F, S or StreamNum not zero in old writing"
+abbrev pub layoutOk : Layout → (f : ℕ) → List Record → Bool
+layoutOk layout.Rfc8331 f rs = true
+layoutOk layout.Draft2015 f rs = eqb f 0 && noStream rs
+
+-- 21, 25, 22, 23, for a list of so many cells and lent room for so many octets
 abbrev pub limitChecks : Layout → Content → (cells room : ℕ) → Checks
 limitChecks L k cells room =
     (leb (length (k .records)) maxRecords && leb cells maxCells, 21)
+    ∷ (layoutOk L (k .f) (k .records), 25)
     ∷ (leb (length (contentOctets L k)) maxPacket, 22)
     ∷ (leb (length (contentOctets L k)) room, 23)
     ∷ []
@@ -93,7 +105,7 @@ abbrev pub recordsToWrite : Checks → (List Record → Checks) → List ℕ →
 recordsToWrite head limits cells =
     judge 0 head (readList cells then λ rs. judge 0 (limits rs) (accepted rs))
 
--- "Writing: 24, 20, 21, 22, 23.": the records of a packet that is written
+-- "Writing: 24, 20, 21, 22, 23.", and 25 "after 21": the records of a packet that is written
 abbrev pub packetRecords : Layout → Content → (cells : List ℕ) (room : ℕ) → Result (List Record)
 packetRecords L k cells room =
     recordsToWrite (headChecks k) (λ rs. limitChecks L (withRecords k rs) (length cells) room) cells

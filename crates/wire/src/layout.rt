@@ -1,4 +1,10 @@
-// Where things stand in a packet (RFC 3550, section 5.1; RFC 8331, section 2.1).
+// Where things stand in a packet (RFC 3550, section 5.1; RFC 8331, section 2.1; in its drafts of 2015, document 001, section 2.1).
+
+// The layouts of the payload: RFC 8331's, and that of its drafts of 2015. The caller tells which (02, K3).
+pub enum Layout {
+    Rfc8331,
+    Draft2015,
+}
 
 // Octets of the RTP header without contributing sources and extension, and of the payload header.
 pub const RTP_HEADER_SIZE: usize = 12;
@@ -37,6 +43,24 @@ pub const LEAST_SIZE: usize = 12;
 
 // It takes up to a multiple of so many bits.
 pub const ALIGNMENT: usize = 32;
+
+// The same in the drafts' layout, where it is another: the payload header ends with ANC_Count, DID stands behind Horizontal_Offset, and two R
+// bits behind Data_Count.
+pub const DRAFT_PAYLOAD_HEADER_SIZE: usize = 5;
+
+pub const DRAFT_FRONT_SIZE: usize = RTP_HEADER_SIZE + DRAFT_PAYLOAD_HEADER_SIZE;
+
+pub const DRAFT_DID_AT: usize = 24;
+
+pub const DRAFT_R_AT: usize = DRAFT_DID_AT + 3 * WORD_BITS;
+
+pub const DRAFT_WORDS_AT: usize = DRAFT_R_AT + 2;
+
+pub const DRAFT_FIXED_BITS: usize = DRAFT_WORDS_AT + WORD_BITS;
+
+pub const DRAFT_LEAST_SIZE: usize = 9;
+
+pub const DRAFT_ALIGNMENT: usize = 8;
 
 // How many numbers fit a field: C or S, Line_Number, Horizontal_Offset, StreamNum, what a header word carries, a word.
 pub const FLAG_NUMBERS: u16 = 2;

@@ -1,5 +1,6 @@
 //! Reader, writer and depacketizer of the archive and of the reference over
-//! the same packets in the same run, and a plain copy of their octets.
+//! the same packets of RFC 8331's layout in the same run, and a plain copy of
+//! their octets.
 //!
 //! Each measurement is the best of some rounds; the three sides take turns
 //! within a round. The archive is called through the C boundary, the
@@ -9,12 +10,13 @@
 use std::hint::black_box;
 use std::time::Instant;
 
-use differential::{Archive, Head, Side, ANSWER, STATE};
+use differential::{Archive, Head, Side, ANSWER, RFC8331, STATE};
 use reference::anc::Limits;
 use reference::depacketizer::{self, State};
 use reference::packet;
 use reference::random::{record, Parts, Random};
 use reference::realistic::{Packets, PACKETS};
+use reference::Layout;
 
 const ROUNDS: usize = 100;
 /// Octets that one side goes through in a round, about.
@@ -99,13 +101,13 @@ type Step = fn(&mut Bench, &Packet);
 #[inline(never)]
 fn archive_read(bench: &mut Bench, packet: &Packet) {
     let octets = black_box(&packet.octets);
-    let number = Archive::read(octets, &mut bench.cells, &mut bench.answer);
+    let number = Archive::read(RFC8331, octets, &mut bench.cells, &mut bench.answer);
     bench.sum += number as u64 + black_box(&bench.answer)[7];
 }
 
 #[inline(never)]
 fn reference_read(bench: &mut Bench, packet: &Packet) {
-    let read = packet::read(black_box(&packet.octets), &mut bench.cells);
+    let read = packet::read(Layout::Rfc8331, black_box(&packet.octets), &mut bench.cells);
     bench.sum += black_box(read).unwrap().cells as u64;
 }
 
@@ -129,13 +131,18 @@ fn archive_write(bench: &mut Bench, packet: &Packet) {
         f,
     };
     let cells = black_box(&packet.cells);
-    let number = Archive::write(&head, cells, &mut bench.out, &mut bench.answer);
+    let number = Archive::write(RFC8331, &head, cells, &mut bench.out, &mut bench.answer);
     bench.sum += number as u64 + black_box(&bench.answer)[0];
 }
 
 #[inline(never)]
 fn reference_write(bench: &mut Bench, packet: &Packet) {
-    let octets = packet::write(&packet.head, black_box(&packet.cells), &mut bench.out);
+    let octets = packet::write(
+        Layout::Rfc8331,
+        &packet.head,
+        black_box(&packet.cells),
+        &mut bench.out,
+    );
     bench.sum += black_box(octets).unwrap() as u64;
 }
 
@@ -148,14 +155,15 @@ fn archive_arrive(bench: &mut Bench, packet: &Packet) {
         answer,
         ..
     } = bench;
-    let number = Archive::arrive(state, octets, cells, answer);
+    let number = Archive::arrive(RFC8331, state, octets, cells, answer);
     bench.sum += number as u64 + black_box(&bench.answer)[4];
 }
 
 #[inline(never)]
 fn reference_arrive(bench: &mut Bench, packet: &Packet) {
     let octets = black_box(&packet.octets);
-    let (state, answer) = depacketizer::arrive(bench.kept, octets, &mut bench.cells);
+    let (state, answer) =
+        depacketizer::arrive(bench.kept, Layout::Rfc8331, octets, &mut bench.cells);
     bench.kept = state;
     if let depacketizer::Answer::Whole { cells, .. } = black_box(answer) {
         bench.sum += cells as u64;

@@ -2,11 +2,16 @@
 
 use super::*;
 
-/// The parts of an ANC packet: its ten-bit words are DID to checksum.
+/// The parts of an ANC packet: its ten-bit words are DID to checksum. The
+/// drafts' layout has no S and StreamNum, and RFC 8331's no R bits: what a
+/// layout lacks is left out.
 #[derive(Clone, Debug)]
 pub struct Anc {
+    /// C, line, offset, S, StreamNum.
     pub place: u32,
     pub words: Vec<u16>,
+    /// The two R bits.
+    pub r: u32,
     pub alignment: u32,
 }
 
@@ -30,23 +35,33 @@ impl Anc {
         Anc {
             place: c << 31 | line << 20 | offset << 8 | s << 7 | stream,
             words,
+            r: 0,
             alignment: 0,
         }
     }
 
-    /// Bits up to a multiple of 32.
-    fn alignment_width(&self) -> u32 {
-        let bits = 32 + 10 * self.words.len() as u32;
-        (32 - bits % 32) % 32
+    /// Bits up to a multiple of 32, in the drafts of 8.
+    fn alignment_width(&self, layout: Layout) -> u32 {
+        let words = 10 * self.words.len() as u32;
+        match layout {
+            Layout::Rfc8331 => (32 - (32 + words) % 32) % 32,
+            Layout::Draft2015 => (8 - (24 + 2 + words) % 8) % 8,
+        }
     }
 
-    pub fn octets(&self) -> Vec<u8> {
+    pub fn octets(&self, layout: Layout) -> Vec<u8> {
         let mut bits = Bits::default();
-        bits.put(self.place, 32);
-        for &word in &self.words {
-            bits.put(word as u32, 10);
+        let (header, rest) = self.words.split_at(3);
+        match layout {
+            Layout::Rfc8331 => bits.put(self.place, 32),
+            Layout::Draft2015 => bits.put(self.place >> 8, 24),
         }
-        let width = self.alignment_width();
+        header.iter().for_each(|&word| bits.put(word as u32, 10));
+        if layout == Layout::Draft2015 {
+            bits.put(self.r & 3, 2);
+        }
+        rest.iter().for_each(|&word| bits.put(word as u32, 10));
+        let width = self.alignment_width(layout);
         bits.put(self.alignment & ((1 << width) - 1), width);
         bits.octets
     }
@@ -75,18 +90,22 @@ pub fn anc_of(cells: &[u16]) -> Vec<Anc> {
     split_records(cells).into_iter().map(Anc::of).collect()
 }
 
-pub(super) fn run_octets(anc: &[Anc]) -> Vec<u8> {
-    anc.iter().flat_map(Anc::octets).collect()
+pub(super) fn run_octets(layout: Layout, anc: &[Anc]) -> Vec<u8> {
+    anc.iter().flat_map(|anc| anc.octets(layout)).collect()
 }
 
-/// Damages an ANC packet so that 10, 11 or 12 is likely.
-pub(super) fn damage_anc(r: &mut Random, anc: &mut Anc) {
+/// Damages an ANC packet so that 10, 11, 12 or, in the drafts, 15 is likely.
+pub(super) fn damage_anc(r: &mut Random, layout: Layout, anc: &mut Anc) {
     let last = anc.words.len() - 1;
+    if layout == Layout::Draft2015 && r.one_in(4) {
+        anc.r = 1 + r.below(3) as u32;
+        return;
+    }
     match r.below(6) {
         0 | 1 => anc.words[r.below(3)] ^= 1 << r.below(10),
         2 => anc.words[r.below(3)] = r.below(1024) as u16,
         3 => anc.words[last] ^= 1 << r.below(10),
         4 => anc.words[3 + r.below(last - 2)] ^= 1 + r.below(1023) as u16,
-        _ => anc.alignment = 1 << r.below(anc.alignment_width() as usize),
+        _ => anc.alignment = 1 << r.below(anc.alignment_width(layout) as usize),
     }
 }

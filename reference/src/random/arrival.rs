@@ -9,15 +9,17 @@ use crate::packet::{check, Head};
 #[derive(Clone, Debug)]
 pub struct ArriveCase {
     pub state: State,
+    pub layout: Layout,
     pub octets: Vec<u8>,
     pub store: Vec<u16>,
 }
 
 pub fn arrive_case(r: &mut Random) -> ArriveCase {
     let state = state(r);
+    let layout = r.layout();
     let octets = match r.below(8) {
-        0 => damaged_packet(r),
-        _ => arrival_at(r, &state),
+        0 => damaged_packet(r, layout),
+        _ => arrival_at(r, layout, &state),
     };
     let most = Limits::FIELD.cells;
     let cells = match r.below(8) {
@@ -31,6 +33,7 @@ pub fn arrive_case(r: &mut Random) -> ArriveCase {
     let store = vec![0xA5A5; cells.min(most + 2000)];
     ArriveCase {
         state,
+        layout,
         octets,
         store,
     }
@@ -84,7 +87,7 @@ pub(super) fn spoil_state(r: &mut Random, state: &mut State) {
 }
 
 /// A packet that comes near what the state waits for.
-pub(super) fn arrival_at(r: &mut Random, state: &State) -> Vec<u8> {
+pub(super) fn arrival_at(r: &mut Random, layout: Layout, state: &State) -> Vec<u8> {
     let away = match r.below(8) {
         0 => r.pick(&[0, u32::MAX, 0x7FFF_FFFF, 0x8000_0000, 0x8000_0001]),
         1 => r.below(5) as u32,
@@ -98,7 +101,7 @@ pub(super) fn arrival_at(r: &mut Random, state: &State) -> Vec<u8> {
         timestamp: if r.one_in(8) { 7 } else { state.timestamp },
         f: if r.one_in(8) { 2 } else { state.f },
     };
-    let mut parts = parts(r);
+    let mut parts = parts(r, layout);
     parts.head = head;
     parts.assemble()
 }
@@ -114,9 +117,11 @@ pub struct Sent {
     pub field: usize,
 }
 
-/// Well-formed fields of one source and type, numbered in sequence.
+/// Well-formed fields of one source and type, numbered in sequence, all in
+/// one layout.
 #[derive(Clone, Debug)]
 pub struct Stream {
+    pub layout: Layout,
     pub source: u32,
     pub payload_type: u8,
     pub sent: Vec<Sent>,
@@ -124,8 +129,9 @@ pub struct Stream {
 
 /// A stream of that many fields, each of one to `most` packets; it often
 /// starts near the wrap of the number.
-pub fn stream(r: &mut Random, fields: usize, most: usize) -> Stream {
+pub fn stream(r: &mut Random, layout: Layout, fields: usize, most: usize) -> Stream {
     let mut stream = Stream {
+        layout,
         source: r.number32(),
         payload_type: r.below(128) as u8,
         sent: Vec::new(),
@@ -136,7 +142,10 @@ pub fn stream(r: &mut Random, fields: usize, most: usize) -> Stream {
         let packets = 1 + r.below(most);
         // Two fields may share a timestamp.
         timestamp = timestamp.wrapping_add(r.pick(&[0, 1501, 1501, 3003]));
-        let f = r.pick(&[0, 2, 3]);
+        let f = match layout {
+            Layout::Rfc8331 => r.pick(&[0, 2, 3]),
+            Layout::Draft2015 => 0,
+        };
         for index in 0..packets {
             let head = Head {
                 source: stream.source,
@@ -146,16 +155,16 @@ pub fn stream(r: &mut Random, fields: usize, most: usize) -> Stream {
                 timestamp,
                 f,
             };
-            stream.sent.push(sent(r, head, field));
+            stream.sent.push(sent(r, layout, head, field));
         }
     }
     stream
 }
 
-pub(super) fn sent(r: &mut Random, head: Head, field: usize) -> Sent {
+pub(super) fn sent(r: &mut Random, layout: Layout, head: Head, field: usize) -> Sent {
     let records = r.below(4);
-    let cells = list(r, records);
-    let mut parts = Parts::plain(head, &cells);
+    let cells = carried(layout, list(r, records));
+    let mut parts = Parts::of(layout, head, &cells);
     if r.one_in(4) {
         dress(r, &mut parts);
     }
@@ -168,19 +177,28 @@ pub(super) fn sent(r: &mut Random, head: Head, field: usize) -> Sent {
     }
 }
 
-/// An arrival at the depacketizer: a sent packet by its place in the stream, or
-/// octets that are refused by 1 to 13, 30 or 31.
+/// An arrival at the depacketizer: a sent packet by its place in the stream,
+/// told the stream's layout, or octets that are refused by 1 to 13, 15, 30 or
+/// 31 in the layout that is told with them.
 #[derive(Clone, Debug)]
 pub enum Arrival {
     Sent(usize),
-    Other(Vec<u8>),
+    Other(Layout, Vec<u8>),
 }
 
 impl Stream {
     pub fn octets<'a>(&'a self, arrival: &'a Arrival) -> &'a [u8] {
         match arrival {
             Arrival::Sent(index) => &self.sent[*index].octets,
-            Arrival::Other(octets) => octets,
+            Arrival::Other(_, octets) => octets,
+        }
+    }
+
+    /// The layout told with an arrival.
+    pub fn told(&self, arrival: &Arrival) -> Layout {
+        match arrival {
+            Arrival::Sent(_) => self.layout,
+            Arrival::Other(layout, _) => *layout,
         }
     }
 }
@@ -213,25 +231,32 @@ pub fn arrivals(r: &mut Random, stream: &Stream) -> Vec<Arrival> {
     arrivals
 }
 
-/// Octets of another source or type, or damaged ones that are refused.
+/// Octets of another source or type, damaged ones that are refused, or a sent
+/// packet's told the other layout.
 pub(super) fn foreign(r: &mut Random, stream: &Stream, near: usize) -> Option<Arrival> {
     let mut octets = stream.sent[near].octets.clone();
-    match r.below(4) {
+    let told = if r.one_in(4) {
+        r.layout()
+    } else {
+        stream.layout
+    };
+    match r.below(5) {
         0 => octets[8 + r.below(4)] ^= 1 << r.below(8),
         1 => octets[1] ^= 1 << r.below(7),
         2 => damage_octets(r, &mut octets),
-        _ => octets = damaged_packet(r),
+        3 if told != stream.layout => {}
+        _ => octets = damaged_packet(r, told),
     }
-    let ours = check(&octets).is_ok_and(|accepted| {
+    let ours = check(told, &octets).is_ok_and(|accepted| {
         accepted.summary.source == stream.source
             && accepted.summary.payload_type == stream.payload_type
     });
-    (!ours).then_some(Arrival::Other(octets))
+    (!ours).then_some(Arrival::Other(told, octets))
 }
 
 /// Packets of one source that need not be in well-formed fields: timestamps
 /// and F change before a mark, fields pass the limits.
-pub fn wild_packets(r: &mut Random, count: usize) -> Vec<Vec<u8>> {
+pub fn wild_packets(r: &mut Random, layout: Layout, count: usize) -> Vec<Vec<u8>> {
     let mut head = head(r);
     let mut packets = Vec::new();
     let heavy = r.one_in(6);
@@ -243,19 +268,19 @@ pub fn wild_packets(r: &mut Random, count: usize) -> Vec<Vec<u8>> {
             head.timestamp = head.timestamp.wrapping_add(r.below(2) as u32);
             head.f = r.pick(&[0, 2, 3]);
         }
-        packets.push(wild_packet(r, head, heavy));
+        packets.push(wild_packet(r, layout, head, heavy));
     }
     packets
 }
 
-pub(super) fn wild_packet(r: &mut Random, mut head: Head, heavy: bool) -> Vec<u8> {
+pub(super) fn wild_packet(r: &mut Random, layout: Layout, mut head: Head, heavy: bool) -> Vec<u8> {
     match r.below(24) {
         0 => head.source ^= 1,
         1 => head.payload_type ^= 1,
-        2..5 => return damaged_packet(r),
+        2..5 => return damaged_packet(r, layout),
         _ => {}
     }
-    let mut parts = parts(r);
+    let mut parts = parts(r, layout);
     if heavy {
         let (records, n) = r.pick(&[(255, 0), (120, 100), (40, 255), (255, 5)]);
         parts.anc = (0..records).map(|_| Anc::of(&record(r, n))).collect();

@@ -13,7 +13,7 @@ pub fn file_field(version: Version, timestamp: u32, f: u8, count: u16, anc: &[An
         Version::One => octets.push(count as u8),
         Version::Two => octets.extend(count.to_be_bytes()),
     }
-    octets.extend(run_octets(anc));
+    octets.extend(run_octets(Layout::Rfc8331, anc));
     octets
 }
 
@@ -58,7 +58,7 @@ pub(super) fn damaged_field(r: &mut Random, version: Version) -> Vec<u8> {
         }
         _ => {
             let index = r.below(records);
-            damage_anc(r, &mut anc[index]);
+            damage_anc(r, Layout::Rfc8331, &mut anc[index]);
         }
     }
     let mut octets = file_field(version, r.number32(), f, count, &anc);
@@ -122,7 +122,8 @@ pub fn field_case(r: &mut Random) -> FieldCase {
         _ => r.pick(&[0, 2, 3]),
     };
     let cells = any_list(r, Limits::FIELD);
-    let room = r.room(Version::Two.field_head() + needed_octets(&cells));
+    let need = needed_octets(Layout::Rfc8331, &cells);
+    let room = r.room(Version::Two.field_head() + need);
     FieldCase {
         timestamp: r.number32(),
         f,
@@ -133,17 +134,17 @@ pub fn field_case(r: &mut Random) -> FieldCase {
 
 /// An input of `fieldlist`: a stream with trouble, or packets that need not
 /// be in well-formed fields; the last frame broken at times.
-pub fn framed(r: &mut Random) -> Vec<u8> {
+pub fn framed(r: &mut Random, layout: Layout) -> Vec<u8> {
     let mut out = Vec::new();
     if r.one_in(2) {
         let fields = r.below(12);
-        let stream = stream(r, fields, 4);
+        let stream = stream(r, layout, fields, 4);
         for arrival in arrivals(r, &stream) {
             put_frame(stream.octets(&arrival), &mut out);
         }
     } else {
         let count = r.below(24);
-        for packet in wild_packets(r, count) {
+        for packet in wild_packets(r, layout, count) {
             put_frame(&packet, &mut out);
         }
     }

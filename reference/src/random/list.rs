@@ -56,6 +56,21 @@ pub fn list_of_cells(r: &mut Random, cells: usize) -> Vec<u16> {
     made
 }
 
+/// The list as a layout carries it: the drafts' has no S and StreamNum. Cells
+/// too large for their field stay.
+pub fn carried(layout: Layout, mut cells: Vec<u16>) -> Vec<u16> {
+    let mut at = 0;
+    while layout == Layout::Draft2015 && at + RECORD_HEAD <= cells.len() {
+        for (cell, limit) in [(at + 3, 1), (at + 4, 127)] {
+            if cells[cell] <= limit {
+                cells[cell] = 0;
+            }
+        }
+        at += RECORD_HEAD + cells[at + 7] as usize;
+    }
+    cells
+}
+
 /// The records of a well-formed list.
 pub fn split_records(mut cells: &[u16]) -> Vec<&[u16]> {
     let mut records = Vec::new();
@@ -133,13 +148,14 @@ pub(super) fn any_list(r: &mut Random, most: Limits) -> Vec<u16> {
 }
 
 /// Octets that a list's packets need, or 100 where it has none.
-pub(super) fn needed_octets(cells: &[u16]) -> usize {
-    crate::anc::check_list(cells).map_or(100, |list| list.octets())
+pub(super) fn needed_octets(layout: Layout, cells: &[u16]) -> usize {
+    crate::anc::check_list(layout, cells).map_or(100, |list| list.octets())
 }
 
 /// An input of the packet writer.
 #[derive(Clone, Debug)]
 pub struct WriteCase {
+    pub layout: Layout,
     pub head: Head,
     pub cells: Vec<u16>,
     /// Octets lent.
@@ -154,7 +170,23 @@ pub fn write_case(r: &mut Random) -> WriteCase {
     if r.one_in(12) {
         head.f = r.pick(&[1, 4, 5, 255]);
     }
-    let cells = any_list(r, Limits::PACKET);
-    let room = r.room(20 + needed_octets(&cells));
-    WriteCase { head, cells, room }
+    let layout = r.layout();
+    let mut cells = any_list(r, Limits::PACKET);
+    if layout == Layout::Draft2015 && !r.one_in(8) {
+        head.f = if head.f == 2 || head.f == 3 {
+            0
+        } else {
+            head.f
+        };
+    }
+    if !r.one_in(8) {
+        cells = carried(layout, cells);
+    }
+    let room = r.room(12 + layout.payload_header() + needed_octets(layout, &cells));
+    WriteCase {
+        layout,
+        head,
+        cells,
+        room,
+    }
 }

@@ -16,6 +16,8 @@ pub use list::*;
 pub use packet::*;
 pub use text::*;
 
+use crate::layout::Layout;
+
 /// SplitMix64.
 #[derive(Clone, Debug)]
 pub struct Random(u64);
@@ -51,6 +53,10 @@ impl Random {
 
     pub fn octets(&mut self, count: usize) -> Vec<u8> {
         (0..count).map(|_| self.octet()).collect()
+    }
+
+    pub fn layout(&mut self) -> Layout {
+        self.pick(&Layout::ALL)
     }
 
     fn number32(&mut self) -> u32 {

@@ -4,9 +4,10 @@ use super::*;
 use crate::packet::{check, Head, MAX_PACKET};
 
 /// The parts of a packet. `assemble` gives Length and ANC_Count their right
-/// values unless told otherwise.
+/// values unless told otherwise, and leaves out what the layout lacks.
 #[derive(Clone, Debug)]
 pub struct Parts {
+    pub layout: Layout,
     pub version: u8,
     pub head: Head,
     pub sources: Vec<u32>,
@@ -24,9 +25,15 @@ pub struct Parts {
 }
 
 impl Parts {
-    /// Without padding, extension, sources, reserved bits.
+    /// Without padding, extension, sources, reserved bits; RFC 8331's.
     pub fn plain(head: Head, cells: &[u16]) -> Parts {
+        Parts::of(Layout::Rfc8331, head, cells)
+    }
+
+    /// The same in a layout.
+    pub fn of(layout: Layout, head: Head, cells: &[u16]) -> Parts {
         Parts {
+            layout,
             version: 2,
             head,
             sources: Vec::new(),
@@ -43,15 +50,17 @@ impl Parts {
 
     pub fn assemble(&self) -> Vec<u8> {
         let mut octets = self.rtp_header();
-        let mut run = run_octets(&self.anc);
+        let mut run = run_octets(self.layout, &self.anc);
         run.extend(&self.extra);
         run.truncate(run.len().saturating_sub(self.cut));
         let length = self.length.unwrap_or(run.len() as u16);
         octets.extend(((self.head.number >> 16) as u16).to_be_bytes());
         octets.extend(length.to_be_bytes());
         octets.push(self.count.unwrap_or(self.anc.len() as u8));
-        let last = (self.head.f as u32) << 22 | (self.reserved & 0x3F_FFFF);
-        octets.extend(&last.to_be_bytes()[1..]);
+        if self.layout == Layout::Rfc8331 {
+            let last = (self.head.f as u32) << 22 | (self.reserved & 0x3F_FFFF);
+            octets.extend(&last.to_be_bytes()[1..]);
+        }
         octets.extend(run);
         octets.extend(self.padding.iter().flatten());
         octets
@@ -108,7 +117,7 @@ pub(super) fn record_count(r: &mut Random) -> usize {
 }
 
 /// Parts of a packet that is accepted, at times as large as can be.
-pub fn parts(r: &mut Random) -> Parts {
+pub fn parts(r: &mut Random, layout: Layout) -> Parts {
     let head = head(r);
     let records = record_count(r);
     let cells = match r.below(200) {
@@ -116,7 +125,7 @@ pub fn parts(r: &mut Random) -> Parts {
         _ if records > 99 => (0..records).flat_map(|_| record(r, 3)).collect(),
         _ => list(r, records),
     };
-    Parts::plain(head, &cells)
+    Parts::of(layout, head, &cells)
 }
 
 /// Padding, extension, contributing sources and reserved bits, each at times.
@@ -140,8 +149,8 @@ pub fn dress(r: &mut Random, parts: &mut Parts) {
 }
 
 /// Octets of an accepted packet.
-pub fn valid_packet(r: &mut Random) -> Vec<u8> {
-    let mut parts = parts(r);
+pub fn valid_packet(r: &mut Random, layout: Layout) -> Vec<u8> {
+    let mut parts = parts(r, layout);
     if r.one_in(2) {
         dress(r, &mut parts);
     }
@@ -149,8 +158,8 @@ pub fn valid_packet(r: &mut Random) -> Vec<u8> {
 }
 
 /// Octets of a packet damaged in one to three places.
-pub fn damaged_packet(r: &mut Random) -> Vec<u8> {
-    let mut parts = parts(r);
+pub fn damaged_packet(r: &mut Random, layout: Layout) -> Vec<u8> {
+    let mut parts = parts(r, layout);
     if r.one_in(3) {
         dress(r, &mut parts);
     }
@@ -165,7 +174,7 @@ pub fn damaged_packet(r: &mut Random) -> Vec<u8> {
 }
 
 pub(super) fn damage_parts(r: &mut Random, parts: &mut Parts) {
-    let run = run_octets(&parts.anc).len();
+    let run = run_octets(parts.layout, &parts.anc).len();
     let records = parts.anc.len();
     match r.below(16) {
         0 => parts.version = r.pick(&[0, 1, 3]),
@@ -185,24 +194,24 @@ pub(super) fn damage_parts(r: &mut Random, parts: &mut Parts) {
         11 => parts.padding = Some(wrong_padding(r)),
         _ if records > 0 => {
             let index = r.below(records);
-            damage_anc(r, &mut parts.anc[index]);
+            damage_anc(r, parts.layout, &mut parts.anc[index]);
         }
         _ => parts.version = 2,
     }
 }
 
-/// One ANC packet more than there are, with under 12 octets left for it.
+/// One ANC packet more than there are, with too few octets left for any.
 pub(super) fn raise_count(r: &mut Random, parts: &mut Parts) {
     parts.count = Some((parts.anc.len() as u8).wrapping_add(1));
-    parts.extra = vec![0; r.below(12)];
+    parts.extra = vec![0; r.below(parts.layout.smallest_packet())];
 }
 
-/// A large last ANC packet, cut where 12 or more octets are left.
+/// A large last ANC packet, cut where those of the smallest are left.
 pub(super) fn cut_last(r: &mut Random, parts: &mut Parts) {
     let n = 3 + r.below(253);
     parts.anc.push(Anc::of(&record(r, n)));
-    let size = parts.anc[parts.anc.len() - 1].octets().len();
-    parts.cut = 1 + r.below(size - 12);
+    let size = parts.layout.packet_octets(n);
+    parts.cut = 1 + r.below(size - parts.layout.smallest_packet());
 }
 
 pub(super) fn wrong_padding(r: &mut Random) -> Vec<u8> {
@@ -243,12 +252,16 @@ pub(super) fn flip_bits(r: &mut Random, octets: &mut [u8]) {
 /// An input of the packet reader.
 #[derive(Clone, Debug)]
 pub struct ReadCase {
+    /// The layout told; at times the octets have the other.
+    pub layout: Layout,
     pub octets: Vec<u8>,
     /// Cells lent.
     pub room: usize,
 }
 
 pub fn read_case(r: &mut Random) -> ReadCase {
+    let layout = r.layout();
+    let made = if r.one_in(24) { r.layout() } else { layout };
     let octets = match r.below(16) {
         0 => {
             let count = r.below(64);
@@ -259,10 +272,14 @@ pub fn read_case(r: &mut Random) -> ReadCase {
                 .for_each(|x| *x = 0x80 | (*x & 0x3F));
             octets
         }
-        1..4 => valid_packet(r),
-        _ => damaged_packet(r),
+        1..4 => valid_packet(r, made),
+        _ => damaged_packet(r, made),
     };
-    let need = check(&octets).map_or(64, |accepted| accepted.run.cells());
+    let need = check(layout, &octets).map_or(64, |accepted| accepted.run.cells());
     let room = r.room(need);
-    ReadCase { octets, room }
+    ReadCase {
+        layout,
+        octets,
+        room,
+    }
 }

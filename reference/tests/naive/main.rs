@@ -4,7 +4,7 @@
 use reference::depacketizer::{arrive, Answer, State, FILLING, LOST, READY};
 use reference::packet::{self, Head, Summary};
 use reference::random::*;
-use reference::{file, Refusal};
+use reference::{file, Layout, Refusal};
 
 mod sdp;
 
@@ -26,22 +26,39 @@ fn well_formed(word: u64) -> bool {
     ones.is_multiple_of(2) && (word >> 9 & 1) != (word >> 8 & 1)
 }
 
+/// Where the bits of an ANC packet stand: DID, the R bits (as many as the
+/// layout has), the user data words; what its size is a multiple of.
+fn places(layout: Layout) -> (usize, usize, usize, usize) {
+    match layout {
+        Layout::Rfc8331 => (32, 0, 32 + 30, 32),
+        Layout::Draft2015 => (24, 2, 24 + 30 + 2, 8),
+    }
+}
+
 /// The cells of `count` ANC packets and the octets they take.
-fn naive_run(octets: &[u8], count: usize) -> Refused<(Vec<u16>, usize)> {
+fn naive_run(layout: Layout, octets: &[u8], count: usize) -> Refused<(Vec<u16>, usize)> {
+    let (did, r, words, multiple) = places(layout);
     let (mut cells, mut at) = (Vec::new(), 0);
     for index in 0..count {
         let left = octets.len() - at;
-        if left < 12 {
+        let size = |n: usize| (words + 10 * n + 10).div_ceil(multiple) * multiple / 8;
+        if left < size(0) {
             return Err((9, index));
         }
-        let word = |k: usize| bits(octets, 8 * at + 32 + 10 * k, 10);
+        let word = |k: usize| match k {
+            0..3 => bits(octets, 8 * at + did + 10 * k, 10),
+            _ => bits(octets, 8 * at + words + 10 * (k - 3), 10),
+        };
         if !(0..3).all(|k| well_formed(word(k))) {
             return Err((10, index));
         }
         let n = (word(2) % 256) as usize;
-        let size = 4 * (72 + 10 * n).div_ceil(32);
+        let size = size(n);
         if left < size {
             return Err((9, index));
+        }
+        if bits(octets, 8 * at + did + 30, r) != 0 {
+            return Err((15, index));
         }
         let sum: u64 = (0..n + 3).map(|k| word(k) % 512).sum();
         let sum = sum % 512;
@@ -49,10 +66,13 @@ fn naive_run(octets: &[u8], count: usize) -> Refused<(Vec<u16>, usize)> {
         if word(n + 3) != sum + 512 * (1 - b8) {
             return Err((11, index));
         }
-        if bits(octets, 8 * at + 72 + 10 * n, 8 * size - 72 - 10 * n) != 0 {
+        let used = words + 10 * n + 10;
+        if bits(octets, 8 * at + used, 8 * size - used) != 0 {
             return Err((12, index));
         }
+        // S and StreamNum stand before DID or nowhere.
         for (place, width) in [(0, 1), (1, 11), (12, 12), (24, 1), (25, 7)] {
+            let width = if place < did { width } else { 0 };
             cells.push(bits(octets, 8 * at + place, width) as u16);
         }
         cells.extend((0..3).map(|k| (word(k) % 256) as u16));
@@ -62,7 +82,7 @@ fn naive_run(octets: &[u8], count: usize) -> Refused<(Vec<u16>, usize)> {
     Ok((cells, at))
 }
 
-fn naive_check(o: &[u8]) -> Refused<(Summary, Vec<u16>)> {
+fn naive_check(layout: Layout, o: &[u8]) -> Refused<(Summary, Vec<u16>)> {
     if o.len() > 65_535 {
         return Err((1, 0));
     }
@@ -93,22 +113,23 @@ fn naive_check(o: &[u8]) -> Refused<(Summary, Vec<u16>)> {
         }
         payload = &payload[..payload.len() - padding];
     }
-    if payload.len() < 8 {
+    let header = if layout == Layout::Rfc8331 { 8 } else { 5 };
+    if payload.len() < header {
         return Err((5, 0));
     }
-    let f = bits(payload, 40, 2);
+    let f = bits(payload, 40, if header == 8 { 2 } else { 0 });
     if f == 1 {
         return Err((6, 0));
     }
     let length = bits(payload, 16, 16) as usize;
-    if length != payload.len() - 8 {
+    if length != payload.len() - header {
         return Err((7, 0));
     }
     let count = bits(payload, 32, 8) as usize;
     if count == 0 && length != 0 {
         return Err((8, 0));
     }
-    let (cells, used) = naive_run(&payload[8..], count)?;
+    let (cells, used) = naive_run(layout, &payload[header..], count)?;
     if used != length {
         return Err((13, 0));
     }
@@ -138,13 +159,14 @@ fn packet_reader() {
     for _ in 0..20_000 {
         let case = read_case(&mut r);
         let lent = vec![0x5A5A; case.room];
-        let (expected, after) = match naive_check(&case.octets) {
+        let (expected, after) = match naive_check(case.layout, &case.octets) {
             Ok((_, cells)) if cells.len() > case.room => (Err((14, 0)), lent.clone()),
             Ok((summary, cells)) => (Ok(summary), overwritten(&lent, 0, &cells)),
             Err(refusal) => (Err(refusal), lent.clone()),
         };
         let mut cells = lent;
-        assert_eq!(pair(packet::read(&case.octets, &mut cells)), expected);
+        let answer = packet::read(case.layout, &case.octets, &mut cells);
+        assert_eq!(pair(answer), expected);
         assert_eq!(cells, after);
     }
 }
@@ -170,22 +192,29 @@ fn naive_list(cells: &[u16]) -> Refused<Vec<&[u16]>> {
     Ok(records)
 }
 
-/// ANC packets of a list in writing, and how many: 20, 21.
-fn naive_packets(cells: &[u16], most: usize) -> Refused<(Vec<u8>, usize)> {
+/// Records of a list in writing: 20, 21.
+fn naive_records(cells: &[u16], most: usize) -> Refused<Vec<&[u16]>> {
     let records = naive_list(cells)?;
     if records.len() > most || cells.len() > 32_768 {
         return Err((21, 0));
     }
-    let octets = records.iter().flat_map(|record| Anc::of(record).octets());
-    Ok((octets.collect(), records.len()))
+    Ok(records)
 }
 
-fn naive_write(head: &Head, cells: &[u16]) -> Refused<Vec<u8>> {
+fn naive_write(layout: Layout, head: &Head, cells: &[u16]) -> Refused<Vec<u8>> {
     if head.payload_type > 127 || ![0, 2, 3].contains(&head.f) {
         return Err((24, 0));
     }
-    naive_packets(cells, 255)?;
-    Ok(Parts::plain(*head, cells).assemble())
+    let records = naive_records(cells, 255)?;
+    let streams = records.iter().any(|record| record[3..5] != [0, 0]);
+    if layout == Layout::Draft2015 && (head.f != 0 || streams) {
+        return Err((25, 0));
+    }
+    let octets = Parts::of(layout, *head, cells).assemble();
+    if octets.len() > 65_535 {
+        return Err((22, 0));
+    }
+    Ok(octets)
 }
 
 fn lent_octets(answer: Refused<Vec<u8>>, room: usize, small: u8) -> (Refused<usize>, Vec<u8>) {
@@ -201,10 +230,12 @@ fn lent_octets(answer: Refused<Vec<u8>>, room: usize, small: u8) -> (Refused<usi
 fn packet_writer() {
     let mut r = Random::new(2);
     for _ in 0..20_000 {
-        let WriteCase { head, cells, room } = write_case(&mut r);
-        let (expected, after) = lent_octets(naive_write(&head, &cells), room, 23);
-        let mut out = vec![0x5A; room];
-        assert_eq!(pair(packet::write(&head, &cells, &mut out)), expected);
+        let case = write_case(&mut r);
+        let written = naive_write(case.layout, &case.head, &case.cells);
+        let (expected, after) = lent_octets(written, case.room, 23);
+        let mut out = vec![0x5A; case.room];
+        let answer = packet::write(case.layout, &case.head, &case.cells, &mut out);
+        assert_eq!(pair(answer), expected);
         assert_eq!(out, after);
     }
 }
@@ -215,10 +246,12 @@ fn file_writer() {
     for _ in 0..20_000 {
         let case = field_case(&mut r);
         let written = match case.f {
-            0 | 2 | 3 => naive_packets(&case.cells, 4_095).map(|(packets, count)| {
+            0 | 2 | 3 => naive_records(&case.cells, 4_095).map(|records| {
                 let mut octets = case.timestamp.to_be_bytes().to_vec();
+                let count = records.len();
                 octets.extend([case.f, (count / 256) as u8, (count % 256) as u8]);
-                octets.extend(packets);
+                let anc = records.into_iter().map(Anc::of);
+                octets.extend(anc.flat_map(|anc| anc.octets(Layout::Rfc8331)));
                 octets
             }),
             _ => Err((53, 0)),
@@ -255,7 +288,7 @@ fn naive_field(file: &[u8], offset: usize) -> Refused<(file::Field, Vec<u16>)> {
         return Err((53, 0));
     }
     let count = bits(at, 40, 8 * width) as usize;
-    let (cells, used) = naive_run(&at[5 + width..], count)?;
+    let (cells, used) = naive_run(Layout::Rfc8331, &at[5 + width..], count)?;
     if count > 4_095 || cells.len() > 32_768 {
         return Err((21, 0));
     }
@@ -289,7 +322,12 @@ fn file_reader() {
     }
 }
 
-fn naive_arrive(s: State, octets: &[u8], store: &[u16]) -> (State, Refused<Answer>, Vec<u16>) {
+fn naive_arrive(
+    s: State,
+    layout: Layout,
+    octets: &[u8],
+    store: &[u16],
+) -> (State, Refused<Answer>, Vec<u16>) {
     let unchanged = store.to_vec();
     let (r, c) = (s.records, s.cells);
     let unsound = r > 4_095
@@ -300,7 +338,7 @@ fn naive_arrive(s: State, octets: &[u8], store: &[u16]) -> (State, Refused<Answe
     if unsound {
         return (s, Err((35, 0)), unchanged);
     }
-    let (p, cells) = match naive_check(octets) {
+    let (p, cells) = match naive_check(layout, octets) {
         Ok(accepted) => accepted,
         Err(refusal) => return (s, Err(refusal), unchanged),
     };
@@ -354,9 +392,9 @@ fn naive_arrive(s: State, octets: &[u8], store: &[u16]) -> (State, Refused<Answe
     (after, Ok(Answer::Held), written)
 }
 
-fn compare_arrival(state: State, octets: &[u8], store: &mut [u16]) -> State {
-    let (after, expected, written) = naive_arrive(state, octets, store);
-    let (next, answer) = arrive(state, octets, store);
+fn compare_arrival(state: State, layout: Layout, octets: &[u8], store: &mut [u16]) -> State {
+    let (after, expected, written) = naive_arrive(state, layout, octets, store);
+    let (next, answer) = arrive(state, layout, octets, store);
     let answer = match answer {
         Answer::Refused(refusal) => pair(Err(refusal)),
         answer => Ok(answer),
@@ -372,7 +410,7 @@ fn depacketizer_at_any_state() {
     let mut r = Random::new(5);
     for _ in 0..20_000 {
         let mut case = arrive_case(&mut r);
-        compare_arrival(case.state, &case.octets, &mut case.store);
+        compare_arrival(case.state, case.layout, &case.octets, &mut case.store);
     }
 }
 
@@ -380,8 +418,10 @@ fn depacketizer_at_any_state() {
 fn depacketizer_over_wild_packets() {
     let mut r = Random::new(6);
     for _ in 0..300 {
-        let packets = wild_packets(&mut r, 60);
-        let Some(first) = packets.iter().find_map(|octets| naive_check(octets).ok()) else {
+        let layout = r.layout();
+        let packets = wild_packets(&mut r, layout, 60);
+        let accepted = |octets: &Vec<u8>| naive_check(layout, octets).ok();
+        let Some(first) = packets.iter().find_map(accepted) else {
             continue;
         };
         let mut state =
@@ -389,7 +429,7 @@ fn depacketizer_over_wild_packets() {
         let size = r.pick(&[0, 40, 200, 1000, 32_767, 32_768, 40_000]);
         let mut store = vec![0x5A5A; size];
         for octets in &packets {
-            state = compare_arrival(state, octets, &mut store);
+            state = compare_arrival(state, layout, octets, &mut store);
         }
     }
 }
@@ -432,7 +472,7 @@ fn naive_record(record: &[u16]) -> String {
     line
 }
 
-fn naive_listing(mut input: &[u8]) -> String {
+fn naive_listing(layout: Layout, mut input: &[u8]) -> String {
     let mut lines = vec!["fieldlist 1".to_string()];
     let mut depacketizer: Option<State> = None;
     let mut store = vec![0; 32_768];
@@ -447,7 +487,7 @@ fn naive_listing(mut input: &[u8]) -> String {
         }
         let packet = &input[2..2 + size];
         input = &input[2 + size..];
-        let number = match naive_check(packet) {
+        let number = match naive_check(layout, packet) {
             Err((code, index)) => {
                 lines.push(format!("refused {code} {index}"));
                 continue;
@@ -457,7 +497,7 @@ fn naive_listing(mut input: &[u8]) -> String {
                 summary.number
             }
         };
-        let (after, answer, written) = naive_arrive(depacketizer.unwrap(), packet, &store);
+        let (after, answer, written) = naive_arrive(depacketizer.unwrap(), layout, packet, &store);
         (depacketizer, store) = (Some(after), written);
         match answer {
             Err((32, _)) => lines.push(format!("{number} late")),
@@ -488,8 +528,10 @@ fn naive_listing(mut input: &[u8]) -> String {
 #[test]
 fn listings() {
     let mut r = Random::new(9);
-    for _ in 0..1_500 {
-        let input = framed(&mut r);
-        assert_eq!(reference::fieldlist(&input), naive_listing(&input));
+    for _ in 0..2_500 {
+        let layout = r.layout();
+        let input = framed(&mut r, layout);
+        let listing = reference::fieldlist(layout, &input);
+        assert_eq!(listing, naive_listing(layout, &input));
     }
 }

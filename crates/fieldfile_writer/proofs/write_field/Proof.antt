@@ -20,10 +20,10 @@ use Rattle.fieldfile_writer.proofs.write_field.Tie as tie
 -- the field was measured and fits
 found : (c : tie.After-known-told)
     → let a = c .before .before .before .before .before .before .args in let n = c .before .listed .given .0 in
-    Taken (fieldRecords (a .f) (a .cells .now) (length (a .out .now))) (n .0) (n .1 .0)
+    Taken rfc8331 (fieldRecords (a .f) (a .cells .now) (length (a .out .now))) (n .0) (n .1 .0)
 found c =
     let a = c .before .before .before .before .before .before .args in
-    taken (fieldRecords (a .f) (a .cells .now) (length (a .out .now))) _ _ (sym (c .before .before .before .measure .ensures) ∙ c .before .listed .given .1)
+    taken rfc8331 (fieldRecords (a .f) (a .cells .now) (length (a .out .now))) _ _ (sym (c .before .before .before .measure .ensures) ∙ c .before .listed .given .1)
 
 fits : (c : tie.After-known-told) → let a = c .before .before .before .before .before .before .args in Writes (a .f) (a .cells .now) (length (a .out .now)) (found c .rs)
 fits c = let a = c .before .before .before .before .before .before .args in writes (a .f) (a .cells .now) (length (a .out .now)) (found c .rs) (found c .reads)
@@ -38,7 +38,7 @@ returns : tie.Need-returns
 returns c =
     let a = c .before .before .before .before .before .before .args in
     let t = c .before .enum-told .given in
-    let e = listed-refused (fieldRecords (a .f) (a .cells .now) (length (a .out .now))) _ (sym (c .before .before .before .measure .ensures) ∙ t .1) in
+    let e = listed-refused rfc8331 (fieldRecords (a .f) (a .cells .now) (length (a .out .now))) _ (sym (c .before .before .before .measure .ensures) ∙ t .1) in
     (rw e (ap written.Refused (c .refusal .ensures ∙ ap listRefusal (t .1))), rw e)
 
 cast-write-header : tie.Need-cast-write-header
@@ -57,7 +57,7 @@ write-run-requires : tie.Need-write-run-requires
 write-run-requires c κs =
     let w = fits (c .before .before .before .before .before) in
     let t = found (c .before .before .before .before .before) in
-    let e = ap (λ r. length (listOctets r)) (w .reads) ∙ length-run rfc8331 (t .rs) ∙ t .size in
+    let e = ap (λ r. length (listOctets rfc8331 r)) (w .reads) ∙ length-run rfc8331 (t .rs) ∙ t .size in
     (subst IsAccepted (sym (w .reads)) tt, simp (length-take, length-drop) (omega (arith, e, same (c .before), enough (c .before .before .before .before .before))))
 
 add-t8 : tie.Need-add-t8
@@ -74,7 +74,7 @@ returns-2 c =
     let h = c .before .before .before .before .before .before .before .write-header in
     let w = c .before .before .before .write-run in (
       sym (size ∙ ap (λ (n : ℕ). written.Octets (record { 0 = fieldHeaderSize writtenVersion + n })) (t .size)),
-      all (a .out .now) (h .last .1 .1 .1 .0) (w .last .1 .0) (h .ensures) (w .ensures),
+      all (a .out .now) (h .last .1 .1 .1 .0) (w .last .1 .1 .0) (h .ensures) (w .ensures),
     )
 
 pub write-field-spec : {M : Type 1} → statement M

@@ -2,14 +2,16 @@
 -- Invariant: the turns so far are a run; the buffers keep their sizes; turns are left only while the run is open, and
 -- with those that were made they are as many as at the start.
 use borrow.Author.Needs.{needs}
-use mathlib.Core.Path.{_≡_, refl, sym, subst, _∙_}
+use mathlib.Core.Path.{_≡_, refl, ap, sym, subst, _∙_}
 use mathlib.Core.Bool.{true}
 use mathlib.Core.List.{List, []}
 use native.Mathlib.Omega.{arith}
 use Prim.Native.Nat.{ℕ, _+_, _<_, _≤_}
 use native.Mathlib.Nat.{le-refl}
 use lib.ListN.{length}
+use Rattle.wire.specs.Layout.{Layout}
 use Rattle.lines.specs.Room.{lineRoom}
+use Rattle.listing.specs.Session.{layoutIn}
 use Rattle.turns.specs.declared.Run.{Run}
 use Rattle.turns.specs.Turns.{Passed, maxTurns, started, turned, turnsOf}
 use Rattle.turns.proofs.PrintedLaws.{bounds, run-begins, run-whole}
@@ -17,15 +19,19 @@ use Rattle.turns.proofs.TurnLaws.{fewer, one-more, still-enough, still-open, ro
 use Rattle.fieldlist.proofs.list.Statement.{statement}
 use Rattle.fieldlist.proofs.list.Tie as tie
 
-record Sofar (store₀ : List ℕ) (v : Run) (input store out : List ℕ) (turns : ℕ) : Type 0 where
+record Sofar (L : Layout) (store₀ : List ℕ) (v : Run) (input store out : List ℕ) (turns : ℕ) : Type 0 where
   pub read : List ℕ
   pub written : List ℕ
-  pub passed : Passed store₀ read written v input store out
+  pub passed : Passed L store₀ read written v input store out
   pub made : v .«open» ≡ true → turns + turnsOf passed ≡ maxTurns
+
+-- in the layout that was told
+told : {L M : Layout} {store₀ : List ℕ} {v : Run} {input store out : List ℕ} {turns : ℕ} → M ≡ L → Sofar L store₀ v input store out turns → Sofar M store₀ v input store out turns
+told {store₀ = store₀} {v} {input} {store} {out} {turns} e s = subst (λ (N : Layout). Sofar N store₀ v input store out turns) (sym e) s
 
 abbrev Inv-loop : tie.InvT-loop
 Inv-loop fd input₀ store₀ out₀ run₀ turns₀ input store out run turns =
-    Sofar store₀ run input store out turns × ((length input ≡ length input₀) × (length store ≡ length store₀) × (length out ≡ length out₀))
+    Sofar (layoutIn (run₀ .session)) store₀ run input store out turns × ((length input ≡ length input₀) × (length store ≡ length store₀) × (length out ≡ length out₀))
     × (0 < turns → run .«open» ≡ true)
 
 abbrev μ-loop : tie.MeasureT-loop
@@ -37,7 +43,7 @@ start-requires c κs = room-for-line (c .before .before .before .before .pre)
 loop-holds : tie.Need-loop-holds Inv-loop μ-loop
 loop-holds c =
     let s = c .before .before .start .ensures in
-    (record { read = []; written = []; passed = started s; made = λ o. refl }, (refl, refl, refl), λ h. s .goes-on)
+    (told (ap layoutIn (s .session)) (record { read = []; written = []; passed = started s; made = λ o. refl }), (refl, refl, refl), λ h. s .goes-on)
 
 turn-requires : tie.Need-turn-requires Inv-loop μ-loop
 turn-requires c κs =
@@ -79,7 +85,7 @@ same-length-3 c = c .before .before .out3 .given ∙ c .before .before .before .
 returns : tie.Need-returns Inv-loop μ-loop
 returns c =
     let l = c .before .before .before .before .before .before .before .loop in
-    let s = l .inv .0 in
+    let s = told (sym (ap layoutIn (c .before .before .before .before .before .before .before .before .before .before .start .ensures .session))) (l .inv .0) in
     let x = c .before .before .before .close in
     record {
       read = s .read;

@@ -15,13 +15,13 @@ returns : tie.Need-returns
 returns c =
     let a = c .before .before .before .before .before .before .args in
     let t = c .before .enum-told .given in
-    let e = into-refused (a .octets .now) (length (a .cells .now)) _ (sym (c .before .before .before .check .ensures) ∙ t .1) in
+    let e = into-refused (a .layout) (a .octets .now) (length (a .cells .now)) _ (sym (c .before .before .before .check .ensures) ∙ t .1) in
     (ap read.Refused (c .refusal .ensures ∙ ap checkedRefusal (t .1)) ∙ ap readOf (sym e), ap (λ (r : Result Content). cellsAfter r (a .cells .now)) (sym e))
 
 returns-2 : tie.Need-returns-2
 returns-2 c =
     let a = c .before .before .before .before .before .before .before .before .before .args in
-    let e = into-short (a .octets .now) _ (sym (c .before .before .before .before .before .before .check .ensures) ∙ c .before .before .before .before .checked .given .1) (length (a .cells .now)) (c .if1 .taken) in
+    let e = into-short (a .layout) (a .octets .now) _ (sym (c .before .before .before .before .before .before .check .ensures) ∙ c .before .before .before .before .checked .given .1) (length (a .cells .now)) (c .if1 .taken) in
     (ap readOf (sym e), ap (λ (r : Result Content). cellsAfter r (a .cells .now)) (sym e))
 
 read-records-requires : tie.Need-read-records-requires
@@ -30,7 +30,7 @@ read-records-requires c κs = (sym (c .before .before .before .before .before .b
 returns-3 : tie.Need-returns-3
 returns-3 c =
     let a = c .before .before .before .before .before .before .before .before .before .before .before .before .before .args in
-    let e = into-fits (a .octets .now) _ (sym (c .before .before .before .before .before .before .before .before .before .before .check .ensures) ∙ c .before .before .before .before .before .before .before .before .checked .given .1) (length (a .cells .now)) (c .before .before .before .before .if1 .left) in
+    let e = into-fits (a .layout) (a .octets .now) _ (sym (c .before .before .before .before .before .before .before .before .before .before .check .ensures) ∙ c .before .before .before .before .before .before .before .before .checked .given .1) (length (a .cells .now)) (c .before .before .before .before .if1 .left) in
     (sym (ap readOf (e .0) ∙ e .1), c .before .before .read-records .ensures ∙ ap (λ (r : Result Content). cellsAfter r (a .cells .now)) (sym (e .0)))
 
 pub read-spec : {M : Type 1} → statement M

@@ -8,10 +8,10 @@ use Rattle.rtp_example.proofs.there_and_back.Statement.{statement}
 use Rattle.rtp_example.proofs.there_and_back.Tie as tie
 
 slice-aggregate-print-octets : tie.Need-slice-aggregate-print-octets
-slice-aggregate-print-octets c = sym (length-take-le _ (c .before .before .before .before .before .before .write .last .1 .1 .0) (omega (arith, c .before .before .before .before .before .before .write .kept .1 .1 .0)))
+slice-aggregate-print-octets c = sym (length-take-le _ (c .before .before .before .before .before .before .write .last .1 .1 .1 .0) (omega (arith, c .before .before .before .before .before .before .write .kept .1 .1 .1 .0)))
 
 slice-aggregate-read-back : tie.Need-slice-aggregate-read-back
-slice-aggregate-read-back c = sym (length-take-le _ (c .before .before .before .before .before .before .before .before .write .last .1 .1 .0) (omega (arith, c .before .before .before .before .before .before .before .before .write .kept .1 .1 .0)))
+slice-aggregate-read-back c = sym (length-take-le _ (c .before .before .before .before .before .before .before .before .write .last .1 .1 .1 .0) (omega (arith, c .before .before .before .before .before .before .before .before .write .kept .1 .1 .1 .0)))
 
 pub there-and-back-spec : {M : Type 1} → statement M
 there-and-back-spec =

@@ -8,7 +8,6 @@ use native.Mathlib.Nat.{add-zero, sub-zero, zero-add}
 use native.Mathlib.Omega.{arith}
 use lib.ListN.{length, drop, length-drop}
 use Rattle.wire.specs.Anc.{readRun, ancSize}
-use Rattle.wire.specs.Layout.{rfc8331}
 use Rattle.wire.specs.Cells.{headCells}
 use Rattle.wire.proofs.ListLaws.{part-all}
 use Rattle.wire.proofs.SizeLaws.{cells-octets}
@@ -18,25 +17,25 @@ use Rattle.anc.proofs.check.check_run.Statement.{statement}
 use Rattle.anc.proofs.check.check_run.Tie as tie
 
 abbrev Inv-loop : tie.InvT-loop
-Inv-loop octets count table rest₀ used₀ cells₀ i₀ rest used cells i =
+Inv-loop layout octets count table rest₀ used₀ cells₀ i₀ rest used cells i =
     (i ≤ count) × (used .0 + length rest ≡ length octets) × (cells ≤ used .0)
-    × (tally (used .0) cells (readRun rfc8331 i (count - i) rest) ≡ runOf (readRun rfc8331 0 count octets))
+    × (tally layout (used .0) cells (readRun layout i (count - i) rest) ≡ runOf layout (readRun layout 0 count octets))
 
 abbrev μ-loop : tie.MeasureT-loop
-μ-loop octets count table rest₀ used₀ cells₀ i₀ rest used cells i = count - i
+μ-loop layout octets count table rest₀ used₀ cells₀ i₀ rest used cells i = count - i
 
 -- the packet of this turn was accepted
 next : (c : tie.After-known-told2 Inv-loop μ-loop)
     → let l = c .before .before .before .before .before .before .loop in
-    Next (l .rest .now) (l .i) (c .before .before .before .before .before .before .before .before .before .args .count - (l .i + 1)) (l .used .0) (l .cells) (c .before .verdict2 .given .0 .0)
+    Next (c .before .before .before .before .before .before .before .before .before .args .layout) (l .rest .now) (l .i) (c .before .before .before .before .before .before .before .before .before .args .count - (l .i + 1)) (l .used .0) (l .cells) (c .before .verdict2 .given .0 .0)
 next c =
     let l = c .before .before .before .before .before .before .loop in
-    accepted-next (l .rest .now) (l .i) _ (l .used .0) (l .cells) _ (sym (c .before .before .before .check-packet .ensures) ∙ c .before .verdict2 .given .1)
+    accepted-next (c .before .before .before .before .before .before .before .before .before .args .layout) (l .rest .now) (l .i) _ (l .used .0) (l .cells) _ (sym (c .before .before .before .check-packet .ensures) ∙ c .before .verdict2 .given .1)
 
 loop-holds : tie.Need-loop-holds Inv-loop μ-loop
 loop-holds c =
     let a = c .before .before .args in
-    (omega arith, zero-add _, omega arith, rw (sub-zero (a .count)) (tally-none (readRun rfc8331 0 (a .count) (a .octets .now))))
+    (omega arith, zero-add _, omega arith, rw (sub-zero (a .count)) (tally-none (c .before .before .args .layout) (readRun (c .before .before .args .layout) 0 (a .count) (a .octets .now))))
 
 check-packet-requires : tie.Need-check-packet-requires Inv-loop μ-loop
 check-packet-requires c κs = c .before .before .before .header-words .ensures
@@ -46,7 +45,7 @@ returns c =
     let a = c .before .before .before .before .before .before .before .before .before .args in
     let l = c .before .before .before .before .before .before .loop in
     let n : a .count - l .i ≡ suc (a .count - (l .i + 1)) = omega arith in
-    sym (refused-next (l .rest .now) (l .i) (a .count - (l .i + 1)) (l .used .0) (l .cells) _ (sym (c .before .before .before .check-packet .ensures) ∙ c .before .verdict .given .1))
+    sym (refused-next (c .before .before .before .before .before .before .before .before .before .args .layout) (l .rest .now) (l .i) (a .count - (l .i + 1)) (l .used .0) (l .cells) _ (sym (c .before .before .before .check-packet .ensures) ∙ c .before .verdict .given .1))
     ∙ (rw n at (l .inv .3))
 
 sub-rest : tie.Need-sub-rest Inv-loop μ-loop
@@ -70,7 +69,7 @@ add-cells c = omega arith
 add-cells-2 : tie.Need-add-cells-2 Inv-loop μ-loop
 add-cells-2 c =
     let w = c .before .before .before .before .before .verdict2 .given .0 .0 .0 in
-    omega (arith, cells-octets rfc8331 w, next (c .before .before .before .before) .fits)
+    omega (arith, cells-octets (c .before .before .before .before .before .before .before .before .before .before .before .before .before .args .layout) w, next (c .before .before .before .before) .fits)
 
 add-i : tie.Need-add-i Inv-loop μ-loop
 add-i c = omega arith
@@ -88,13 +87,13 @@ loop-again c =
     let m = a .count - (l .i + 1) in
     let n : a .count - l .i ≡ suc m = omega arith in
     let t = next (c .before .before .before .before) in
-    let e : z ≡ ancSize rfc8331 w = c .before .before .before .packet-size .ensures in (
+    let e : z ≡ ancSize (c .before .before .before .before .before .before .before .before .before .before .before .before .before .args .layout) w = c .before .before .before .packet-size .ensures in (
       omega arith,
       omega (arith, ap length (part-all z s), length-drop z s, t .fits, c .before .plus .ensures),
-      omega (arith, e, cells-octets rfc8331 w, c .before .plus .ensures),
+      omega (arith, e, cells-octets (c .before .before .before .before .before .before .before .before .before .before .before .before .before .args .layout) w, c .before .plus .ensures),
       rw (c .before .plus .ensures)
-          (ap (λ (x : List ℕ). tally (l .used .0 + z) (l .cells + (headCells + w)) (readRun rfc8331 (l .i + 1) m x)) (part-all z s)
-          ∙ ap (λ (x : ℕ). tally (l .used .0 + x) (l .cells + (headCells + w)) (readRun rfc8331 (l .i + 1) m (drop x s))) e
+          (ap (λ (x : List ℕ). tally (c .before .before .before .before .before .before .before .before .before .before .before .before .before .args .layout) (l .used .0 + z) (l .cells + (headCells + w)) (readRun (c .before .before .before .before .before .before .before .before .before .before .before .before .before .args .layout) (l .i + 1) m x)) (part-all z s)
+          ∙ ap (λ (x : ℕ). tally (c .before .before .before .before .before .before .before .before .before .before .before .before .before .args .layout) (l .used .0 + x) (l .cells + (headCells + w)) (readRun (c .before .before .before .before .before .before .before .before .before .before .before .before .before .args .layout) (l .i + 1) m (drop x s))) e
           ∙ sym (t .goes)
           ∙ (rw n at (l .inv .3))),
     )

@@ -1,13 +1,13 @@
--- `checksum_ok` tests the word behind a row of words.
--- By the sum of that row and of the three words.
+-- `checksum_ok` tests the word behind the user data words.
+-- By the sum of these and of the three words before them.
 use borrow.Author.Needs.{needs}
 use Rattle.anc.proofs.check.checksum_ok.Statement.{statement}
 use Rattle.anc.proofs.check.checksum_ok.Tie as tie
 
 returns : tie.Need-returns
-returns c = rw (c .checksum-word .ensures, c .before .fetch .ensures, c .before .before .sum-with-header .ensures)
+returns c = rw (c .checksum-word .ensures, c .before .fetch .ensures, c .before .before .words-at .ensures, c .before .before .before .sum-with-header .ensures)
 
 pub checksum-ok-spec : {M : Type 1} → statement M
 checksum-ok-spec =
     tie.close
-    (tie.spec (λ c κs. search needs) (λ c. search needs) (λ c. search needs) (λ c κs. search needs) (λ c κs. search needs) returns)
+    (tie.spec (λ c κs. search needs) (λ c κs. search needs) (λ c. search needs) (λ c. search needs) (λ c κs. search needs) (λ c κs. search needs) returns)

@@ -7,7 +7,6 @@ use native.Mathlib.Nat.{sub-zero}
 use native.Mathlib.Omega.{arith}
 use lib.ListN.{length, length-take, length-drop}
 use Rattle.wire.specs.Anc.{ancSize, readRun}
-use Rattle.wire.specs.Layout.{rfc8331}
 use Rattle.wire.proofs.ListLaws.{splice-none}
 use Rattle.anc.specs.Answers.{runCells}
 use Rattle.anc.proofs.RunLaws.{Left, First, first, left-next}
@@ -15,27 +14,27 @@ use Rattle.anc.proofs.read.read_run.Statement.{statement}
 use Rattle.anc.proofs.read.read_run.Tie as tie
 
 abbrev Inv-loop : tie.InvT-loop
-Inv-loop octets count cells₀ rest₀ to₀ i₀ cells rest to i = (i ≤ count) × Left (runCells (readRun rfc8331 0 count octets)) cells₀ i (count - i) rest cells to
+Inv-loop layout octets count cells₀ rest₀ to₀ i₀ cells rest to i = (i ≤ count) × Left layout (runCells (readRun layout 0 count octets)) cells₀ i (count - i) rest cells to
 
 abbrev μ-loop : tie.MeasureT-loop
-μ-loop octets count cells₀ rest₀ to₀ i₀ cells rest to i = count - i
+μ-loop layout octets count cells₀ rest₀ to₀ i₀ cells rest to i = count - i
 
 -- the run that is left in a turn
 here : (c : tie.In-loop Inv-loop μ-loop)
     → let a = c .before .before .before .before .args in let l = c .before .loop in
-    Left (runCells (readRun rfc8331 0 (a .count) (a .octets .now))) (a .cells .now) (l .i) (suc (a .count - (l .i + 1))) (l .rest .now) (l .cells) (l .to)
+    Left (c .before .before .before .before .args .layout) (runCells (readRun (c .before .before .before .before .args .layout) 0 (a .count) (a .octets .now))) (a .cells .now) (l .i) (suc (a .count - (l .i + 1))) (l .rest .now) (l .cells) (l .to)
 here c =
     let a = c .before .before .before .before .args in
     let l = c .before .loop in
     let n : a .count - l .i ≡ suc (a .count - (l .i + 1)) = omega arith in
     rw n at (l .inv .1)
 
-found : (c : tie.In-loop Inv-loop μ-loop) → First _ _ _ _ _ _ _ (here c)
-found c = first _ _ _ _ _ _ _ (here c)
+found : (c : tie.In-loop Inv-loop μ-loop) → First (c .before .before .before .before .args .layout) _ _ _ _ _ _ _ (here c)
+found c = first (c .before .before .before .before .args .layout) _ _ _ _ _ _ _ (here c)
 
 size-there : (c : tie.After-packet-size Inv-loop μ-loop) → c .packet-size .result .0 ≤ length (c .before .before .before .before .before .before .loop .rest .now)
 size-there c =
-    let e = c .packet-size .ensures ∙ ap (ancSize rfc8331) (c .before .before .before .read-packet .ensures .0) in
+    let e = c .packet-size .ensures ∙ ap (ancSize (c .before .before .before .before .before .before .before .before .before .args .layout)) (c .before .before .before .read-packet .ensures .0) in
     omega (arith, found (c .before .before .before .before .before) .fits)
 
 loop-holds : tie.Need-loop-holds Inv-loop μ-loop
@@ -96,7 +95,7 @@ loop-again c =
     let r = c .before .before .before .before .before .read-packet in
     let z = c .before .before .packet-size in (
       omega arith,
-      left-next _ _ _ _ _ _ _ (here (c .before .before .before .before .before .before .before)) (r .result .0) (z .result .0) (r .last .1 .0) (r .ensures .0) (z .ensures) (r .ensures .1),
+      left-next (c .before .before .before .before .before .before .before .before .before .before .before .args .layout) _ _ _ _ _ _ _ (here (c .before .before .before .before .before .before .before)) (r .result .0) (z .result .0) (r .last .1 .1 .0) (r .ensures .0) (z .ensures) (r .ensures .1),
     )
 
 returns : tie.Need-returns Inv-loop μ-loop

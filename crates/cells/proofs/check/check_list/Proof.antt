@@ -6,7 +6,6 @@ use mathlib.Core.List.{List}
 use Prim.Native.Nat.{ℕ, _+_, _*_, _≤_}
 use native.Mathlib.Omega.{arith}
 use lib.ListN.{length, length-drop}
-use Rattle.wire.specs.Layout.{rfc8331}
 use Rattle.wire.specs.Anc.{ancSize}
 use Rattle.wire.specs.Cells.{headCells, cellCount, rest, cellChecks, recordsFrom, readList}
 use Rattle.wire.proofs.ListLaws.{part-all}
@@ -19,20 +18,20 @@ use Rattle.cells.proofs.check.check_list.Statement.{statement}
 use Rattle.cells.proofs.check.check_list.Tie as tie
 
 abbrev Inv-loop : tie.InvT-loop
-Inv-loop cells rest₀ octets₀ count₀ rest octets count =
+Inv-loop layout cells rest₀ octets₀ count₀ rest octets count =
     (count + length rest ≤ length cells) × (2 * octets .0 + 3 * length rest ≤ 3 * length cells)
-    × (tally count (octets .0) (recordsFrom (length rest) count rest) ≡ listedOf (readList cells))
+    × (tally layout count (octets .0) (recordsFrom (length rest) count rest) ≡ listedOf layout (readList cells))
 
 abbrev μ-loop : tie.MeasureT-loop
-μ-loop cells rest₀ octets₀ count₀ rest octets count = length rest
+μ-loop layout cells rest₀ octets₀ count₀ rest octets count = length rest
 
 loop-holds : tie.Need-loop-holds Inv-loop μ-loop
-loop-holds c = (omega arith, omega arith, tally-none (readList (c .before .args .cells .now)))
+loop-holds c = (omega arith, omega arith, tally-none (c .before .args .layout) (readList (c .before .args .cells .now)))
 
 returns : tie.Need-returns Inv-loop μ-loop
 returns c =
     let l = c .before .before .before .before .loop in
-    sym (tally-stops (l .count) (l .octets .0) (l .rest .now) (c .before .before .before .loop-test .taken) (sym (c .before .before .check-record .ensures) ∙ c .enum-told .given .1))
+    sym (tally-stops (c .before .before .before .before .before .before .args .layout) (l .count) (l .octets .0) (l .rest .now) (c .before .before .before .loop-test .taken) (sym (c .before .before .check-record .ensures) ∙ c .enum-told .given .1))
     ∙ l .inv .2
 
 -- the record at the front passes its checks, and lies in the cells
@@ -64,10 +63,10 @@ part-rest-end c = omega arith
 -- its packet's size, at most one and a half octets for each of its cells
 size-is : (c : tie.After-packet-size Inv-loop μ-loop)
     → let left = c .before .before .before .before .before .before .loop .rest .now in
-    (c .packet-size .result .0 ≡ ancSize rfc8331 (cellCount left)) × (2 * c .packet-size .result .0 ≤ 3 * (headCells + cellCount left))
+    (c .packet-size .result .0 ≡ ancSize (c .before .before .before .before .before .before .before .before .args .layout) (cellCount left)) × (2 * c .packet-size .result .0 ≤ 3 * (headCells + cellCount left))
 size-is c =
-    let e = c .packet-size .ensures ∙ ap (ancSize rfc8331) (front-passes (c .before .before) .2) in
-    (e, rw e (size-cells rfc8331 _))
+    let e = c .packet-size .ensures ∙ ap (ancSize (c .before .before .before .before .before .before .before .before .args .layout)) (front-passes (c .before .before) .2) in
+    (e, rw e (size-cells (c .before .before .before .before .before .before .before .before .args .layout) _))
 
 plus-requires : tie.Need-plus-requires Inv-loop μ-loop
 plus-requires c κs = omega (arith, front-passes (c .before .before .before .before), size-is (c .before .before))
@@ -90,17 +89,17 @@ loop-again c =
     let z = size-is (c .before .before .before) in
     let d = length-drop (headCells + cellCount r) r in
     let sum = c .plus .ensures in
-    subst (λ (x : List ℕ). Inv-loop cells cells (record { 0 = 0 }) 0 x (c .plus .result) (l .count + 1))
+    subst (λ (x : List ℕ). Inv-loop (c .before .before .before .before .before .before .before .before .before .before .before .args .layout) cells cells (record { 0 = 0 }) 0 x (c .plus .result) (l .count + 1))
     (sym (rest-is r (c .before .before .before .before .before .front .given .0 .0 .0) (h .2))) (
       omega arith,
       omega (arith, z),
-      rw (sum, z .0) (sym (tally-next (l .count) (l .octets .0) r (c .before .before .before .before .before .before .before .before .loop-test .taken) (h .0)) ∙ l .inv .2),
+      rw (sum, z .0) (sym (tally-next (c .before .before .before .before .before .before .before .before .before .before .before .args .layout) (l .count) (l .octets .0) r (c .before .before .before .before .before .before .before .before .loop-test .taken) (h .0)) ∙ l .inv .2),
     )
 
 returns-2 : tie.Need-returns-2 Inv-loop μ-loop
 returns-2 c =
     let l = c .before .loop in
-    sym (tally-ends (l .count) (l .octets .0) (l .rest .now) (c .loop-test .left)) ∙ l .inv .2
+    sym (tally-ends (c .before .before .before .args .layout) (l .count) (l .octets .0) (l .rest .now) (c .loop-test .left)) ∙ l .inv .2
 
 pub check-list-spec : {M : Type 1} → statement M
 check-list-spec =

@@ -8,8 +8,6 @@ use native.Mathlib.Omega.{arith}
 use lib.ListN.{getD}
 use Rattle.wire.specs.Bits.{Below, bits, row, fieldBits, splice}
 use Rattle.wire.specs.Words.{wordBits, headerNumbers, sumLow}
-use Rattle.wire.specs.Layout.{rfc8331}
-use Rattle.wire.specs.Anc.{didAt}
 use Rattle.wire.specs.Cells.{cellCount, cellRecord}
 use Rattle.wire.proofs.WordLaws.{header-lt}
 use Rattle.record.proofs.FrontLaws.{length-words}
@@ -33,20 +31,20 @@ cast-did c = omega (arith, small (c .before .before .before))
 cast-sdid : tie.Need-cast-sdid
 cast-sdid c = omega (arith, small (c .before .before .before .before))
 
-mul-t12 : tie.Need-mul-t12
-mul-t12 c = omega (arith, small (c .before .before .before .before .before))
+mul-t13 : tie.Need-mul-t13
+mul-t13 c = omega (arith, small (c .before .before .before .before .before))
 
-element-copy-out-t9 : tie.Need-element-copy-out-t9
-element-copy-out-t9 c = omega (arith, small (c .before .before .before .before .before))
+element-copy-out-t10 : tie.Need-element-copy-out-t10
+element-copy-out-t10 c = omega (arith, small (c .before .before .before .before .before))
 
-mul-t15 : tie.Need-mul-t15
-mul-t15 c = omega (arith, small (c .before .before .before .before .before .before))
+mul-t16 : tie.Need-mul-t16
+mul-t16 c = omega (arith, small (c .before .before .before .before .before .before))
 
-element-copy-out-t18 : tie.Need-element-copy-out-t18
-element-copy-out-t18 c = omega (arith, small (c .before .before .before .before .before .before))
+element-copy-out-t19 : tie.Need-element-copy-out-t19
+element-copy-out-t19 c = omega (arith, small (c .before .before .before .before .before .before))
 
-element-copy-out-t22 : tie.Need-element-copy-out-t22
-element-copy-out-t22 c = omega (arith, small (c .before .before .before .before .before .before .before))
+element-copy-out-t23 : tie.Need-element-copy-out-t23
+element-copy-out-t23 c = omega (arith, small (c .before .before .before .before .before .before .before))
 
 head-is : (c : tie.Start)
     → let l = c .args .cells .now in
@@ -71,12 +69,12 @@ returns c =
     let s = w .before .before .before .before .before .before .before .before .before .before .before in
     let o = s .args .octets .now in (
       c .sum-cells .ensures ∙ ap sumLow (head-is s),
-      w .write-singly .ensures ∙ ap (λ (ws : List ℕ). splice (bits o) (didAt rfc8331) (fieldBits (row wordBits ws))) (head-is s),
+      w .write-singly .ensures ∙ ap (λ (ws : List ℕ). splice (bits o) (s .args .at) (fieldBits (row wordBits ws))) (head-is s),
     )
 
 pub write-header-words-spec : {M : Type 1} → statement M
 write-header-words-spec =
     tie.close
-    (tie.spec (λ c. search needs) cast-did (λ c. search needs) cast-sdid (λ c. search needs) (λ c. search needs) mul-t12 element-copy-out-t9 mul-t15
-    element-copy-out-t18 (λ c. search needs) element-copy-out-t22 (λ c. search needs) write-singly-requires (λ c. search needs)
+    (tie.spec (λ c. search needs) cast-did (λ c. search needs) cast-sdid (λ c. search needs) (λ c. search needs) mul-t13 element-copy-out-t10 mul-t16
+    element-copy-out-t19 (λ c. search needs) element-copy-out-t23 (λ c. search needs) write-singly-requires (λ c. search needs)
     (λ c κs. search needs) (λ c. search needs) returns)

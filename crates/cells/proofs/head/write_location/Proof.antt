@@ -1,15 +1,14 @@
 -- `write_location` writes the four octets before DID.
--- By the law of stores one after the other; the octets are the packed fields of the record, which are its header's.
+-- By the law of stores one after the other; the octets are the packed fields of the record.
 use borrow.Author.Needs.{needs}
-use mathlib.Core.Path.{ap, sym, _∙_}
+use mathlib.Core.Path.{ap, _∙_}
 use mathlib.Core.List.{List}
 use Prim.Native.Nat.{ℕ}
 use native.Mathlib.Omega.{arith}
 use lib.ListN.{length-set}
 use lib.Seq.{sets-eq}
-use Rattle.wire.specs.Bits.{overwrite, pack}
+use Rattle.wire.specs.Bits.{overwrite}
 use Rattle.wire.specs.Cells.{cellRecord}
-use Rattle.record.proofs.HeaderLaws.{header-location}
 use Rattle.cells.proofs.FourOctets.{locationOctets, location-packed}
 use Rattle.cells.proofs.head.write_location.Statement.{statement}
 use Rattle.cells.proofs.head.write_location.Tie as tie
@@ -61,9 +60,8 @@ returns c =
     let s = c .before .before .before .before .before in
     let r = cellRecord (s .args .cells .now) in
     let o = s .args .octets .now in
-    let f = s .pre .0 in
     sets-eq (locationOctets r) o 0 (omega arith)
-    ∙ ap (λ (x : List ℕ). overwrite x o) (location-packed r f ∙ ap pack (sym (header-location r (f .c) (f .s))))
+    ∙ ap (λ (x : List ℕ). overwrite x o) (location-packed r (s .pre .0))
 
 pub write-location-spec : {M : Type 1} → statement M
 write-location-spec =

@@ -2,133 +2,96 @@
 -- Each callee tells its store; the law of a packet's stores puts them together.
 use borrow.Author.Needs.{needs}
 use mathlib.Core.Path.{_≡_, refl, ap, sym, _∙_, subst}
-use mathlib.Core.List.{List, [], _∷_}
+use mathlib.Core.List.{List}
 use Prim.Native.Nat.{ℕ, _+_, _-_, _^_, _<_, _≤_}
 use native.Mathlib.Omega.{arith}
 use lib.ListN.{length, take, drop}
-use Rattle.wire.specs.Bits.{Below, bits, fieldBits, splice}
+use Rattle.wire.specs.Bits.{Below}
 use Rattle.wire.specs.Words.{wordBits, headerNumbers}
-use Rattle.wire.specs.Layout.{rfc8331, leastSize}
-use Rattle.wire.specs.Anc.{Record, WellFormed, ancSize, wordsAt}
+use Rattle.wire.specs.Anc.{Record, ancSize, wordsAt}
 use Rattle.wire.specs.Cells.{headCells, cellCount, cellRecord}
-use Rattle.wire.proofs.SizeLaws.{least-size}
+use Rattle.wire.proofs.LayoutLaws.{places}
+use Rattle.wire.proofs.SizeLaws.{least-size, size-bits}
 use Rattle.wire.proofs.Window.{below-all}
 use Rattle.record.proofs.FrontLaws.{length-words}
-use Rattle.cells.specs.Packet.{headWords, summed}
+use Rattle.words.specs.Word.{WordsFit}
+use Rattle.cells.specs.Packet.{headWords}
 use Rattle.cells.proofs.PacketBits.{sum-small, written}
 use Rattle.cells.proofs.write.write_packet.Statement.{statement}
 use Rattle.cells.proofs.write.write_packet.Tie as tie
 
--- the record, the octets as they came, and what the code has of the record: its count and its words
+-- the record, and what the code has of it: its count and its words
 abbrev given : tie.Start → Record
 given s = cellRecord (s .args .cells .now)
 
-abbrev old : tie.Start → List ℕ
-old s = s .args .octets .now
+count-is : (c : tie.Start) → cellCount (c .args .cells .now) ≡ length (given c .words)
+count-is c = sym (length-words (c .args .cells .now) (c .pre .1 .0))
 
-formed : (s : tie.Start) → WellFormed rfc8331 (given s)
-formed s = s .pre .0 .1
-
-count-is : (s : tie.Start) → cellCount (s .args .cells .now) ≡ length (given s .words)
-count-is s = sym (length-words (s .args .cells .now) (s .pre .1 .0))
-
-user-is : (s : tie.Start)
-    → let l = s .args .cells .now in
-    take (headCells + cellCount l - headCells) (drop headCells l) ≡ given s .words
+user-is : (c : tie.Start)
+    → let l = c .args .cells .now in
+    take (headCells + cellCount l - headCells) (drop headCells l) ≡ given c .words
 unfolding cellRecord
-user-is s =
-    let l = s .args .cells .now in
+user-is c =
+    let l = c .args .cells .now in
     let e : headCells + cellCount l - headCells ≡ cellCount l = omega arith in
     ap (λ (k : ℕ). take k (drop headCells l)) e
 
-cast-t10 : tie.Need-cast-t10
-cast-t10 c = let s = c .before .before .before in omega (arith, count-is s, formed s .count)
+cast-t11 : tie.Need-cast-t11
+cast-t11 c = omega (arith, count-is (c .before .before .before), c .before .before .before .pre .0 .1 .count)
 
 -- the packet's size: it is in the octets
-room : (s : tie.Start) → ancSize rfc8331 (length (given s .words)) ≤ length (old s)
-room s = rw (← count-is s) (s .pre .1 .1)
+room : (c : tie.Start) → ancSize (c .args .layout) (length (given c .words)) ≤ length (c .args .octets .now)
+room c = rw (← count-is c) (c .pre .1 .1)
 
-least : (s : tie.Start) → leastSize rfc8331 ≤ length (old s)
-least s = omega (arith, room s, least-size rfc8331 (length (given s .words)))
-
-abbrev start : tie.After-packet-size → tie.Start
-start c = c .before .before .before .before
-
-size-is : (c : tie.After-packet-size) → c .packet-size .result .0 ≡ ancSize rfc8331 (length (given (start c) .words))
-size-is c = c .packet-size .ensures ∙ ap (ancSize rfc8331) (count-is (start c))
+size-is : (c : tie.After-packet-size) → c .packet-size .result .0 ≡ ancSize (c .before .before .before .before .args .layout) (length (cellRecord (c .before .before .before .before .args .cells .now) .words))
+size-is c = c .packet-size .ensures ∙ ap (ancSize (c .before .before .before .before .args .layout)) (count-is (c .before .before .before .before))
 
 clear-end-requires : tie.Need-clear-end-requires
 clear-end-requires c κs =
-    let p = c .before .before in
-    let s = start p in
-    omega (arith, size-is p, room s, least-size rfc8331 (length (given s .words)))
+    let L = c .before .before .before .before .before .before .args .layout in
+    omega (arith, size-is (c .before .before), room (c .before .before .before .before .before .before), least-size L (length (cellRecord (c .before .before .before .before .before .before .args .cells .now) .words)), places L .least)
 
-abbrev cleared : tie.After-clear-end → tie.Start
-cleared c = start (c .before .before .before)
-
-write-location-requires : tie.Need-write-location-requires
-write-location-requires c κs =
-    let e = c .before .before .before in
-    let s = cleared e in
-    (formed s, omega (arith, s .pre .1 .0), omega (arith, e .clear-end .kept .0, least s))
-
-abbrev located : tie.After-write-location → tie.Start
-located c = cleared (c .before .before .before .before)
-
-long-2 : (c : tie.After-write-location) → length (c .write-location .last .1 .0) ≡ length (old (located c))
-long-2 c = c .write-location .kept .1 .0 ∙ c .before .before .before .before .clear-end .kept .0
-
-write-header-words-requires : tie.Need-write-header-words-requires
-write-header-words-requires c κs =
-    let w = c .before .before .before in
-    let s = located w in
-    (s .pre .0, (s .pre .1 .0, omega (arith, long-2 w, least s)))
-
-abbrev headed : tie.After-write-header-words → tie.Start
-headed c = located (c .before .before .before .before)
-
-long-3 : (c : tie.After-write-header-words) → length (c .write-header-words .last .1 .0) ≡ length (old (headed c))
-long-3 c = c .write-header-words .kept .1 .0 ∙ long-2 (c .before .before .before .before)
+write-head-requires : tie.Need-write-head-requires
+write-head-requires c κs =
+    let L = c .before .before .before .before .before .before .before .before .before .before .args .layout in
+    let kept = c .before .before .before .clear-end .kept .0 in
+    (c .before .before .before .before .before .before .before .before .before .before .pre .0, (c .before .before .before .before .before .before .before .before .before .before .pre .1 .0, omega (arith, kept, room (c .before .before .before .before .before .before .before .before .before .before), least-size L (length (cellRecord (c .before .before .before .before .before .before .before .before .before .before .args .cells .now) .words)))))
 
 write-user-words-requires : tie.Need-write-user-words-requires
 write-user-words-requires c κs =
-    let w = c .before .before .before .before in
-    let s = headed w in
-    let f = formed s in
-    let e = sym (user-is s) in (
+    let L = c .before .before .before .before .before .before .before .before .before .before .before .before .before .before .before .args .layout in
+    let r = cellRecord (c .before .before .before .before .before .before .before .before .before .before .before .before .before .before .before .args .cells .now) in
+    let n = length (r .words) in
+    let o = c .before .before .before .before .write-head .last .1 .1 .0 in
+    let kept : length o ≡ length (c .before .before .before .before .before .before .before .before .before .before .before .before .before .before .before .args .octets .now) = c .before .before .before .before .write-head .kept .1 .1 .0 ∙ c .before .before .before .before .before .before .before .before .clear-end .kept .0 in
+    let f = c .before .before .before .before .before .before .before .before .before .before .before .before .before .before .before .pre .0 .1 in
+    let e = sym (user-is (c .before .before .before .before .before .before .before .before .before .before .before .before .before .before .before)) in
+    let p = places L in
+    let fit : WordsFit o (wordsAt L) (n + 1) = record { even = p .words-even; inside = omega (arith, kept, room (c .before .before .before .before .before .before .before .before .before .before .before .before .before .before .before), size-bits L n); near = omega (arith, p .did-near, p .r-few, f .count) } in (
       (
         subst (λ (l : List ℕ). length l < headerNumbers) e (f .count),
         subst (Below (2 ^ wordBits)) e (f .words),
-        omega (arith, w .write-header-words .ensures .0, sum-small (headWords (given s))),
+        omega (arith, c .before .before .before .before .write-head .ensures .0, sum-small (headWords r)),
       ),
-      subst (λ (l : List ℕ). ancSize rfc8331 (length l) ≤ length (w .write-header-words .last .1 .0)) e (omega (arith, long-3 w, room s)),
+      subst (λ (l : List ℕ). WordsFit o (wordsAt L) (length l + 1)) e fit,
     )
 
 returns : tie.Need-returns
 returns c =
-    let c₃ = c .before .before .before .before .before .before .before in
-    let c₂ = c₃ .before .before .before .before in
-    let c₁ = c₂ .before .before .before .before in
-    let w₄ = c .before .before .write-user-words in
-    let w₃ = c₃ .write-header-words in
-    let w₂ = c₂ .write-location in
-    let w₁ = c₁ .clear-end in
-    let p = c₁ .before .before .before in
-    let s = start p in
-    let o = old s in (
+    let a = c .before .before .before .before .before .before .before .before .before .before .before .before .before .before .before .before .before .before .args in
+    let o = a .octets .now in
+    let cleared = c .before .before .before .before .before .before .before .before .before .before .before .clear-end in
+    let head = c .before .before .before .before .before .before .before .write-head in
+    let words = c .before .before .write-user-words in (
       refl,
-      written (given s) (formed s) o (w₁ .last .0) (w₂ .last .1 .0) (w₃ .last .1 .0) (w₄ .last .1 .0)
-          (below-all o (λ j. p .before .before .slice-known .given j .fits))
-          (below-all (w₄ .last .1 .0) (λ j. c .slice-known5 .given j .fits))
-          (room s)
-          (w₁ .ensures ∙ ap (λ (size : ℕ). splice o (size - 4) (0 ∷ 0 ∷ 0 ∷ 0 ∷ [])) (size-is p))
-          (w₂ .ensures)
-          (w₃ .ensures .1)
-          (w₄ .ensures ∙ (λ i. splice (bits (w₃ .last .1 .0)) (wordsAt rfc8331) (fieldBits (summed (user-is s i) (w₃ .ensures .0 i))))),
+      written (a .layout) (cellRecord (a .cells .now)) o (cleared .last .0) (head .last .1 .1 .0) (words .last .1 .1 .0)
+          (below-all o (λ j. c .before .before .before .before .before .before .before .before .before .before .before .before .before .before .before .before .slice-known .given j .fits)) (below-all (words .last .1 .1 .0) (λ j. c .slice-known4 .given j .fits))
+          (c .before .before .before .before .before .before .before .before .before .before .before .before .before .before .packet-size .result .0) (size-is (c .before .before .before .before .before .before .before .before .before .before .before .before .before .before)) (omega (arith, size-is (c .before .before .before .before .before .before .before .before .before .before .before .before .before .before), room (c .before .before .before .before .before .before .before .before .before .before .before .before .before .before .before .before .before .before))) (cleared .ensures) (head .ensures .1)
+          (head .result) _ (head .ensures .0) (user-is (c .before .before .before .before .before .before .before .before .before .before .before .before .before .before .before .before .before .before)) (words .ensures),
     )
 
 pub write-packet-spec : {M : Type 1} → statement M
 write-packet-spec =
     tie.close
-    (tie.spec (λ c. search needs) cast-t10 (λ c κs. search needs) (λ c. search needs) (λ c. search needs) clear-end-requires write-location-requires
-    write-header-words-requires (λ c. search needs) (λ c. search needs) (λ c. search needs) write-user-words-requires (λ c. search needs) returns)
+    (tie.spec (λ c. search needs) cast-t11 (λ c κs. search needs) (λ c. search needs) (λ c. search needs) clear-end-requires write-head-requires
+    (λ c. search needs) (λ c. search needs) (λ c. search needs) write-user-words-requires (λ c. search needs) returns)

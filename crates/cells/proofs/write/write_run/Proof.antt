@@ -6,7 +6,6 @@ use Prim.Native.Nat.{ℕ, _+_, _≤_}
 use native.Mathlib.Omega.{arith}
 use lib.ListN.{length, length-drop}
 use Rattle.wire.specs.Bits.{overwrite, splice}
-use Rattle.wire.specs.Layout.{rfc8331}
 use Rattle.wire.specs.Anc.{ancOctets, ancSize}
 use Rattle.wire.specs.Cells.{headCells, cellCount, cellRecord, rest, readList}
 use Rattle.wire.proofs.ListLaws.{part-all, part-written}
@@ -17,23 +16,23 @@ use Rattle.cells.proofs.write.write_run.Statement.{statement}
 use Rattle.cells.proofs.write.write_run.Tie as tie
 
 abbrev Inv-loop : tie.InvT-loop
-Inv-loop cells octets₀ table rest₀ to₀ octets rest to =
-    (length octets ≡ length octets₀) × ToWrite (overwrite (listOctets (readList cells)) octets₀) octets rest to
+Inv-loop layout cells octets₀ table rest₀ to₀ octets rest to =
+    (length octets ≡ length octets₀) × ToWrite layout (overwrite (listOctets layout (readList cells)) octets₀) octets rest to
 
 abbrev μ-loop : tie.MeasureT-loop
-μ-loop cells octets₀ table rest₀ to₀ octets rest to = length rest
+μ-loop layout cells octets₀ table rest₀ to₀ octets rest to = length rest
 
 loop-holds : tie.Need-loop-holds Inv-loop μ-loop
 loop-holds c =
     let s = c .before .before .before in
-    (refl, to-write-all (s .args .cells .now) (s .args .octets .now) (s .pre .0) (s .pre .1))
+    (refl, to-write-all (s .args .layout) (s .args .cells .now) (s .args .octets .now) (s .pre .0) (s .pre .1))
 
 -- the record at the front of the cells that are left
 next-here : (c : tie.In-loop Inv-loop μ-loop)
     → let a = c .before .before .before .before .before .args in
     let l = c .before .loop in
-    Next (overwrite (listOctets (readList (a .cells .now))) (a .octets .now)) (l .octets) (l .rest .now) (l .to)
-next-here c = let l = c .before .loop in next _ (l .octets) (l .rest .now) (l .to) (l .inv .1) (c .loop-test .taken)
+    Next (a .layout) (overwrite (listOctets (a .layout) (readList (a .cells .now))) (a .octets .now)) (l .octets) (l .rest .now) (l .to)
+next-here c = let l = c .before .loop in next (c .before .before .before .before .before .args .layout) _ (l .octets) (l .rest .now) (l .to) (l .inv .1) (c .loop-test .taken)
 
 sub-write-packet : tie.Need-sub-write-packet Inv-loop μ-loop
 sub-write-packet c = omega (arith, next-here c .room)
@@ -46,19 +45,18 @@ part-write-packet-end c = omega arith
 
 write-packet-requires : tie.Need-write-packet-requires Inv-loop μ-loop
 write-packet-requires c κs =
-    let i = c .before .before in
-    let n = next-here i in
-    let l = i .before .loop in
-    ((i .before .before .header-words .ensures, n .formed), (n .inside, rw (part-all (l .to) (l .octets), length-drop (l .to) (l .octets)) (omega (arith, n .room))))
+    let n = next-here (c .before .before) in
+    let l = c .before .before .before .loop in
+    ((c .before .before .before .before .header-words .ensures, n .front .formed), (n .front .lies .inside, rw (part-all (l .to) (l .octets), length-drop (l .to) (l .octets)) (omega (arith, n .room))))
 
 count-is : (c : tie.After-write-packet Inv-loop μ-loop) → c .write-packet .result .0 ≡ cellCount (c .before .before .before .before .loop .rest .now)
 count-is c = c .write-packet .ensures .0
 
 step-inside : (c : tie.After-write-packet Inv-loop μ-loop) → headCells + c .write-packet .result .0 ≤ length (c .before .before .before .before .loop .rest .now)
-step-inside c = omega (arith, count-is c, next-here (c .before .before .before) .inside)
+step-inside c = omega (arith, count-is c, next-here (c .before .before .before) .front .lies .inside)
 
-size-is : (c : tie.After-packet-size Inv-loop μ-loop) → c .packet-size .result .0 ≡ ancSize rfc8331 (cellCount (c .before .before .before .before .before .before .before .loop .rest .now))
-size-is c = c .packet-size .ensures ∙ ap (ancSize rfc8331) (count-is (c .before .before .before))
+size-is : (c : tie.After-packet-size Inv-loop μ-loop) → c .packet-size .result .0 ≡ ancSize (c .before .before .before .before .before .before .before .before .before .before .before .args .layout) (cellCount (c .before .before .before .before .before .before .before .loop .rest .now))
+size-is c = c .packet-size .ensures ∙ ap (ancSize (c .before .before .before .before .before .before .before .before .before .before .before .args .layout)) (count-is (c .before .before .before))
 
 cast-step : tie.Need-cast-step Inv-loop μ-loop
 cast-step c = omega arith
@@ -93,22 +91,20 @@ loop-less c =
 
 loop-again : tie.Need-loop-again Inv-loop μ-loop
 loop-again c =
-    let p = c .before .before .before in
-    let w = p .before .before .before in
-    let i = w .before .before .before in
-    let l = i .before .loop in
+    let L = c .before .before .before .before .before .before .before .before .before .before .before .before .before .before .args .layout in
+    let l = c .before .before .before .before .before .before .before .before .before .before .loop in
     let r = l .rest .now in
-    let o = ancOctets rfc8331 (cellRecord r) in
-    let put = part-written (l .to) (l .octets) o (w .write-packet .last .1 .0) (w .write-packet .ensures .1) in (
-      omega (arith, p .before .before .octets .given .1, l .inv .0),
-      to-write-same _ (splice (l .octets) (l .to) o) _ (rest r) _ (l .to + ancSize rfc8331 (cellCount r)) _ put (rest-is r (w .write-packet .result .0) (count-is w))
-          (ap (λ (z : ℕ). l .to + z) (size-is p)) (next-here i .then),
+    let o = ancOctets L (cellRecord r) in
+    let put = part-written (l .to) (l .octets) o (c .before .before .before .before .before .before .write-packet .last .1 .1 .0) (c .before .before .before .before .before .before .write-packet .ensures .1) in (
+      omega (arith, c .before .before .before .before .before .octets .given .1, l .inv .0),
+      to-write-same L _ (splice (l .octets) (l .to) o) _ (rest r) _ (l .to + ancSize L (cellCount r)) _ put (rest-is r (c .before .before .before .before .before .before .write-packet .result .0) (count-is (c .before .before .before .before .before .before)))
+          (ap (λ (z : ℕ). l .to + z) (size-is (c .before .before .before))) (next-here (c .before .before .before .before .before .before .before .before .before) .then),
     )
 
 returns : tie.Need-returns Inv-loop μ-loop
 returns c =
     let l = c .before .loop in
-    to-write-none _ (l .octets) (l .rest .now) (l .to) (l .inv .1) (c .loop-test .left)
+    to-write-none (c .before .before .before .before .before .args .layout) _ (l .octets) (l .rest .now) (l .to) (l .inv .1) (c .loop-test .left)
 
 pub write-run-spec : {M : Type 1} → statement M
 write-run-spec =

@@ -4,7 +4,6 @@ use borrow.Author.Needs.{needs}
 use mathlib.Core.Path.{_≡_, ap, sym, _∙_}
 use mathlib.Core.Bool.{Bool}
 use mathlib.Core.List.{[], _∷_}
-use Rattle.wire.specs.Layout.{rfc8331}
 use Rattle.wire.specs.Packet.{readContent}
 use Rattle.rtp.specs.declared.packet.Outline.{Outline}
 use Rattle.rtp.specs.declared.packet.Checked.the-variants as checked
@@ -23,8 +22,8 @@ first c = ap (λ (b : Bool). stageOf ((b, 35) ∷ [])) (sym (c .before .is-sound
 passes : (c : tie.After-enum-told) → let a = c .before .before .before .before .before .args in stageOf ((sound (a .state) (a .room), 35) ∷ []) ≡ stage.Passed
 passes c = first (c .before .before) ∙ c .enum-told .given .1
 
-says : (c : tie.After-known-told) → let a = c .before .before .before .before .before .before .before .before .before .args in Found (a .octets .now) (readContent rfc8331 (a .octets .now)) (c .before .checked .given .0 .0)
-says c = found _ _ _ (sym (c .before .before .before .check .ensures) ∙ c .before .checked .given .1)
+says : (c : tie.After-known-told) → let a = c .before .before .before .before .before .before .before .before .before .args in Found (a .layout) (a .octets .now) (readContent (a .layout) (a .octets .now)) (c .before .checked .given .0 .0)
+says c = found _ _ _ _ (sym (c .before .before .before .check .ensures) ∙ c .before .checked .given .1)
 
 -- the stage of 30 and 31
 second : (c : tie.After-check-opened) → let a = c .before .before .before .before .before .before .before .before .before .before .before .args in
@@ -37,27 +36,27 @@ returns : tie.Need-returns
 returns c =
     let a = c .before .before .before .before .before .before .args in
     let t = c .before .enum-told2 .given .1 in
-    rw (told (a .state) (a .room) (a .octets .now) _ (first (c .before .before .before) ∙ t)) (ap checked.Refused (c .refusal .ensures ∙ ap stageRefusal t))
+    rw (told (a .state) (a .layout) (a .room) (a .octets .now) _ (first (c .before .before .before) ∙ t)) (ap checked.Refused (c .refusal .ensures ∙ ap stageRefusal t))
 
 returns-2 : tie.Need-returns-2
 returns-2 c =
     let a = c .before .before .before .before .before .before .before .before .args in
     let t = c .enum-told3 .given .1 in
-    rw (unread (a .state) (a .room) (a .octets .now) (passes (c .before .before .before)) _ (refused-is _ _ _ (sym (c .before .before .check .ensures) ∙ t))) t
+    rw (unread (a .state) (a .layout) (a .room) (a .octets .now) (passes (c .before .before .before)) _ (refused-is _ _ _ _ (sym (c .before .before .check .ensures) ∙ t))) t
 
 returns-3 : tie.Need-returns-3
 returns-3 c =
     let a = c .before .before .before .before .before .before .before .before .before .before .before .before .before .before .args in
     let f = says (c .before .before .before .before .before) in
     let t = c .before .enum-told5 .given .1 in
-    rw (read (a .state) (a .room) (a .octets .now) (passes (c .before .before .before .before .before .before .before .before .before)) (f .says) _ (f .reads) (second (c .before .before .before) ∙ t))
+    rw (read (a .state) (a .layout) (a .room) (a .octets .now) (passes (c .before .before .before .before .before .before .before .before .before)) (f .says) _ (f .reads) (second (c .before .before .before) ∙ t))
     (ap checked.Refused (c .refusal2 .ensures ∙ ap stageRefusal t))
 
 returns-4 : tie.Need-returns-4
 returns-4 c =
     let a = c .before .before .before .before .before .before .before .before .before .before .before .before .before .args in
     let f = says (c .before .before .before .before) in
-    rw (read (a .state) (a .room) (a .octets .now) (passes (c .before .before .before .before .before .before .before .before)) (f .says) _ (f .reads) (second (c .before .before) ∙ c .enum-told4 .given .1))
+    rw (read (a .state) (a .layout) (a .room) (a .octets .now) (passes (c .before .before .before .before .before .before .before .before)) (f .says) _ (f .reads) (second (c .before .before) ∙ c .enum-told4 .given .1))
     (ap checked.Packet (sym (f .outline)))
 
 pub admit-spec : {M : Type 1} → statement M

@@ -40,10 +40,10 @@ f-there : (c : tie.After-known-told) → 4 < length (c .before .before .before .
 f-there c = omega (arith, there c, header-least (c .before .before .before .before .before .args .version))
 
 -- what the run was checked on
-ran : (c : tie.After-check-run) → let a = c .before .before .before .before .before .before .before .before .args in runOf (readRun rfc8331 0 (countField (a .version) (a .octets .now)) (drop (fieldHeaderSize (a .version)) (a .octets .now))) ≡ c .check-run .result
+ran : (c : tie.After-check-run) → let a = c .before .before .before .before .before .before .before .before .args in runOf rfc8331 (readRun rfc8331 0 (countField (a .version) (a .octets .now)) (drop (fieldHeaderSize (a .version)) (a .octets .now))) ≡ c .check-run .result
 ran c =
     let s = c .before .before .before .before .before .before .before .before .args .octets .now in
-    ap₂ (λ (x : ℕ) (y : List ℕ). runOf (readRun rfc8331 0 x y)) (sym (c .before .before .count-at .ensures)) (ap (λ (k : ℕ). drop k s) (passed (c .before .before .before) .1) ∙ sym (part-all _ s)) ∙ sym (c .check-run .ensures)
+    ap₂ (λ (x : ℕ) (y : List ℕ). runOf rfc8331 (readRun rfc8331 0 x y)) (sym (c .before .before .count-at .ensures)) (ap (λ (k : ℕ). drop k s) (passed (c .before .before .before) .1) ∙ sym (part-all _ s)) ∙ sym (c .check-run .ensures)
 
 -- the run lies within the octets
 fits : (c : tie.After-known-told2) → fieldHeaderSize (c .before .before .before .before .before .before .before .before .before .before .before .args .version) + c .before .run .given .0 .0 .0 ≤ length (c .before .before .before .before .before .before .before .before .before .before .before .args .octets .now)
@@ -84,14 +84,14 @@ returns-3 c =
 quad-at-requires : tie.Need-quad-at-requires
 quad-at-requires c κs = omega (arith, f-there (c .before .before .before .before .before .before .before .before))
 
-shared-slice-read-t23 : tie.Need-shared-slice-read-t23
-shared-slice-read-t23 c = f-there (c .before .before .before .before .before .before .before .before .before .before)
+shared-slice-read-t24 : tie.Need-shared-slice-read-t24
+shared-slice-read-t24 c = f-there (c .before .before .before .before .before .before .before .before .before .before)
 
-add-t13 : tie.Need-add-t13
-add-t13 c = omega (arith, fits (c .before .before .before .before .before), passed (c .before .before .before .before .before .before .before .before .before .before .before) .1)
+add-t14 : tie.Need-add-t14
+add-t14 c = omega (arith, fits (c .before .before .before .before .before), passed (c .before .before .before .before .before .before .before .before .before .before .before) .1)
 
-add-t24 : tie.Need-add-t24
-add-t24 c = omega (arith, fits (c .before .before .before .before .before .before), passed (c .before .before .before .before .before .before .before .before .before .before .before .before) .1, c .before .before .before .before .before .before .before .before .before .before .before .before .before .before .before .before .before .pre)
+add-t25 : tie.Need-add-t25
+add-t25 c = omega (arith, fits (c .before .before .before .before .before .before), passed (c .before .before .before .before .before .before .before .before .before .before .before .before) .1, c .before .before .before .before .before .before .before .before .before .before .before .before .before .before .before .before .before .pre)
 
 returns-4 : tie.Need-returns-4
 returns-4 c =
@@ -109,4 +109,4 @@ check-front-spec =
     tie.close
     (tie.spec (λ c κs. search needs) (λ c. search needs) (λ c. search needs) (λ c κs. search needs) returns count-at-requires sub-check-run
     part-check-run-start (λ c. search needs) (λ c κs. search needs) (λ c. search needs) (λ c. search needs) (λ c κs. search needs) returns-2
-    (λ c κs. search needs) returns-3 quad-at-requires shared-slice-read-t23 add-t13 add-t24 returns-4)
+    (λ c κs. search needs) returns-3 quad-at-requires shared-slice-read-t24 add-t14 add-t25 returns-4)

@@ -6,6 +6,7 @@ use mathlib.Core.Bool.{true}
 use borrow.Author.Tests.{not-true, not-false}
 use Rattle.wire.specs.Cells.{readList}
 use Rattle.anf.specs.File.{fileFOk}
+use Rattle.wire.specs.Layout.{rfc8331}
 use Rattle.cells.specs.Answers.{listedOf}
 use Rattle.cells.specs.declared.check.Listed.the-variants as listed
 use Rattle.fieldfile_writer.proofs.WriteLaws.{refused-f, refused-list, over-limit, no-room, all-fit}
@@ -17,27 +18,27 @@ f-passed : (c : tie.Else1) → fileFOk (c .before .before .before .args .f) ≡ 
 f-passed c = sym (c .before .f-ok .ensures) ∙ not-false _ (c .if1 .left)
 
 -- 20 was passed
-list-passed : (c : tie.After-known-told) → listedOf (readList (c .before .before .before .before .before .before .before .args .cells .now)) ≡ listed.Records (c .before .listed .given .0 .0) (c .before .listed .given .0 .1 .0)
+list-passed : (c : tie.After-known-told) → listedOf rfc8331 (readList (c .before .before .before .before .before .before .before .args .cells .now)) ≡ listed.Records (c .before .listed .given .0 .0) (c .before .listed .given .0 .1 .0)
 list-passed c = sym (c .before .before .before .check-list .ensures) ∙ c .before .listed .given .1
 
 returns : tie.Need-returns
-returns c = c .refuse .ensures ∙ sym (ap listedOf (refused-f (c .before .before .before .before .args .f) (c .before .before .before .before .args .cells .now) (c .before .before .before .before .args .room) (sym (c .before .before .f-ok .ensures) ∙ not-true _ (c .before .if1 .taken))))
+returns c = c .refuse .ensures ∙ sym (ap (listedOf rfc8331) (refused-f (c .before .before .before .before .args .f) (c .before .before .before .before .args .cells .now) (c .before .before .before .before .args .room) (sym (c .before .before .f-ok .ensures) ∙ not-true _ (c .before .if1 .taken))))
 
 returns-2 : tie.Need-returns-2
 returns-2 c =
     let t = c .enum-told .given in
-    t .1 ∙ sym (ap listedOf (refused-list (c .before .before .before .before .before .before .args .f) (c .before .before .before .before .before .before .args .cells .now) (c .before .before .before .before .before .before .args .room) (f-passed (c .before .before .before)) _ (sym (c .before .before .check-list .ensures) ∙ t .1)))
+    t .1 ∙ sym (ap (listedOf rfc8331) (refused-list (c .before .before .before .before .before .before .args .f) (c .before .before .before .before .before .before .args .cells .now) (c .before .before .before .before .before .before .args .room) (f-passed (c .before .before .before)) _ (sym (c .before .before .check-list .ensures) ∙ t .1)))
 
 returns-3 : tie.Need-returns-3
 returns-3 c =
     let a = sym (c .before .before .before .within-limits .ensures) ∙ not-true _ (c .before .if2 .taken) in
-    c .refuse2 .ensures ∙ sym (ap listedOf (over-limit (c .before .before .before .before .before .before .before .before .before .before .before .args .f) (c .before .before .before .before .before .before .before .before .before .before .before .args .cells .now) (c .before .before .before .before .before .before .before .before .before .before .before .args .room) (f-passed (c .before .before .before .before .before .before .before .before)) _ _ (list-passed (c .before .before .before .before)) a))
+    c .refuse2 .ensures ∙ sym (ap (listedOf rfc8331) (over-limit (c .before .before .before .before .before .before .before .before .before .before .before .args .f) (c .before .before .before .before .before .before .before .before .before .before .before .args .cells .now) (c .before .before .before .before .before .before .before .before .before .before .before .args .room) (f-passed (c .before .before .before .before .before .before .before .before)) _ _ (list-passed (c .before .before .before .before)) a))
 
 returns-4 : tie.Need-returns-4
 returns-4 c =
     let a = sym (c .before .before .before .before .within-limits .ensures) ∙ not-false _ (c .before .before .if2 .left) in
     let b = sym (c .before .before .before .fits-behind .ensures) ∙ not-true _ (c .before .if3 .taken) in
-    c .refuse3 .ensures ∙ sym (ap listedOf (no-room (c .before .before .before .before .before .before .before .before .before .before .before .before .args .f) (c .before .before .before .before .before .before .before .before .before .before .before .before .args .cells .now) (c .before .before .before .before .before .before .before .before .before .before .before .before .args .room) (f-passed (c .before .before .before .before .before .before .before .before .before)) _ _ (list-passed (c .before .before .before .before .before)) a b))
+    c .refuse3 .ensures ∙ sym (ap (listedOf rfc8331) (no-room (c .before .before .before .before .before .before .before .before .before .before .before .before .args .f) (c .before .before .before .before .before .before .before .before .before .before .before .before .args .cells .now) (c .before .before .before .before .before .before .before .before .before .before .before .before .args .room) (f-passed (c .before .before .before .before .before .before .before .before .before)) _ _ (list-passed (c .before .before .before .before .before)) a b))
 
 returns-5 : tie.Need-returns-5
 returns-5 c =

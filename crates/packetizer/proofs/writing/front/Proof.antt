@@ -1,5 +1,5 @@
--- `front` is the packed RTP header and payload header.
--- By the law of those twenty octets.
+-- `front` is the packed RTP header, and payload header up to ANC_Count.
+-- By the law of those seventeen octets.
 use borrow.Author.Needs.{needs}
 use native.Mathlib.Omega.{arith}
 use Rattle.wire.specs.Writing.{HeadFits}
@@ -16,14 +16,14 @@ add-t11 c = omega (arith, c .before .flag .ensures, bit-lt (c .before .before .b
 
 returns : tie.Need-returns
 returns c =
-    let a = c .before .before .before .before .before .before .before .args in
+    let a = c .before .before .before .before .before .before .args in
     let h = a .head in
     let fits : HeadFits (contentOf h) = record { marker = bit-lt (h .marker); number = omega arith; timestamp = omega arith; source = omega arith } in
-    rw (c .before .before .before .before .flag .ensures) (front-packed h (a .count) (a .size .0) fits (omega arith) (omega arith) (omega arith) (omega arith))
+    rw (c .before .before .before .flag .ensures) (front-packed h (a .count) (a .size .0) fits (omega arith) (omega arith) (omega arith))
 
 pub front-spec : {M : Type 1} → statement M
 front-spec =
     tie.close
     (tie.spec (λ c κs. search needs) mul-t10 add-t11 (λ c. search needs) (λ c. search needs) (λ c. search needs) (λ c. search needs)
     (λ c. search needs) (λ c. search needs) (λ c. search needs) (λ c. search needs) (λ c. search needs) (λ c. search needs) (λ c. search needs)
-    (λ c. search needs) (λ c. search needs) (λ c. search needs) (λ c. search needs) returns)
+    (λ c. search needs) (λ c. search needs) (λ c. search needs) returns)

@@ -1,61 +1,97 @@
--- `measure` gives 24, 20, 21, 22 or 23, or the records and octets of a packet that fits.
+-- `measure` gives 24, 20, 21, 25, 22 or 23, or the records and octets of a packet that fits.
 -- Each return knows the checks before it, in the order of the definition.
 use borrow.Author.Needs.{needs}
 use mathlib.Core.Path.{_≡_, ap, sym, _∙_}
 use mathlib.Core.Bool.{true, false}
+use mathlib.Core.List.{[], _∷_}
+use Prim.Native.Nat.{ℕ, _+_}
 use borrow.Author.Tests.{not-true, not-false}
+use lib.Dec.{leb}
+use lib.ListN.{take, getD}
 use Rattle.wire.specs.Cells.{readList}
-use Rattle.wire.specs.Writing.{headOk}
+use Rattle.wire.specs.Packet.{maxPacket}
+use Rattle.wire.specs.Result.{Checks}
+use Rattle.wire.specs.Writing.{headOk, packetRecords}
+use Rattle.wire.proofs.ResultLaws.{Passed}
 use Rattle.cells.specs.Answers.{listedOf}
 use Rattle.cells.specs.declared.check.Listed.the-variants as listed
-use Rattle.packetizer.proofs.WriteLaws.{refused-head, refused-list, over-limit, too-long, no-room, all-fit}
+use Rattle.packetizer.specs.Answers.{contentOf}
+use Rattle.packetizer.specs.Front.{frontSize}
+use Rattle.packetizer.proofs.WriteLaws.{tests, refused-head, refused-list, accepts, limit, all-fit}
 use Rattle.packetizer.proofs.writing.measure.Statement.{statement}
 use Rattle.packetizer.proofs.writing.measure.Tie as tie
+
+-- 21, 25, 22 and 23, with their outcomes
+abbrev outcomes : tie.After-fits-behind2 → Checks
+outcomes s =
+    (s .before .before .before .within-limits .result, 21) ∷ (s .before .before .layout-ok .result, 25) ∷ (s .before .fits-behind .result, 22)
+    ∷ (s .fits-behind2 .result, 23) ∷ []
 
 -- 24 was passed
 head-passed : (c : tie.Else1) → headOk (c .before .before .before .args .head .«payload_type») (c .before .before .before .args .head .f) ≡ true
 head-passed c = sym (c .before .head-ok .ensures) ∙ not-false _ (c .if1 .left)
 
 -- 20 was passed
-list-passed : (c : tie.After-known-told) → listedOf (readList (c .before .before .before .before .before .before .before .args .cells .now)) ≡ listed.Records (c .before .listed .given .0 .0) (c .before .listed .given .0 .1 .0)
+list-passed : (c : tie.After-known-told) → listedOf (c .before .before .before .before .before .before .before .args .layout) (readList (c .before .before .before .before .before .before .before .args .cells .now)) ≡ listed.Records (c .before .listed .given .0 .0) (c .before .listed .given .0 .1 .0)
 list-passed c = sym (c .before .before .before .check-list .ensures) ∙ c .before .listed .given .1
 
 returns : tie.Need-returns
-returns c = c .refuse .ensures ∙ sym (ap listedOf (refused-head (c .before .before .before .before .args .head) (c .before .before .before .before .args .cells .now) (c .before .before .before .before .args .room) (sym (c .before .before .head-ok .ensures) ∙ not-true _ (c .before .if1 .taken))))
+returns c =
+    let a = c .before .before .before .before .args in
+    c .refuse .ensures ∙ sym (ap (listedOf (a .layout)) (refused-head (a .layout) (a .head) (a .cells .now) (a .room) (sym (c .before .before .head-ok .ensures) ∙ not-true _ (c .before .if1 .taken))))
 
 returns-2 : tie.Need-returns-2
 returns-2 c =
+    let a = c .before .before .before .before .before .before .args in
     let t = c .enum-told .given in
-    t .1 ∙ sym (ap listedOf (refused-list (c .before .before .before .before .before .before .args .head) (c .before .before .before .before .before .before .args .cells .now) (c .before .before .before .before .before .before .args .room) (head-passed (c .before .before .before)) _ (sym (c .before .before .check-list .ensures) ∙ t .1)))
+    t .1 ∙ sym (ap (listedOf (a .layout)) (refused-list (a .layout) (a .head) (a .cells .now) (a .room) (head-passed (c .before .before .before)) _ (sym (c .before .before .check-list .ensures) ∙ t .1)))
+
+layout-ok-requires : tie.Need-layout-ok-requires
+layout-ok-requires c κs = accepts (c .before .before .before .before .before .before .before .before .before .args .layout) (c .before .before .before .before .before .before .before .before .before .args .head) (c .before .before .before .before .before .before .before .before .before .args .cells .now) (c .before .before .before .before .before .before .before .before .before .args .room) (head-passed (c .before .before .before .before .before .before)) _ _ (list-passed (c .before .before))
+
+outcomes-are : (c : tie.After-fits-behind2)
+    → outcomes c ≡ tests (c .before .before .before .before .before .before .before .before .before .before .before .before .args .layout) (c .before .before .before .before .before .before .before .before .before .before .before .before .args .head) (c .before .before .before .before .before .before .before .before .before .before .before .before .args .cells .now) (c .before .before .before .before .before .before .before .before .before .before .before .before .args .room) (c .before .before .before .before .before .before .listed .given .0 .0) (c .before .before .before .before .before .before .listed .given .0 .1 .0 .0)
+outcomes-are c =
+    let behind : (most : ℕ) → leb (c .before .before .before .before .front-size .result + c .before .before .before .before .before .before .listed .given .0 .1 .0 .0) most ≡ leb (frontSize (c .before .before .before .before .before .before .before .before .before .before .before .before .args .layout) + c .before .before .before .before .before .before .listed .given .0 .1 .0 .0) most =
+    λ most. ap (λ (x : ℕ). leb (x + c .before .before .before .before .before .before .listed .given .0 .1 .0 .0) most) (c .before .before .before .before .front-size .ensures) in
+    λ i.
+    (c .before .before .before .within-limits .ensures i, 21)
+    ∷ (c .before .before .layout-ok .ensures i, 25)
+    ∷ ((c .before .fits-behind .ensures ∙ behind maxPacket) i, 22)
+    ∷ ((c .fits-behind2 .ensures ∙ behind (c .before .before .before .before .before .before .before .before .before .before .before .before .args .room)) i, 23)
+    ∷ []
+
+-- the test with the index k is the first that failed
+failed : (c : tie.After-fits-behind2) (k : ℕ) → Passed (take k (outcomes c)) → getD (outcomes c) k (true, 0) .0 ≡ false
+    → listed.Refused (record { number = getD (outcomes c) k (true, 0) .1; index = 0 })
+    ≡ listedOf (c .before .before .before .before .before .before .before .before .before .before .before .before .args .layout) (packetRecords (c .before .before .before .before .before .before .before .before .before .before .before .before .args .layout) (contentOf (c .before .before .before .before .before .before .before .before .before .before .before .before .args .head)) (c .before .before .before .before .before .before .before .before .before .before .before .before .args .cells .now) (c .before .before .before .before .before .before .before .before .before .before .before .before .args .room))
+failed c k p e =
+    let a = c .before .before .before .before .before .before .before .before .before .before .before .before .args in
+    sym (ap (listedOf (a .layout)) (limit (a .layout) (a .head) (a .cells .now) (a .room) (head-passed (c .before .before .before .before .before .before .before .before .before)) _ _ (list-passed (c .before .before .before .before .before)) (outcomes c) (outcomes-are c) k p e))
 
 returns-3 : tie.Need-returns-3
-returns-3 c =
-    let a = sym (c .before .before .before .before .within-limits .ensures) ∙ not-true _ (c .before .if2 .taken) in
-    c .refuse2 .ensures ∙ sym (ap listedOf (over-limit (c .before .before .before .before .before .before .before .before .before .before .before .before .args .head) (c .before .before .before .before .before .before .before .before .before .before .before .before .args .cells .now) (c .before .before .before .before .before .before .before .before .before .before .before .before .args .room) (head-passed (c .before .before .before .before .before .before .before .before .before)) _ _ (list-passed (c .before .before .before .before .before)) a))
+returns-3 c = c .refuse2 .ensures ∙ failed (c .before .before) 0 tt (not-true _ (c .before .if2 .taken))
 
 returns-4 : tie.Need-returns-4
-returns-4 c =
-    let a = sym (c .before .before .before .before .before .within-limits .ensures) ∙ not-false _ (c .before .before .if2 .left) in
-    let b = sym (c .before .before .before .before .fits-behind .ensures) ∙ not-true _ (c .before .if3 .taken) in
-    c .refuse3 .ensures ∙ sym (ap listedOf (too-long (c .before .before .before .before .before .before .before .before .before .before .before .before .before .args .head) (c .before .before .before .before .before .before .before .before .before .before .before .before .before .args .cells .now) (c .before .before .before .before .before .before .before .before .before .before .before .before .before .args .room) (head-passed (c .before .before .before .before .before .before .before .before .before .before)) _ _ (list-passed (c .before .before .before .before .before .before)) a b))
+returns-4 c = c .refuse3 .ensures ∙ failed (c .before .before .before) 1 (not-false _ (c .before .before .if2 .left), tt) (not-true _ (c .before .if3 .taken))
 
 returns-5 : tie.Need-returns-5
-returns-5 c =
-    let a = sym (c .before .before .before .before .before .before .within-limits .ensures) ∙ not-false _ (c .before .before .before .if2 .left) in
-    let b = sym (c .before .before .before .before .before .fits-behind .ensures) ∙ not-false _ (c .before .before .if3 .left) in
-    let d = sym (c .before .before .before .before .fits-behind2 .ensures) ∙ not-true _ (c .before .if4 .taken) in
-    c .refuse4 .ensures ∙ sym (ap listedOf (no-room (c .before .before .before .before .before .before .before .before .before .before .before .before .before .before .args .head) (c .before .before .before .before .before .before .before .before .before .before .before .before .before .before .args .cells .now) (c .before .before .before .before .before .before .before .before .before .before .before .before .before .before .args .room) (head-passed (c .before .before .before .before .before .before .before .before .before .before .before)) _ _ (list-passed (c .before .before .before .before .before .before .before)) a b d))
+returns-5 c = c .refuse4 .ensures ∙ failed (c .before .before .before .before) 2 (not-false _ (c .before .before .before .if2 .left), (not-false _ (c .before .before .if3 .left), tt)) (not-true _ (c .before .if4 .taken))
 
 returns-6 : tie.Need-returns-6
 returns-6 c =
-    let a = sym (c .before .before .before .before .before .within-limits .ensures) ∙ not-false _ (c .before .before .if2 .left) in
-    let b = sym (c .before .before .before .before .fits-behind .ensures) ∙ not-false _ (c .before .if3 .left) in
-    let d = sym (c .before .before .before .fits-behind2 .ensures) ∙ not-false _ (c .if4 .left) in
-    sym (all-fit (c .before .before .before .before .before .before .before .before .before .before .before .before .before .args .head) (c .before .before .before .before .before .before .before .before .before .before .before .before .before .args .cells .now) (c .before .before .before .before .before .before .before .before .before .before .before .before .before .args .room) (head-passed (c .before .before .before .before .before .before .before .before .before .before)) _ _ (list-passed (c .before .before .before .before .before .before)) a b d)
+    c .refuse5 .ensures
+    ∙ failed (c .before .before .before .before .before) 3 (not-false _ (c .before .before .before .before .if2 .left), (not-false _ (c .before .before .before .if3 .left), (not-false _ (c .before .before .if4 .left), tt))) (not-true _ (c .before .if5 .taken))
+
+returns-7 : tie.Need-returns-7
+returns-7 c =
+    let a = c .before .before .before .before .before .before .before .before .before .before .before .before .before .before .before .before .args in
+    sym (all-fit (a .layout) (a .head) (a .cells .now) (a .room) (head-passed (c .before .before .before .before .before .before .before .before .before .before .before .before .before)) _ _ (list-passed (c .before .before .before .before .before .before .before .before .before)) _ (outcomes-are (c .before .before .before .before))
+    (not-false _ (c .before .before .before .if2 .left), (not-false _ (c .before .before .if3 .left), (not-false _ (c .before .if4 .left), (not-false _ (c .if5 .left), tt)))))
 
 pub measure-spec : {M : Type 1} → statement M
 measure-spec =
     tie.close
     (tie.spec (λ c κs. search needs) (λ c κs. search needs) returns (λ c κs. search needs) (λ c. search needs) (λ c. search needs) returns-2
-    (λ c κs. search needs) (λ c κs. search needs) (λ c κs. search needs) (λ c κs. search needs) returns-3 (λ c κs. search needs) returns-4
-    (λ c κs. search needs) returns-5 returns-6)
+    (λ c κs. search needs) (λ c κs. search needs) layout-ok-requires (λ c κs. search needs) (λ c κs. search needs) (λ c κs. search needs) returns-3
+    (λ c κs. search needs) returns-4 (λ c κs. search needs) returns-5 (λ c κs. search needs) returns-6 returns-7)

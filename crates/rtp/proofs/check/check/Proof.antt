@@ -5,7 +5,6 @@ use mathlib.Core.Path.{_≡_, ap, sym, _∙_, subst}
 use Prim.Native.Nat.{ℕ, _≤_}
 use native.Mathlib.Omega.{arith}
 use lib.ListN.{length}
-use Rattle.wire.specs.Layout.{rfc8331}
 use Rattle.wire.specs.Packet.{headerSize, payloadSize, lengthField, headerChecks, paddingChecks, payloadChecks}
 use Rattle.wire.proofs.ResultLaws.{Passed}
 use Rattle.wire.proofs.PacketLaws.{header-sizes, padding-sizes}
@@ -20,17 +19,17 @@ use Rattle.rtp.proofs.check.check.Tie as tie
 header-passed : (c : tie.After-known-told) → Passed (headerChecks (c .before .before .before .before .before .args .octets .now)) × (headerSize (c .before .before .before .before .before .args .octets .now) ≡ c .before .stage .given .0 .0 .0)
 header-passed c = stage-passed (headerChecks (c .before .before .before .before .before .args .octets .now)) (headerSize (c .before .before .before .before .before .args .octets .now)) _ (sym (c .before .before .before .check-header .ensures) ∙ c .before .stage .given .1)
 
-padding-passed : (c : tie.After-known-told2) → Passed (paddingChecks rfc8331 (c .before .before .before .before .before .before .before .before .before .args .octets .now)) × (payloadSize (c .before .before .before .before .before .before .before .before .before .args .octets .now) ≡ c .before .stage2 .given .0 .0 .0)
-padding-passed c = stage-passed (paddingChecks rfc8331 (c .before .before .before .before .before .before .before .before .before .args .octets .now)) (payloadSize (c .before .before .before .before .before .before .before .before .before .args .octets .now)) _ (sym (c .before .before .before .check-padding .ensures) ∙ c .before .stage2 .given .1)
+padding-passed : (c : tie.After-known-told2) → Passed (paddingChecks (c .before .before .before .before .before .before .before .before .before .args .layout) (c .before .before .before .before .before .before .before .before .before .args .octets .now)) × (payloadSize (c .before .before .before .before .before .before .before .before .before .args .octets .now) ≡ c .before .stage2 .given .0 .0 .0)
+padding-passed c = stage-passed (paddingChecks (c .before .before .before .before .before .before .before .before .before .args .layout) (c .before .before .before .before .before .before .before .before .before .args .octets .now)) (payloadSize (c .before .before .before .before .before .before .before .before .before .args .octets .now)) _ (sym (c .before .before .before .check-padding .ensures) ∙ c .before .stage2 .given .1)
 
-payload-passed : (c : tie.After-known-told3) → Passed (payloadChecks rfc8331 (c .before .before .before .before .before .before .before .before .before .before .before .before .before .args .octets .now)) × (lengthField (c .before .before .before .before .before .before .before .before .before .before .before .before .before .args .octets .now) ≡ c .before .stage3 .given .0 .0 .0)
-payload-passed c = stage-passed (payloadChecks rfc8331 (c .before .before .before .before .before .before .before .before .before .before .before .before .before .args .octets .now)) (lengthField (c .before .before .before .before .before .before .before .before .before .before .before .before .before .args .octets .now)) _ (sym (c .before .before .before .check-payload .ensures) ∙ c .before .stage3 .given .1)
+payload-passed : (c : tie.After-known-told3) → Passed (payloadChecks (c .before .before .before .before .before .before .before .before .before .before .before .before .before .args .layout) (c .before .before .before .before .before .before .before .before .before .before .before .before .before .args .octets .now)) × (lengthField (c .before .before .before .before .before .before .before .before .before .before .before .before .before .args .octets .now) ≡ c .before .stage3 .given .0 .0 .0)
+payload-passed c = stage-passed (payloadChecks (c .before .before .before .before .before .before .before .before .before .before .before .before .before .args .layout) (c .before .before .before .before .before .before .before .before .before .before .before .before .before .args .octets .now)) (lengthField (c .before .before .before .before .before .before .before .before .before .before .before .before .before .args .octets .now)) _ (sym (c .before .before .before .check-payload .ensures) ∙ c .before .stage3 .given .1)
 
 returns : tie.Need-returns
 returns c =
     let s = c .before .before .before .before .before .args .octets .now in
     let t = c .before .enum-told .given in
-    rw (refused-header s _ (sym (c .before .before .before .check-header .ensures) ∙ t .1)) (ap checked.Refused (c .refusal .ensures ∙ ap stageRefusal (t .1)))
+    rw (refused-header (c .before .before .before .before .before .args .layout) s _ (sym (c .before .before .before .check-header .ensures) ∙ t .1)) (ap checked.Refused (c .refusal .ensures ∙ ap stageRefusal (t .1)))
 
 check-padding-requires : tie.Need-check-padding-requires
 check-padding-requires c κs =
@@ -43,28 +42,28 @@ returns-2 : tie.Need-returns-2
 returns-2 c =
     let s = c .before .before .before .before .before .before .before .before .before .args .octets .now in
     let t = c .before .enum-told2 .given in
-    rw (refused-padding s (header-passed (c .before .before .before .before) .0) _ (sym (c .before .before .before .check-padding .ensures) ∙ t .1)) (ap checked.Refused (c .refusal2 .ensures ∙ ap stageRefusal (t .1)))
+    rw (refused-padding (c .before .before .before .before .before .before .before .before .before .args .layout) s (header-passed (c .before .before .before .before) .0) _ (sym (c .before .before .before .check-padding .ensures) ∙ t .1)) (ap checked.Refused (c .refusal2 .ensures ∙ ap stageRefusal (t .1)))
 
 check-payload-requires : tie.Need-check-payload-requires
 check-payload-requires c κs =
     let s = c .before .before .before .before .before .before .before .before .before .args .octets .now in
     let p = header-passed (c .before .before .before .before) in
     let q = padding-passed c in
-    let z = padding-sizes rfc8331 s (p .0) (q .0) in
+    let z = padding-sizes (c .before .before .before .before .before .before .before .before .before .args .layout) s (p .0) (q .0) in
     ((sym (p .1), sym (q .1)), (omega (arith, p .1, q .1, z .payload), omega (arith, p .1, q .1, z .payload)))
 
 returns-3 : tie.Need-returns-3
 returns-3 c =
     let s = c .before .before .before .before .before .before .before .before .before .before .before .before .before .args .octets .now in
     let t = c .before .enum-told3 .given in
-    rw (refused-payload s (header-passed (c .before .before .before .before .before .before .before .before) .0) (padding-passed (c .before .before .before .before) .0) _ (sym (c .before .before .before .check-payload .ensures) ∙ t .1)) (ap checked.Refused (c .refusal3 .ensures ∙ ap stageRefusal (t .1)))
+    rw (refused-payload (c .before .before .before .before .before .before .before .before .before .before .before .before .before .args .layout) s (header-passed (c .before .before .before .before .before .before .before .before) .0) (padding-passed (c .before .before .before .before) .0) _ (sym (c .before .before .before .check-payload .ensures) ∙ t .1)) (ap checked.Refused (c .refusal3 .ensures ∙ ap stageRefusal (t .1)))
 
 check-packets-requires : tie.Need-check-packets-requires
 check-packets-requires c κs =
     let s = c .before .before .before .before .before .before .before .before .before .before .before .before .before .args .octets .now in
     let h = header-passed (c .before .before .before .before .before .before .before .before) in
     let l = payload-passed c in
-    front-passed s (h .0) (padding-passed (c .before .before .before .before) .0) (l .0) _ _ (h .1) (l .1)
+    front-passed (c .before .before .before .before .before .before .before .before .before .before .before .before .before .args .layout) s (h .0) (padding-passed (c .before .before .before .before) .0) (l .0) _ _ (h .1) (l .1)
 
 pub check-spec : {M : Type 1} → statement M
 check-spec =

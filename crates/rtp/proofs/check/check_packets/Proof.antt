@@ -3,12 +3,12 @@
 use borrow.Author.Needs.{needs}
 use mathlib.Core.Path.{_≡_, ap, ap₂, sym, _∙_}
 use mathlib.Core.List.{List}
-use Prim.Native.Nat.{ℕ, _+_, _-_, _<_}
+use Prim.Native.Nat.{ℕ, _+_, _-_, _<_, _≤_}
 use native.Mathlib.Omega.{arith}
-use lib.ListN.{take, drop, getD}
-use Rattle.wire.specs.Layout.{rfc8331, payloadHeaderSize}
+use lib.ListN.{length, take, drop, getD}
 use Rattle.wire.specs.Anc.{readRun}
 use Rattle.wire.specs.Packet.{lengthField, ancCount, runAt}
+use Rattle.wire.proofs.LayoutLaws.{places}
 use Rattle.wire.proofs.Window.{below-all}
 use Rattle.anc.specs.Answers.{runOf, runRefusal}
 use Rattle.rtp.specs.Answers.{checkedOf}
@@ -19,81 +19,89 @@ use Rattle.rtp.proofs.check.check_packets.Statement.{statement}
 use Rattle.rtp.proofs.check.check_packets.Tie as tie
 
 -- what the stages found
-found : (c : tie.After-shared-slice-known) → Front (c .before .args .octets .now) (c .before .args .header .0) (c .before .args .size .0)
-found c = front _ _ _ (c .before .pre)
+found : (c : tie.After-shared-slice-known) → Front (c .before .args .layout) (c .before .args .octets .now) (c .before .args .header .0) (c .before .args .size .0)
+found c = front (c .before .args .layout) _ _ _ (c .before .pre)
 
 octet : (c : tie.After-shared-slice-known) → (j : ℕ) → getD (c .before .args .octets .now) j 0 < 256
 octet c j = c .shared-slice-known .given j .fits
 
+-- the run lies behind the payload header, within the octets
+within : (c : tie.After-payload-header-size) → c .before .before .args .header .0 + c .payload-header-size .result + c .before .before .args .size .0 ≤ length (c .before .before .args .octets .now)
+within c = omega (arith, found (c .before) .whole, c .payload-header-size .ensures)
+
 -- ANC_Count
+least : (c : tie.After-shared-slice-known) → c .before .args .header .0 + 5 ≤ length (c .before .args .octets .now)
+least c = omega (arith, found c .whole, places (c .before .args .layout) .payload-least)
+
 counted : (c : tie.After-shared-slice-known) → ancCount (c .before .args .octets .now) ≡ getD (c .before .args .octets .now) (c .before .args .header .0 + 4) 0
-counted c = let f = found c in count-at (c .before .args .octets .now) (octet c) (c .before .args .header .0) (sym (f .header)) (omega (arith, f .whole))
+counted c = count-at (c .before .args .octets .now) (octet c) (c .before .args .header .0) (sym (found c .header)) (least c)
 
 add-at : tie.Need-add-at
-add-at c = omega (arith, found c .whole)
+add-at c = omega (arith, within c)
 
 add-end : tie.Need-add-end
-add-end c = omega (arith, found (c .before) .whole)
+add-end c = omega (arith, within (c .before))
 
 add-count : tie.Need-add-count
-add-count c = omega (arith, found (c .before) .whole)
+add-count c = omega (arith, least (c .before .before))
 
 shared-slice-read-count : tie.Need-shared-slice-read-count
-shared-slice-read-count c = omega (arith, found (c .before .before) .whole)
+shared-slice-read-count c = omega (arith, least (c .before .before .before))
 
 part-check-run-end : tie.Need-part-check-run-end
-part-check-run-end c = omega (arith, found (c .before .before) .whole)
+part-check-run-end c = omega (arith, within (c .before .before))
 
 cast-check-run : tie.Need-cast-check-run
-cast-check-run c = omega (arith, octet (c .before .before .before) (c .before .before .before .before .args .header .0 + 4))
+cast-check-run c = omega (arith, octet (c .before .before .before .before) (c .before .before .before .before .before .args .header .0 + 4))
 
 -- what the run was checked on
 ran : (c : tie.After-check-run)
-    → let s = c .before .before .before .before .before .args .octets .now in
-    runOf (readRun rfc8331 0 (ancCount s) (take (lengthField s) (drop (runAt rfc8331 s) s))) ≡ c .check-run .result
+    → let L = c .before .before .before .before .before .before .args .layout in let s = c .before .before .before .before .before .before .args .octets .now in
+    runOf L (readRun L 0 (ancCount s) (take (lengthField s) (drop (runAt L s) s))) ≡ c .check-run .result
 ran c =
-    let s = c .before .before .before .before .before .args .octets .now in
-    let n = c .before .before .before .before .before .args .header .0 in
-    let m = c .before .before .before .before .before .args .size .0 in
-    let f = found (c .before .before .before .before) in
-    let h = f .header in
-    let l = f .length in
-    let e1 : lengthField s ≡ n + payloadHeaderSize rfc8331 + m - (n + payloadHeaderSize rfc8331) = omega arith in
-    let e2 : runAt rfc8331 s ≡ n + payloadHeaderSize rfc8331 = omega arith in
-    ap₂ (λ (x : ℕ) (y : List ℕ). runOf (readRun rfc8331 0 x y)) (counted (c .before .before .before .before)) (ap₂ (λ (x y : ℕ). take x (drop y s)) e1 e2)
+    let L = c .before .before .before .before .before .before .args .layout in
+    let s = c .before .before .before .before .before .before .args .octets .now in
+    let n = c .before .before .before .before .before .before .args .header .0 in
+    let m = c .before .before .before .before .before .before .args .size .0 in
+    let z = c .before .before .before .before .payload-header-size .result in
+    let f = found (c .before .before .before .before .before) in
+    let e1 : lengthField s ≡ n + z + m - (n + z) = omega (arith, f .length) in
+    let e2 : runAt L s ≡ n + z = omega (arith, f .header, c .before .before .before .before .payload-header-size .ensures) in
+    ap₂ (λ (x : ℕ) (y : List ℕ). runOf L (readRun L 0 x y)) (counted (c .before .before .before .before .before)) (ap₂ (λ (x y : ℕ). take x (drop y s)) e1 e2)
     ∙ sym (c .check-run .ensures)
 
 returns : tie.Need-returns
 returns c =
     let t = c .before .enum-told .given in
-    let f = found (c .before .before .before .before .before .before .before) in
-    rw (refused-run (c .before .before .before .before .before .before .before .before .args .octets .now) (f .header-passed) (f .padding-passed) (f .payload-passed) _ (ran (c .before .before .before) ∙ t .1)) (ap checked.Refused (c .refusal .ensures ∙ ap runRefusal (t .1)))
+    let f = found (c .before .before .before .before .before .before .before .before) in
+    rw (refused-run (c .before .before .before .before .before .before .before .before .before .args .layout) (c .before .before .before .before .before .before .before .before .before .args .octets .now) (f .header-passed) (f .padding-passed) (f .payload-passed) _ (ran (c .before .before .before) ∙ t .1)) (ap checked.Refused (c .refusal .ensures ∙ ap runRefusal (t .1)))
 
 returns-2 : tie.Need-returns-2
 returns-2 c =
-    let s = c .before .before .before .before .before .before .before .before .before .before .before .args .octets .now in
-    let f = found (c .before .before .before .before .before .before .before .before .before .before) in
+    let L = c .before .before .before .before .before .before .before .before .before .before .before .before .args .layout in
+    let s = c .before .before .before .before .before .before .before .before .before .before .before .before .args .octets .now in
+    let f = found (c .before .before .before .before .before .before .before .before .before .before .before) in
     let l = f .length in
     sym
-    (ap (checkedOf s)
-    (refused-left s (f .header-passed) (f .padding-passed) (f .payload-passed) (below-all s (octet (c .before .before .before .before .before .before .before .before .before .before))) _ _ (ran (c .before .before .before .before .before .before) ∙ c .before .before .before .before .run .given .1) (omega (arith, c .if1 .taken))))
+    (ap (checkedOf L s)
+    (refused-left L s (f .header-passed) (f .padding-passed) (f .payload-passed) (below-all s (octet (c .before .before .before .before .before .before .before .before .before .before .before))) _ _ (ran (c .before .before .before .before .before .before) ∙ c .before .before .before .before .run .given .1) (omega (arith, c .if1 .taken))))
 
 head-at-requires : tie.Need-head-at-requires
-head-at-requires c κs = let f = found (c .before .before .before .before .before .before .before .before .before .before) in (sym (f .header), f .least, omega (arith, f .whole))
+head-at-requires c κs = let f = found (c .before .before .before .before .before .before .before .before .before .before .before) in (sym (f .header), f .least, omega (arith, f .whole))
 
 returns-3 : tie.Need-returns-3
 returns-3 c =
-    let s = c .before .before .before .before .before .before .before .before .before .before .before .before .args .octets .now in
-    let f = found (c .before .before .before .before .before .before .before .before .before .before .before) in
-    let h = f .header in
+    let L = c .before .before .before .before .before .before .before .before .before .before .before .before .before .args .layout in
+    let s = c .before .before .before .before .before .before .before .before .before .before .before .before .before .args .octets .now in
+    let f = found (c .before .before .before .before .before .before .before .before .before .before .before .before) in
     let l = f .length in
-    let e : runAt rfc8331 s ≡ c .before .before .before .before .before .before .before .before .before .before .before .before .args .header .0 + payloadHeaderSize rfc8331 = omega arith in
+    let e : runAt L s ≡ c .before .before .before .before .before .before .before .before .before .before .before .before .before .args .header .0 + c .before .before .before .before .before .before .before .before .before .before .before .payload-header-size .result = omega (arith, f .header, c .before .before .before .before .before .before .before .before .before .before .before .payload-header-size .ensures) in
     sym
-    (accepted-run s (f .header-passed) (f .padding-passed) (f .payload-passed) (below-all s (octet (c .before .before .before .before .before .before .before .before .before .before .before))) _ _ (ran (c .before .before .before .before .before .before .before) ∙ c .before .before .before .before .before .run .given .1) (omega (arith, c .before .if1 .left))
-    ∙ λ i. checked.Packet (record { summary = record { head = sym (c .head-at .ensures) i; records = counted (c .before .before .before .before .before .before .before .before .before .before .before) i; cells = c .before .before .before .before .before .run .given .0 .1 .0 }; at = e i; length = record { 0 = l i } }))
+    (accepted-run L s (f .header-passed) (f .padding-passed) (f .payload-passed) (below-all s (octet (c .before .before .before .before .before .before .before .before .before .before .before .before))) _ _ (ran (c .before .before .before .before .before .before .before) ∙ c .before .before .before .before .before .run .given .1) (omega (arith, c .before .if1 .left))
+    ∙ λ i. checked.Packet (record { summary = record { head = sym (c .head-at .ensures) i; records = counted (c .before .before .before .before .before .before .before .before .before .before .before .before) i; cells = c .before .before .before .before .before .run .given .0 .1 .0 }; at = e i; length = record { 0 = l i } }))
 
 pub check-packets-spec : {M : Type 1} → statement M
 check-packets-spec =
     tie.close
-    (tie.spec add-at add-end add-count shared-slice-read-count (λ c. search needs) (λ c. search needs) part-check-run-end cast-check-run
+    (tie.spec (λ c κs. search needs) add-at add-end add-count shared-slice-read-count (λ c. search needs) (λ c. search needs) part-check-run-end cast-check-run
     (λ c κs. search needs) (λ c. search needs) (λ c. search needs) (λ c κs. search needs) returns returns-2 head-at-requires returns-3)

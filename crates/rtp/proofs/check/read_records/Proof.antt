@@ -8,8 +8,8 @@ use Rattle.rtp.proofs.ReadLaws.{Outlined, outlined}
 use Rattle.rtp.proofs.check.read_records.Statement.{statement}
 use Rattle.rtp.proofs.check.read_records.Tie as tie
 
-found : (c : tie.After-struct-known) → Outlined (c .before .before .before .before .before .args .octets .now) (c .before .before .before .before .before .args .outline) (c .before .before .before .before .before .pre .0)
-found c = outlined _ _ _ (below-all (c .before .before .before .before .before .args .octets .now) (λ j. c .before .before .before .before .shared-slice-known .given j .fits))
+found : (c : tie.After-struct-known) → Outlined (c .before .before .before .before .before .args .layout) (c .before .before .before .before .before .args .octets .now) (c .before .before .before .before .before .args .outline) (c .before .before .before .before .before .pre .0)
+found c = outlined (c .before .before .before .before .before .args .layout) _ _ _ (below-all (c .before .before .before .before .before .args .octets .now) (λ j. c .before .before .before .before .shared-slice-known .given j .fits))
 
 add-end : tie.Need-add-end
 add-end c = omega (arith, found c .whole)

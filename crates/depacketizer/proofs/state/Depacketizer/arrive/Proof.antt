@@ -9,7 +9,6 @@ use Prim.Native.Nat.{ℕ, _+_, _-_, _≤_}
 use native.Mathlib.Omega.{arith}
 use lib.ListN.{length, take, drop, length-take, length-drop}
 use Rattle.wire.specs.Bits.{splice}
-use Rattle.wire.specs.Layout.{rfc8331}
 use Rattle.wire.specs.Result.{Result, accepted}
 use Rattle.wire.specs.Cells.{listOf}
 use Rattle.wire.specs.Packet.{Content, readContent}
@@ -37,8 +36,8 @@ kept false l at x h = refl
 
 -- what the admitted packet says
 says : (c : tie.After-known-told) → let a = c .before .before .before .before .before .before .before .args in
-    Found (a .octets .now) (admission (a .self .state) (length (a .store .now)) (a .octets .now)) (c .before .admitted .given .0 .0)
-says c = found _ _ _ (sym (c .before .before .before .admit .ensures) ∙ c .before .admitted .given .1)
+    Found (a .layout) (a .octets .now) (admission (a .self .state) (a .layout) (length (a .store .now)) (a .octets .now)) (c .before .admitted .given .0 .0)
+says c = found _ _ _ _ (sym (c .before .before .before .admit .ensures) ∙ c .before .admitted .given .1)
 
 said : (c : tie.After-known-told) → summaryOf (says c .says) ≡ c .before .admitted .given .0 .0 .summary
 said c = ap (λ (y : Outline). y .summary) (says c .outline)
@@ -48,8 +47,8 @@ number-is c = ap (λ (y : Summary). y .head .number .0) (sym (said c))
 
 -- the state is sound, and the packet is read
 passes : (c : tie.After-known-told) → let a = c .before .before .before .before .before .before .before .args in
-    (sound (a .self .state) (length (a .store .now)) ≡ true) × (readContent rfc8331 (a .octets .now) ≡ accepted (says c .says))
-passes c = let a = c .before .before .before .before .before .before .before .args in passed (a .self .state) (length (a .store .now)) (a .octets .now) (says c .says) (says c .reads)
+    (sound (a .self .state) (length (a .store .now)) ≡ true) × (readContent (a .layout) (a .octets .now) ≡ accepted (says c .says))
+passes c = let a = c .before .before .before .before .before .before .before .args in passed (a .self .state) (a .layout) (length (a .store .now)) (a .octets .now) (says c .says) (says c .reads)
 
 is-sound : (c : tie.After-known-told) → let a = c .before .before .before .before .before .before .before .args in
     Sound (a .self .state) (length (a .store .now))
@@ -79,7 +78,7 @@ decided c =
 stepped : (c : tie.After-decide)
     → let a = c .before .before .before .before .before .before .before .before .before .before .before .before .before .before .args in
     let k = says (c .before .before .before .before .before .before .before) .says in
-    step (a .self .state) (a .octets .now) (a .store .now)
+    step (a .self .state) (a .layout) (a .octets .now) (a .store .now)
     ≡ record {
       answer = c .decide .result .answer;
       state = afterOf (a .self .state) (k .number) (c .decide .result) (c .before .before .freshness .given .0 .0);
@@ -88,7 +87,7 @@ stepped : (c : tie.After-decide)
 stepped c =
     let a = c .before .before .before .before .before .before .before .before .before .before .before .before .before .before .args in
     let f = says (c .before .before .before .before .before .before .before) in
-    fresh-step (a .self .state) (a .octets .now) (a .store .now) (f .says) (f .reads) (c .before .before .freshness .given .0 .0) (c .before .before .freshness .given .0 .1 .0)
+    fresh-step (a .self .state) (a .layout) (a .octets .now) (a .store .now) (f .says) (f .reads) (c .before .before .freshness .given .0 .0) (c .before .before .freshness .given .0 .1 .0)
     (placed (c .before)) (c .decide .result) (decided c)
 
 -- appended cells have room
@@ -98,7 +97,7 @@ roomy : (c : tie.After-decide) → let a = c .before .before .before .before .be
 roomy c =
     let a = c .before .before .before .before .before .before .before .before .before .before .before .before .before .before .args in
     let f = says (c .before .before .before .before .before .before .before) in
-    fresh-room (a .self .state) (a .octets .now) (a .store .now) (f .says) (f .reads) (c .before .before .freshness .given .0 .0) (c .before .before .freshness .given .0 .1 .0)
+    fresh-room (a .self .state) (a .layout) (a .octets .now) (a .store .now) (f .says) (f .reads) (c .before .before .freshness .given .0 .0) (c .before .before .freshness .given .0 .1 .0)
     (placed (c .before)) (c .decide .result) (decided c)
 
 -- what the store then holds
@@ -126,7 +125,7 @@ returns : tie.Need-returns
 returns c =
     let a = c .before .before .before .before .before .before .before .args in
     let t = c .before .enum-told .given in
-    let e = refused-step (a .self .state) (a .octets .now) (a .store .now) _ _ (c .before .before .before .admit .ensures) (t .1) in
+    let e = refused-step (a .self .state) (a .layout) (a .octets .now) (a .store .now) _ _ (c .before .before .before .admit .ensures) (t .1) in
     rw (c .refusal .ensures, t .1) (ap arrivalOf (sym e), ap (λ (x : Step). x .store) (sym e))
 
 returns-2 : tie.Need-returns-2
@@ -134,7 +133,7 @@ returns-2 c =
     let a = c .before .before .before .before .before .before .before .before .before .before .before .before .before .args in
     let p = c .before .before .before .before .before .before in
     let k = says p .says in
-    let e = step-admitted (a .self .state) (a .octets .now) (a .store .now) k (says p .reads)
+    let e = step-admitted (a .self .state) (a .layout) (a .octets .now) (a .store .now) k (says p .reads)
     ∙ packet-late (a .self .state) k (a .store .now) (a .self .state .heard)
     (ap (λ (x : ℕ). freshnessOf (a .self .state .heard) (classify (distance (a .self .state .last .0) x))) (sym (number-is p)) ∙ sym (c .before .before .before .classify .ensures) ∙ c .before .enum-told2 .given .1) in
     (ap (λ (x : State). record { state = record { state = x }; answer = answer.Refused (record { number = 32; index = 0 }) }) (c .later .ensures) ∙ ap arrivalOf (sym e), ap (λ (x : Step). x .store) (sym e))
@@ -157,7 +156,7 @@ read-records-requires c κs =
     let p = c .before .before .before .before .before .before .before .before .before in
     let n = roomy (c .before .before) (c .before .if1 .taken) in
     let e = ap (λ (x : Summary). x .cells) (said p) in
-    (ap (checkedOf (a .octets .now)) (passes p .1) ∙ ap checked.Packet (says p .outline), simp (length-take, length-drop) (omega (arith, n, e)))
+    (ap (checkedOf (a .layout) (a .octets .now)) (passes p .1) ∙ ap checked.Packet (says p .outline), simp (length-take, length-drop) (omega (arith, n, e)))
 
 same-length : tie.Need-same-length
 same-length c = same-size c

@@ -1,12 +1,12 @@
--- `alignment_ok` tests the bits behind the body.
+-- `zero_end` tests the bits behind the body.
 -- They are a remainder of the packet's last four octets.
 use borrow.Author.Needs.{needs}
 use Prim.Native.Nat.{_*_, _-_}
 use native.Mathlib.Omega.{arith}
 use lib.Pow.{pow-pos}
 use Rattle.anc.proofs.PacketLaws.{unit, last-bits}
-use Rattle.anc.proofs.check.alignment_ok.Statement.{statement}
-use Rattle.anc.proofs.check.alignment_ok.Tie as tie
+use Rattle.anc.proofs.check.zero_end.Statement.{statement}
+use Rattle.anc.proofs.check.zero_end.Tie as tie
 
 rem-result : tie.Need-rem-result
 rem-result c =
@@ -21,7 +21,7 @@ returns c =
     rw (c .quad-at .ensures, unit (8 * a .size .0 - a .body) (omega arith))
     (last-bits (a .octets .now) (a .body) (a .size .0) (omega arith) (omega arith) (omega arith) (omega arith))
 
-pub alignment-ok-spec : {M : Type 1} → statement M
-alignment-ok-spec =
+pub zero-end-spec : {M : Type 1} → statement M
+zero-end-spec =
     tie.close
     (tie.spec (λ c. search needs) (λ c. search needs) (λ c. search needs) (λ c. search needs) (λ c. search needs) (λ c κs. search needs) rem-result returns)
