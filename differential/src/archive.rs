@@ -1,5 +1,5 @@
 //! The declarations of `include/jibhotran.h`, and the slices' side of them.
-//! This is the only unsafe code: a slice's pointer and length name memory
+//! This is the only unsafe code that calls the archive: a slice's pointer and length name memory
 //! that may be read, or written where the slice is mutable, and mutable
 //! slices do not overlap others. `tests/header.rs` compares the
 //! declarations with the header.

@@ -2,14 +2,17 @@
 //!
 //! [`Archive`] is `libcapi.a` through the C boundary. [`Model`] is the same
 //! boundary over the reference. [`call::compare`] makes one call on both and
-//! compares all that can be seen of it.
+//! compares all that can be seen of it. [`Behind`] is the reference called as
+//! the archive is, for measuring.
 
 pub mod archive;
+pub mod behind;
 pub mod call;
 pub mod inputs;
 pub mod model;
 
 pub use archive::Archive;
+pub use behind::Behind;
 pub use model::Model;
 
 /// Numbers that an answer row needs.

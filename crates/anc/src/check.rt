@@ -1,7 +1,7 @@
 // Packets checked, without writing anything (01, "Order of reading").
 ghost use mathlib.Core.Path.{_≡_};
 ghost use mathlib.Core.List.{_++_};
-ghost use Prim.Native.Nat.{_+_, _*_, _<_, _^_, _≤_};
+ghost use Prim.Native.Nat.{_+_, _*_, _%_, _<_, _^_, _≤_};
 ghost use lib.ListN.{length};
 ghost use Rattle.wire.specs.Anc.{ancSize, areHeaderWords, dataCount, didAt, rOk, readAnc, readRun, wordsAt};
 ghost use Rattle.wire.specs.Bits.{rowAt};
@@ -16,8 +16,9 @@ use places::packet_size;
 use places::plus;
 use places::words_at;
 use record::header::Header;
-use rows::sum::sum_octets;
-use rows::sum::sum_singly;
+use rows::scan::scan_singly;
+use rows::scan::scan_words;
+use std::num::wrapping_add_u16;
 use wire::count::OctetCount;
 use wire::count::WordCount;
 use wire::layout::DID_AT;
@@ -67,19 +68,22 @@ fn header_words_ok(octets: &[u8], at: usize, table: &[u16; 256]) -> bool
     is_header_word(fetch(octets, at + 2 * WORD_BITS), table)
 }
 
-// The sum of the low nine bits of DID, SDID, Data_Count and `n` user data words: one row in RFC 8331's layout, two in the drafts', where R stands
-// between them.
-fn sum_with_header(layout: Layout, octets: &[u8], n: usize) -> u32
+// The sum of the low nine bits of DID, SDID, Data_Count and `n` user data words, modulo 512: one row in RFC 8331's layout, two in the drafts', where R
+// stands between them.
+fn sum_with_header(layout: Layout, octets: &[u8], n: usize) -> u16
     requires { ⌜ WordsFit (now octets) (didAt layout) 3 × WordsFit (now octets) (wordsAt layout) n ⌝ }
-    ensures { λ r. ⌜ r ≡ sumLow (rowAt wordBits (now (octets .entry)) (didAt layout) 3 ++ rowAt wordBits (now (octets .entry)) (wordsAt layout) n) ⌝ }
+    ensures { λ r. ⌜ r ≡ sumLow (rowAt wordBits (now (octets .entry)) (didAt layout) 3 ++ rowAt wordBits (now (octets .entry)) (wordsAt layout) n) % 512 ⌝ }
 {
     if n == 0 {
-        return sum_singly(octets, did_at(layout), 3);
+        return scan_singly(octets, did_at(layout), 3) % 512;
     }
     match layout {
-        Layout::Rfc8331 => sum_octets(octets, DID_AT, 3 + n),
-        Layout::Draft2015 => sum_singly(octets, DRAFT_DID_AT, 3)
-            + sum_singly(octets, DRAFT_WORDS_AT, n),
+        Layout::Rfc8331 => scan_words(octets, DID_AT, 3 + n),
+        Layout::Draft2015 => {
+            let head = scan_singly(octets, DRAFT_DID_AT, 3);
+            let words = scan_singly(octets, DRAFT_WORDS_AT, n);
+            wrapping_add_u16(head, words) % 512
+        }
     }
 }
 

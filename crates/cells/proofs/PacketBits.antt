@@ -15,12 +15,13 @@ use Rattle.wire.proofs.ListLaws.{splice-append, set-splice}
 use Rattle.wire.proofs.PacketStore.{fieldBits-append, fieldBits-one, store-behind, zeros-behind, location-behind, aligned}
 use Rattle.wire.proofs.SizeLaws.{width-anc}
 use Rattle.wire.proofs.Store.{bits-splice, stored}
+use Rattle.words.proofs.SumLaws.{checksum-agree, low-first}
 use Rattle.cells.specs.Packet.{headWords, summed}
 
--- a sum of words fits its type
-pub sum-small : (ws : List ℕ) → sumLow ws ≤ 511 * length ws
-sum-small [] = omega arith
-sum-small (w ∷ ws) = omega (arith, sum-small ws)
+-- the checksum word asks for the sum modulo 512
+pub summed-low : (words : List ℕ) (sum : ℕ) → summed words (sum % 512) ≡ summed words sum
+summed-low words sum =
+    ap (λ (w : ℕ). row wordBits words ++ (wordBits, w) ∷ []) (checksum-agree (sum % 512 + sumLow words) (sum + sumLow words) (low-first sum (sumLow words)))
 
 -- the table's entries for DID, SDID and Data_Count are their header words
 pub entries-are : (table : List ℕ) (r : Record) → HeaderTable table → WellFormed rfc8331 r
@@ -73,13 +74,15 @@ module _ (L : Layout) (r : Record) where
   pub written : (s s₁ s₂ s₃ : List ℕ) → Below 256 s → Below 256 s₃ → (size : ℕ) → size ≡ ancSize L (length (r .words)) → size ≤ length s
       → s₁ ≡ splice s (size - 4) (0 ∷ 0 ∷ 0 ∷ 0 ∷ [])
       → bits s₂ ≡ splice (bits s₁) 0 (fieldBits (headerFields L r))
-      → (sum : ℕ) (words : List ℕ) → sum ≡ sumLow (headWords r) → words ≡ r .words
+      → (sum : ℕ) (words : List ℕ) → sum ≡ sumLow (headWords r) % 512 → words ≡ r .words
       → bits s₃ ≡ splice (bits s₂) (wordsAt L) (fieldBits (summed words sum))
       → s₃ ≡ overwrite (ancOctets L r) s
   written s s₁ s₂ s₃ h h₃ size e l e₁ e₂ sum words es ew e₃ =
       let cleared = e₁ ∙ ap (λ (k : ℕ). splice s (k - 4) (0 ∷ 0 ∷ 0 ∷ 0 ∷ [])) e in
       let b₃ : bits s₃ ≡ splice (bits s₁) 0 (fieldBits (headerFields L r ++ tail)) =
-      e₃ ∙ (λ i. splice (e₂ i) (wordsAt L) (fieldBits (summed (ew i) (es i)))) ∙ behind (bits s₁) (headerFields L r) tail (wordsAt L) (omega arith) in
+      e₃ ∙ (λ i. splice (e₂ i) (wordsAt L) (fieldBits (summed (ew i) (es i))))
+      ∙ ap (λ (fs : Fields). splice (splice (bits s₁) 0 (fieldBits (headerFields L r))) (wordsAt L) (fieldBits fs)) (summed-low (r .words) (sumLow (headWords r)))
+      ∙ behind (bits s₁) (headerFields L r) tail (wordsAt L) (omega arith) in
       stored s s₃ h h₃ 0 (ancSize L (length (r .words))) (ancFields L r) (width-anc L r) (omega arith)
       (b₃ ∙ ap (splice (bits s₁) 0) body-is ∙ ap (λ (x : List ℕ). splice (bits x) 0 (fieldBits (bodyFields L r))) cleared ∙ aligned L s r (omega arith))
 

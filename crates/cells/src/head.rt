@@ -1,6 +1,6 @@
 // What stands before a record's words, from cells to octets. The functions ask for a record that was checked, and for the room.
 ghost use mathlib.Core.Path.{_≡_};
-ghost use Prim.Native.Nat.{_+_, _≤_};
+ghost use Prim.Native.Nat.{_+_, _%_, _≤_};
 ghost use lib.ListN.{length};
 ghost use Rattle.wire.specs.Anc.{WellFormed, headerFields, locationFields};
 ghost use Rattle.wire.specs.Bits.{bits, fieldBits, overwrite, pack, row, splice};
@@ -10,8 +10,8 @@ ghost use Rattle.wire.specs.Words.{HeaderTable, sumLow, wordBits};
 ghost use Rattle.words.specs.Word.{WordsFit};
 ghost use Rattle.cells.specs.Packet.{headWords};
 use record::header::Header;
-use rows::row::write_singly;
-use rows::sum::sum_cells;
+use row_writer::row::write_few;
+use row_writer::sum::sum_cells;
 use wire::layout::DID_AT;
 use wire::layout::DRAFT_DID_AT;
 use wire::layout::DRAFT_R_AT;
@@ -30,32 +30,32 @@ fn write_location(cells: &[u16], octets: &mut [u8])
     octets[3] = (cells[3] * 128 + cells[4]) as u8;
 }
 
-// Stores DID, SDID and Data_Count as header words from the bit `at` on; the sum of their low nine bits.
-fn write_header_words(cells: &[u16], octets: &mut [u8], at: usize, table: &[u16; 256]) -> u32
+// Stores DID, SDID and Data_Count as header words from the bit `at` on; the sum of their low nine bits, modulo 512.
+fn write_header_words(cells: &[u16], octets: &mut [u8], at: usize, table: &[u16; 256]) -> u16
     requires { ⌜ HeaderTable (now table) × WellFormed rfc8331 (cellRecord (now cells)) ⌝ }
     requires { ⌜ (headCells + cellCount (now cells) ≤ length (now cells)) × WordsFit (now octets) at 3 ⌝ }
-    ensures { λ r. ⌜ r ≡ sumLow (headWords (cellRecord (now (cells .entry)))) ⌝ }
+    ensures { λ r. ⌜ r ≡ sumLow (headWords (cellRecord (now (cells .entry)))) % 512 ⌝ }
     ensures { λ r. ⌜ bits (now (octets .exit)) ≡ splice (bits (now (octets .entry))) at (fieldBits (row wordBits (headWords (cellRecord (now (cells .entry)))))) ⌝ }
 {
     let did = cells[5] as usize;
     let sdid = cells[6] as usize;
     let n = cells[Header::COUNT_CELL] as usize;
     let head = [table[did], table[sdid], table[n]];
-    write_singly(&head, octets, at);
+    write_few(&head, octets, at);
     sum_cells(&head)
 }
 
-// Writes all that stands before the words; the sum of the header words' low nine bits. R, the drafts' last bits before the words, is what is left
+// Writes all that stands before the words; the sum of the header words' low nine bits, modulo 512. R, the drafts' last bits before the words, is what is left
 // of an octet that was cleared (02, K3). An arm for each layout, so that each stores at places that are known.
 pub(crate) fn write_head(
     layout: Layout,
     cells: &[u16],
     octets: &mut [u8],
     table: &[u16; 256],
-) -> u32
+) -> u16
     requires { ⌜ HeaderTable (now table) × WellFormed rfc8331 (cellRecord (now cells)) ⌝ }
     requires { ⌜ (headCells + cellCount (now cells) ≤ length (now cells)) × (leastSize layout ≤ length (now octets)) ⌝ }
-    ensures { λ r. ⌜ r ≡ sumLow (headWords (cellRecord (now (cells .entry)))) ⌝ }
+    ensures { λ r. ⌜ r ≡ sumLow (headWords (cellRecord (now (cells .entry)))) % 512 ⌝ }
     ensures { λ r. ⌜ bits (now (octets .exit)) ≡ splice (bits (now (octets .entry))) 0 (fieldBits (headerFields layout (cellRecord (now (cells .entry))))) ⌝ }
 {
     match layout {

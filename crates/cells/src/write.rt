@@ -15,9 +15,9 @@ ghost use Rattle.cells.specs.Packet.{summed};
 use crate::head::write_head;
 use places::packet_size;
 use record::header::Header;
-use rows::row::write_singly;
-use rows::row::write_words;
-use rows::sum::sum_cells;
+use row_writer::row::write_singly;
+use row_writer::row::write_words;
+use row_writer::sum::sum_cells;
 use wire::count::WordCount;
 use wire::layout::DRAFT_WORDS_AT;
 use wire::layout::Layout;
@@ -37,9 +37,9 @@ fn clear_end(octets: &mut [u8], size: usize)
     octets[size - 1] = 0;
 }
 
-// Stores the checksum word behind the user data words, which start at the bit `at`; `sum` is that of the words before them.
-fn write_checksum(words: &[u16], octets: &mut [u8], at: usize, sum: u32)
-    requires { ⌜ (length (now words) < headerNumbers) × (sum < 2 ^ 16) × WordsFit (now octets) at (length (now words) + 1) ⌝ }
+// Stores the checksum word behind the user data words, which start at the bit `at`; `sum` is that of the words before them, modulo 512.
+fn write_checksum(words: &[u16], octets: &mut [u8], at: usize, sum: u16)
+    requires { ⌜ (length (now words) < headerNumbers) × (sum < 512) × WordsFit (now octets) at (length (now words) + 1) ⌝ }
     ensures { λ r. ⌜ bits (now (octets .exit)) ≡ splice (bits (now (octets .entry))) (at + wordBits * length (now (words .entry))) (toBits wordBits (checksumWord (sum + sumLow (now (words .entry))))) ⌝ }
 {
     if words.len() == 0 {
@@ -51,8 +51,8 @@ fn write_checksum(words: &[u16], octets: &mut [u8], at: usize, sum: u32)
 }
 
 // Stores the user data words, and the checksum word behind them. An arm for each layout: the drafts' words are stored one by one.
-fn write_user_words(layout: Layout, words: &[u16], octets: &mut [u8], sum: u32)
-    requires { ⌜ (length (now words) < headerNumbers) × Below (2 ^ wordBits) (now words) × (sum < 2 ^ 16) ⌝ }
+fn write_user_words(layout: Layout, words: &[u16], octets: &mut [u8], sum: u16)
+    requires { ⌜ (length (now words) < headerNumbers) × Below (2 ^ wordBits) (now words) × (sum < 512) ⌝ }
     requires { ⌜ WordsFit (now octets) (wordsAt layout) (length (now words) + 1) ⌝ }
     ensures { λ r. ⌜ bits (now (octets .exit)) ≡ splice (bits (now (octets .entry))) (wordsAt layout) (fieldBits (summed (now (words .entry)) sum)) ⌝ }
 {

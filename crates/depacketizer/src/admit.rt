@@ -6,6 +6,7 @@ ghost use Rattle.depacketizer.specs.Answers.{stageOf, stageRefusal};
 ghost use Rattle.stream.specs.Step as step;
 use crate::decide::fits;
 use rtp::check::check;
+use rtp::check::summary_at;
 use rtp::packet::Checked;
 use rtp::packet::Head;
 use stream::state::Phase;
@@ -82,7 +83,7 @@ pub(crate) fn admit(state: State, room: usize, layout: Layout, octets: &[u8]) ->
     let Checked::Packet(outline) = checked else {
         return checked;
     };
-    let summary = outline.summary;
+    let summary = summary_at(layout, octets, outline);
     let stage = check_opened(state.source, state.payload_type, summary.head);
     let Stage::Passed = stage else {
         return Checked::Refused(stage.refusal());

@@ -9,6 +9,7 @@ use crate::decide::decide;
 use crate::distance::Freshness;
 use crate::distance::classify;
 use rtp::check::read_records;
+use rtp::check::summary_at;
 use rtp::packet::Checked;
 use stream::state::Answer;
 use stream::state::Phase;
@@ -109,7 +110,7 @@ impl Depacketizer {
                 answer: Answer::Refused(admitted.refusal()),
             };
         };
-        let summary = outline.summary;
+        let summary = summary_at(layout, octets, outline);
         let head = summary.head;
         let freshness = classify(state.heard, state.last, head.number);
         let Freshness::Fresh { missing, next } = freshness else {

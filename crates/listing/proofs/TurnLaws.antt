@@ -11,7 +11,6 @@ use Rattle.wire.specs.declared.refusal.Refusal.{Refusal}
 use Rattle.wire.specs.Layout.{Layout}
 use Rattle.wire.specs.Result.{Result, refused, accepted}
 use Rattle.wire.specs.Packet.{Content, readContent}
-use Rattle.rtp.specs.Answers.{checkedOf}
 use Rattle.depacketizer.specs.declared.state.Depacketizer.{Depacketizer}
 use Rattle.depacketizer.specs.declared.state.Opened.{Opened}
 use Rattle.depacketizer.specs.declared.state.Opened.the-variants as opened
@@ -23,25 +22,15 @@ use Rattle.listing.specs.declared.session.Session.{Session}
 use Rattle.listing.specs.declared.session.Session.the-variants as session
 use Rattle.frames.specs.Frames.{Front, end, cut, frame}
 use Rattle.listing.specs.Session.{isBroken, numberOf, entered, layoutIn, turn, turnBy, arrived}
-use Rattle.listing.specs.Answers.{checkedNumber, enteredBy}
 use Rattle.frames.specs.Answers.{frontOf, isCut}
 
-pub number-is : (L : Layout) (s : List ℕ) (k : Result Content) → checkedNumber (checkedOf L s k) ≡ numberOf k
-number-is L s (refused x) = refl
-number-is L s (accepted k) = refl
-
-entered-is : (v : Session) (L : Layout) (s : List ℕ) (k : Result Content) → enteredBy v (checkedOf L s k) ≡ entered v k
-entered-is (session.Waiting M) L s (refused x) = refl
-entered-is (session.Waiting M) L s (accepted k) = refl
-entered-is (session.Open M d) L s k = refl
-
-module _ (v : Session) (octets store : List ℕ) (o : Opened) (entry : o ≡ enteredBy v (checkedOf (layoutIn v) octets (readContent (layoutIn v) octets))) where
+module _ (v : Session) (octets store : List ℕ) (o : Opened) (entry : o ≡ entered v (readContent (layoutIn v) octets)) where
   abbrev content : Result Content
   content = readContent (layoutIn v) octets
 
   by : (p : Opened) → o ≡ p → turn v octets store ≡ turnBy v (numberOf content) octets store p
   unfolding turn
-  by p e = ap (turnBy v (numberOf content) octets store) (sym (entered-is v (layoutIn v) octets content) ∙ sym entry ∙ e)
+  by p e = ap (turnBy v (numberOf content) octets store) (sym entry ∙ e)
 
   -- no depacketizer, and none opened
   pub turn-refused : (x : Refusal) → o ≡ opened.Refused x → turn v octets store ≡ record { session = v; store = store; text = refusedText x }

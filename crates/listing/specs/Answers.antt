@@ -6,12 +6,8 @@ use lib.ListN.{length}
 use Rattle.wire.specs.declared.refusal.Refusal.{Refusal}
 use Rattle.wire.specs.Bits.{overwrite}
 use Rattle.wire.specs.Result.{noRefusal}
-use Rattle.rtp.specs.declared.packet.Checked.{Checked}
-use Rattle.rtp.specs.declared.packet.Checked.the-variants as checked
 use Rattle.depacketizer.specs.declared.state.Opened.{Opened}
 use Rattle.depacketizer.specs.declared.state.Opened.the-variants as opened
-use Rattle.depacketizer.specs.Answers.{openedOf}
-use Rattle.stream.specs.Step.{openOf}
 use Rattle.listing.specs.declared.session.Session.{Session}
 use Rattle.listing.specs.declared.session.Session.the-variants as session
 use Rattle.listing.specs.declared.session.Listed.{Listed}
@@ -20,21 +16,6 @@ use Rattle.listing.specs.declared.session.Text.{Text}
 use Rattle.listing.specs.declared.session.Text.the-variants as text
 use Rattle.frames.specs.Frames.{Front, end, cut, frame, lengthSize, maxFrame}
 use Rattle.listing.specs.Session.{turn}
-
--- the number of a packet that was checked, for its line
-abbrev pub checkedNumber : Checked → ℕ
-checkedNumber (checked.Refused x) = 0
-checkedNumber (checked.Packet o) = o .summary .head .number .0
-
--- "The first packet that passes 1 to 13 opens the keeper."
-abbrev pub checkedOpening : Checked → Opened
-checkedOpening (checked.Refused x) = opened.Refused x
-checkedOpening (checked.Packet o) = openedOf (openOf (o .summary .head .source) (o .summary .head .«payload_type»))
-
--- the depacketizer that a packet arrives at
-abbrev pub enteredBy : Session → Checked → Opened
-enteredBy (session.Waiting L) k = checkedOpening k
-enteredBy (session.Open L d) k = opened.Open d
 
 -- why none was opened
 abbrev pub openedRefusal : Opened → Refusal

@@ -7,7 +7,7 @@ ghost use lib.ListN.{length};
 ghost use Rattle.wire.specs.Packet.{readContent};
 ghost use Rattle.rtp.specs.Answers.{checkedOf};
 ghost use Rattle.text.specs.Put.{Put};
-ghost use Rattle.listing.specs.Answers.{ListedFits, TextFits, checkedNumber, checkedOpening, enteredBy, listedOf, openedRefusal, outAfter, storeAfter, textAfter, textOf};
+ghost use Rattle.listing.specs.Answers.{ListedFits, TextFits, listedOf, openedRefusal, outAfter, storeAfter, textAfter, textOf};
 ghost use Rattle.frames.specs.Answers.{isCut};
 ghost use Rattle.frames.specs.Frames.{front};
 ghost use Rattle.lines.specs.Room.{countsRoom, lineRoom, roomy};
@@ -22,6 +22,7 @@ use lines::put_answer;
 use lines::put_counts;
 use lines::put_refused;
 use rtp::check::check;
+use rtp::check::summary_at;
 use rtp::packet::Checked;
 use text::put;
 use wire::layout::Layout;
@@ -67,12 +68,13 @@ pub struct Reply {
     pub length: usize,
 }
 
-fn number_of(checked: Checked) -> u64
-    ensures { λ r. ⌜ r ≡ checkedNumber checked ⌝ }
+fn number_of(layout: Layout, octets: &[u8], checked: Checked) -> u64
+    requires { ⌜ checked ≡ checkedOf layout (now octets) (readContent layout (now octets)) ⌝ }
+    ensures { λ r. ⌜ r ≡ listing.numberOf (readContent layout (now (octets .entry))) ⌝ }
 {
     match checked {
         Checked::Packet(outline) => {
-            let summary = outline.summary;
+            let summary = summary_at(layout, octets, outline);
             let head = summary.head;
             let number = head.number;
             number.0 as u64
@@ -82,12 +84,13 @@ fn number_of(checked: Checked) -> u64
 }
 
 // The first packet that passes 1 to 13 opens the depacketizer.
-fn opening(checked: Checked) -> Opened
-    ensures { λ r. ⌜ r ≡ checkedOpening checked ⌝ }
+fn opening(layout: Layout, octets: &[u8], checked: Checked) -> Opened
+    requires { ⌜ checked ≡ checkedOf layout (now octets) (readContent layout (now octets)) ⌝ }
+    ensures { λ r. ⌜ r ≡ listing.opening (readContent layout (now (octets .entry))) ⌝ }
 {
     match checked {
         Checked::Packet(outline) => {
-            let summary = outline.summary;
+            let summary = summary_at(layout, octets, outline);
             let head = summary.head;
             Depacketizer::open(head.source, head.payload_type)
         }
@@ -106,11 +109,12 @@ fn layout_of(session: Session) -> Layout
 }
 
 // The depacketizer that a packet arrives at.
-fn enter(session: Session, checked: Checked) -> Opened
-    ensures { λ r. ⌜ r ≡ enteredBy session checked ⌝ }
+fn enter(session: Session, layout: Layout, octets: &[u8], checked: Checked) -> Opened
+    requires { ⌜ checked ≡ checkedOf layout (now octets) (readContent layout (now octets)) ⌝ }
+    ensures { λ r. ⌜ r ≡ listing.entered session (readContent layout (now (octets .entry))) ⌝ }
 {
     match session {
-        Session::Waiting(_) => opening(checked),
+        Session::Waiting(_) => opening(layout, octets, checked),
         Session::Open(_, depacketizer) => Opened::Open(depacketizer),
     }
 }
@@ -135,8 +139,8 @@ fn list_packet(session: Session, octets: &[u8], store: &mut [u16], out: &mut [u8
 {
     let layout = layout_of(session);
     let checked = check(layout, octets);
-    let number = number_of(checked);
-    let opened = enter(session, checked);
+    let number = number_of(layout, octets, checked);
+    let opened = enter(session, layout, octets, checked);
     let Opened::Open(depacketizer) = opened else {
         let length = put_refused(out, refusal_of(opened));
         return Reply { session, length };

@@ -1,3 +1,3 @@
-pub mod Fields
-pub mod Lanes
+pub mod LaneLaws
 pub mod Rows
+pub mod TotalLaws

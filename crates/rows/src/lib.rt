@@ -1,4 +1,5 @@
-// Rows of ten-bit words in octets: read out as cells, written from cells, and summed; several words a turn. Every function here serves the
-// crates above and states what it asks of them.
+// Rows of ten-bit words in octets: read out as cells, and summed; eight words a turn, in numbers of 16 bits. Every function here serves the crates
+// above and states what it asks of them.
+mod lane;
 pub mod row;
-pub mod sum;
+pub mod scan;

@@ -10,18 +10,24 @@ use lib.Dec.{eqb, leb}
 use lib.ListN.{length, take, drop}
 use Rattle.wire.specs.declared.refusal.Refusal.{Refusal}
 use Rattle.wire.specs.Bits.{Below, overwrite}
-use Rattle.wire.specs.Layout.{Layout}
+use Rattle.wire.specs.Layout.{Layout, payloadHeaderSize}
 use Rattle.wire.specs.Result.{Result, refused, accepted, refuse, IsAccepted}
 use Rattle.wire.specs.Anc.{Record, readRun}
 use Rattle.wire.specs.Cells.{listOf}
-use Rattle.wire.specs.Packet.{Packet, Content, content, lengthField, ancCount, runAt, readRecords, readPacket, readContent, readInto}
+use Rattle.wire.specs.Packet.{Packet, Content, content, headerLeast, headerSize, lengthField, payloadAt, ancCount, runAt, packetRead, readRecords, readPacket, readContent, readInto}
+use Rattle.wire.proofs.BitLaws.{bitsAt-lt}
 use Rattle.wire.proofs.ResultLaws.{then-accepts, judge-accepts, accepted-inj}
 use Rattle.wire.proofs.PacketLaws.{Answer, answer-iff, region-iff, sizes}
 use Rattle.anc.specs.Answers.{runCells}
-use Rattle.rtp.specs.Answers.{summaryOf, checkedOf, cellsAfter, readOf}
+use Rattle.rtp.specs.Answers.{headOf, headAt, summaryOf, checkedOf, cellsAfter, readOf}
 use Rattle.rtp.specs.declared.packet.Outline.{Outline}
+use Rattle.rtp.specs.declared.packet.Summary.{Summary}
 use Rattle.rtp.specs.declared.packet.Checked.the-variants as checked
 use Rattle.rtp.specs.declared.packet.Read.the-variants as read
+
+-- what is returned of an accepted packet is the summary of what it says
+pub summary-is : (r : Result Content) (k : Content) (m : Summary) → r ≡ accepted k → readOf r ≡ read.Packet m → summaryOf k ≡ m
+summary-is r k m e h = let p : read.Packet (summaryOf k) ≡ read.Packet m = ap readOf (sym e) ∙ h in cc
 
 module _ (L : Layout) where
   -- a packet whose check refused is refused
@@ -37,7 +43,7 @@ module _ (L : Layout) where
   pub record Found (s : List ℕ) (r : Result Content) (o : Outline) : Type 0 where
     pub says : Content
     pub reads : r ≡ accepted says
-    pub outline : record { summary = summaryOf says; at = runAt L s; length = record { 0 = lengthField s } } ≡ o
+    pub outline : record { header = record { 0 = headerSize s }; length = record { 0 = lengthField s }; records = length (says .records); cells = length (listOf (says .records)) } ≡ o
 
   pub found : (s : List ℕ) (r : Result Content) (o : Outline) → checkedOf L s r ≡ checked.Packet o → Found s r o
   found s (refused y) o h = let z : _≡_ {A = ℕ} 0 1 = cc in absurd (omega arith)
@@ -46,13 +52,16 @@ module _ (L : Layout) where
   module _ (s : List ℕ) (o : Outline) (h : checkedOf L s (readContent L s) ≡ checked.Packet o) where
     -- the run, where the outline says that it stands
     abbrev pub outlineRun : Result (List Record × List ℕ)
-    outlineRun = readRun L 0 (o .summary .records) (take (o .at + o .length .0 - o .at) (drop (o .at) s))
+    outlineRun = readRun L 0 (o .records) (take (o .header .0 + payloadHeaderSize L + o .length .0 - (o .header .0 + payloadHeaderSize L)) (drop (o .header .0 + payloadHeaderSize L) s))
 
     pub record Outlined : Type 0 where
       pub accepts : IsAccepted outlineRun
-      pub size : length (runCells outlineRun) ≡ o .summary .cells
+      pub size : length (runCells outlineRun) ≡ o .cells
       pub after : (l : List ℕ) → overwrite (runCells outlineRun) l ≡ cellsAfter (readContent L s) l
-      pub whole : o .at + o .length .0 ≤ length s
+      pub whole : o .header .0 + payloadHeaderSize L + o .length .0 ≤ length s
+      pub header-is : o .header .0 ≡ headerSize s
+      pub header-least : headerLeast ≤ o .header .0
+      pub few : o .records < 256
 
     pub outlined : Below 256 s → Outlined
     unfolding readContent readRecords
@@ -68,35 +77,50 @@ module _ (L : Layout) where
         let b = then-accepts (readRun L 0 (ancCount s) (take (lengthField s) (drop (runAt L s) s))) _ (p .records) (n .records) in
         let c = judge-accepts 0 ((eqb (length (b .0 .1)) 0, 13) ∷ []) (accepted (b .0 .0)) (p .records) (b .2) in
         let rs : b .0 .0 ≡ k .records = accepted-inj (c .1) ∙ ap (λ (y : Content). y .records) says in
-        let count : o .summary .records ≡ ancCount s = ap (λ (y : Outline). y .summary .records) (sym (f .outline)) ∙ ap (λ (y : Content). length (y .records)) (sym says) ∙ i .0 in
-        let at : o .at ≡ runAt L s = ap (λ (y : Outline). y .at) (sym (f .outline)) in
+        let count : o .records ≡ ancCount s = ap (λ (y : Outline). y .records) (sym (f .outline)) ∙ ap (λ (y : Content). length (y .records)) (sym says) ∙ i .0 in
+        let head : o .header .0 ≡ headerSize s = ap (λ (y : Outline). y .header .0) (sym (f .outline)) in
+        let at : o .header .0 + payloadHeaderSize L ≡ runAt L s = omega arith in
         let long : o .length .0 ≡ lengthField s = ap (λ (y : Outline). y .length .0) (sym (f .outline)) in
-        let len : o .at + o .length .0 - o .at ≡ lengthField s = omega arith in
+        let len : o .header .0 + payloadHeaderSize L + o .length .0 - (o .header .0 + payloadHeaderSize L) ≡ lengthField s = omega arith in
         let ran : outlineRun ≡ accepted (k .records, b .0 .1) =
         ap₂ (λ (x : ℕ) (y : List ℕ). readRun L 0 x y) count (ap₂ (λ (x y : ℕ). take x (drop y s)) len at)
         ∙ b .1 ∙ ap (λ (y : List Record). accepted (y, b .0 .1)) rs in
         let cs : runCells outlineRun ≡ listOf (k .records) = ap runCells ran in
         record {
           accepts = subst IsAccepted (sym ran) tt;
-          size = ap length cs ∙ ap (λ (y : Outline). y .summary .cells) (f .outline);
+          size = ap length cs ∙ ap (λ (y : Outline). y .cells) (f .outline);
           after = λ l. ap (λ (y : List ℕ). overwrite y l) cs ∙ ap (λ (r : Result Content). cellsAfter r l) (sym (f .reads));
           whole = omega (arith, z .whole);
+          header-is = head;
+          header-least = omega arith;
+          few = omega (arith, bitsAt-lt s (payloadAt s + 16 + 16) 8);
         }
 
     -- 14, where the list is too short
-    pub into-short : (room : ℕ) → room < o .summary .cells → readInto L s room ≡ refuse 14 0
+    pub into-short : (room : ℕ) → room < o .cells → readInto L s room ≡ refuse 14 0
     unfolding readInto
     into-short room l =
         let f = found s (readContent L s) o h in
-        let e : length (listOf (f .says .records)) ≡ o .summary .cells = ap (λ (y : Outline). y .summary .cells) (f .outline) in
+        let e : length (listOf (f .says .records)) ≡ o .cells = ap (λ (y : Outline). y .cells) (f .outline) in
         let t : leb (length (listOf (f .says .records))) room ≡ false = lt-leb (length (listOf (f .says .records))) room (omega arith) in
         rw (f .reads, t)
 
     -- and nothing more to refuse where it is not
-    pub into-fits : (room : ℕ) → o .summary .cells ≤ room → (readInto L s room ≡ readContent L s) × (readOf (readContent L s) ≡ read.Packet (o .summary))
+    pub into-fits : (room : ℕ) → o .cells ≤ room → readInto L s room ≡ readContent L s
     unfolding readInto
     into-fits room l =
         let f = found s (readContent L s) o h in
-        let e : length (listOf (f .says .records)) ≡ o .summary .cells = ap (λ (y : Outline). y .summary .cells) (f .outline) in
+        let e : length (listOf (f .says .records)) ≡ o .cells = ap (λ (y : Outline). y .cells) (f .outline) in
         let t : leb (length (listOf (f .says .records))) room ≡ true = le-leb (length (listOf (f .says .records))) room (omega arith) in
-        (rw (f .reads, t), ap readOf (f .reads) ∙ ap (λ (y : Outline). read.Packet (y .summary)) (f .outline))
+        rw (f .reads, t)
+
+    -- what the packet says, its six values as they stand in the octets
+    pub says-there : readOf (readContent L s) ≡ read.Packet (record { head = headAt L s; records = o .records; cells = o .cells })
+    unfolding readContent packetRead
+    says-there =
+        let f = found s (readContent L s) o h in
+        let a = then-accepts (readPacket L s) _ (f .says) (f .reads) in
+        let n : Answer L s (a .0) = answer-iff L s (a .0) .0 (a .1) in
+        let same : headAt L s ≡ headOf (f .says) = (ap (λ (y : Packet). headOf (content y)) (n .read)) ∙ ap headOf (accepted-inj (a .2)) in
+        ap readOf (f .reads)
+        ∙ λ i. read.Packet (record { head = sym same i; records = f .outline i .records; cells = f .outline i .cells })

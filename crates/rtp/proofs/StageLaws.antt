@@ -104,14 +104,14 @@ module _ (L : Layout) where
 
             -- the packet is accepted: what it says, as the code finds it
             pub accepted-run : lengthField s ≤ used .0
-                → checkedOf L s (readContent L s) ≡ checked.Packet (record { summary = record { head = headAt L s; records = ancCount s; cells = cells }; at = runAt L s; length = record { 0 = lengthField s } })
+                → checkedOf L s (readContent L s) ≡ checked.Packet (record { header = record { 0 = headerSize s }; length = record { 0 = lengthField s }; records = ancCount s; cells = cells })
             unfolding readRecords packetRead
             accepted-run l =
                 let r : Ran = run-found in
                 let t : eqb (length (r .rest)) 0 ≡ true = eq-eqb (length (r .rest)) 0 (omega (arith, r .left)) in
                 let e : readContent L s ≡ accepted (content (packetRead L (r .rs) s)) = past ∙ rw (r .ran, t) in
                 ap (checkedOf L s) e
-                ∙ λ i. checked.Packet (record { summary = record { head = headAt L s; records = r .count i; cells = sym (r .size) i }; at = runAt L s; length = record { 0 = lengthField s } })
+                ∙ λ i. checked.Packet (record { header = record { 0 = headerSize s }; length = record { 0 = lengthField s }; records = r .count i; cells = sym (r .size) i })
 
   -- the stages that came before the ANC data packets, passed
   pub record Front (s : List ℕ) (n m : ℕ) : Type 0 where

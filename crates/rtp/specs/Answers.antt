@@ -9,7 +9,7 @@ use Rattle.wire.specs.Bits.{overwrite}
 use Rattle.wire.specs.Layout.{Layout}
 use Rattle.wire.specs.Result.{Result, refused, accepted, noRefusal, judge}
 use Rattle.wire.specs.Cells.{listOf}
-use Rattle.wire.specs.Packet.{Content, content, packetRead, headerSize, runAt, lengthField, headerChecks, paddingChecks, payloadChecks}
+use Rattle.wire.specs.Packet.{Content, content, packetRead, headerSize, lengthField, headerChecks, paddingChecks, payloadChecks}
 use Rattle.rtp.specs.declared.packet.Head.{Head}
 use Rattle.rtp.specs.declared.packet.Summary.{Summary}
 use Rattle.rtp.specs.declared.packet.Read.{Read}
@@ -48,10 +48,17 @@ pub record SizeFound (s : List ℕ) (size : ℕ) : Type 0 where
   pub whole : headerSize s ≤ length s → size ≡ headerSize s
   pub cut : length s < headerSize s → length s < size
 
--- a packet checked, up to 13: the refusal, or what it says and where its ANC data packets stand
+-- a packet checked, up to 13: the refusal, or where its payload header and its ANC data packets stand, and their counts
 abbrev pub checkedOf : Layout → List ℕ → Result Content → Checked
 checkedOf L s (refused x) = checked.Refused x
-checkedOf L s (accepted k) = checked.Packet (record { summary = summaryOf k; at = runAt L s; length = record { 0 = lengthField s } })
+checkedOf L s (accepted k) =
+    checked.Packet
+    (record {
+      header = record { 0 = headerSize s };
+      length = record { 0 = lengthField s };
+      records = length (k .records);
+      cells = length (listOf (k .records));
+    })
 
 -- "A refusal returns its number and an index": the one that the check gave
 abbrev pub checkedRefusal : Checked → Refusal

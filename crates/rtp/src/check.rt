@@ -5,10 +5,11 @@ ghost use lib.ListN.{length};
 ghost use Rattle.wire.specs.Layout.{payloadHeaderSize};
 ghost use Rattle.wire.specs.Packet.{headerLeast, headerSize, readContent};
 ghost use Rattle.wire.specs.Result.{accepted};
-ghost use Rattle.rtp.specs.Answers.{cellsAfter, checkedOf, frontChecked, headAt};
+ghost use Rattle.rtp.specs.Answers.{cellsAfter, checkedOf, frontChecked, headAt, readOf};
 use crate::packet::Checked;
 use crate::packet::Head;
 use crate::packet::Outline;
+use crate::packet::Read;
 use crate::packet::Summary;
 use crate::stages::check_header;
 use crate::stages::check_padding;
@@ -71,16 +72,11 @@ fn check_packets(layout: Layout, octets: &[u8], header: OctetCount, size: OctetC
             index: 0,
         });
     }
-    let head = head_at(layout, octets, header);
-    let summary = Summary {
-        head,
-        records: count,
-        cells,
-    };
     Checked::Packet(Outline {
-        summary,
-        at,
+        header,
         length: size,
+        records: count as usize,
+        cells,
     })
 }
 
@@ -106,12 +102,24 @@ pub fn check(layout: Layout, octets: &[u8]) -> Checked
 // Writes the cells of a packet that `check` accepted to the first cells.
 pub fn read_records(layout: Layout, octets: &[u8], outline: Outline, cells: &mut [u16])
     requires { ⌜ checkedOf layout (now octets) (readContent layout (now octets)) ≡ Checked.Packet outline ⌝ }
-    requires { ⌜ outline .summary .cells ≤ length (now cells) ⌝ }
+    requires { ⌜ outline .cells ≤ length (now cells) ⌝ }
     ensures { λ r. ⌜ now (cells .exit) ≡ cellsAfter (readContent layout (now (octets .entry))) (now (cells .entry)) ⌝ }
 {
-    let summary = outline.summary;
-    let at = outline.at;
+    let header = outline.header;
+    let at = header.0 + payload_header_size(layout);
     let length = outline.length;
     let end = at + length.0;
-    read_run(layout, &octets[at..end], summary.records as usize, cells);
+    read_run(layout, &octets[at..end], outline.records, cells);
+}
+
+// What a packet says that `check` accepted, with its counts. The six values are read where they stand.
+pub fn summary_at(layout: Layout, octets: &[u8], outline: Outline) -> Summary
+    requires { ⌜ checkedOf layout (now octets) (readContent layout (now octets)) ≡ Checked.Packet outline ⌝ }
+    ensures { λ r. ⌜ readOf (readContent layout (now (octets .entry))) ≡ Read.Packet r ⌝ }
+{
+    Summary {
+        head: head_at(layout, octets, outline.header),
+        records: outline.records as u8,
+        cells: outline.cells,
+    }
 }

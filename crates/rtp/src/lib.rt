@@ -10,6 +10,7 @@ pub mod stages;
 
 use check::check;
 use check::read_records;
+use check::summary_at;
 use packet::Checked;
 use packet::Read;
 use wire::layout::Layout;
@@ -24,13 +25,12 @@ pub fn read(layout: Layout, octets: &[u8], cells: &mut [u16]) -> Read
     let Checked::Packet(outline) = checked else {
         return Read::Refused(checked.refusal());
     };
-    let summary = outline.summary;
-    if cells.len() < summary.cells {
+    if cells.len() < outline.cells {
         return Read::Refused(Refusal {
             number: Refusal::LIST_TOO_SHORT,
             index: 0,
         });
     }
     read_records(layout, octets, outline, cells);
-    Read::Packet(summary)
+    Read::Packet(summary_at(layout, octets, outline))
 }

@@ -28,11 +28,12 @@ pub enum Read {
     Refused(Refusal),
 }
 
-// A packet that was checked: what it says, where its ANC data packets start, and their octets.
+// A packet that was checked: the octets before its payload header, those of its ANC data packets, and how many records and cells these are.
 pub struct Outline {
-    pub summary: Summary,
-    pub at: usize,
+    pub header: OctetCount,
     pub length: OctetCount,
+    pub records: usize,
+    pub cells: usize,
 }
 
 pub enum Checked {

@@ -1,9 +1,8 @@
 // Numbers of whole octets, most significant first.
 ghost use mathlib.Core.Path.{_≡_};
-ghost use mathlib.Core.List.{[], _∷_};
-ghost use Prim.Native.Nat.{_+_, _*_, _/_, _%_, _^_, _<_, _≤_};
+ghost use Prim.Native.Nat.{_+_, _*_, _≤_};
 ghost use lib.ListN.{length};
-ghost use Rattle.wire.specs.Bits.{bit, bits, bitsAt, overwrite, quadOf, splice, toBits};
+ghost use Rattle.wire.specs.Bits.{bit, bitsAt, overwrite, quadOf};
 ghost use Rattle.words.specs.Octet.{reversedOf};
 
 // 1 for true and 0 for false.
@@ -20,7 +19,7 @@ pub fn wide(x: u8) -> usize
 }
 
 // Two octets as one number.
-pub(crate) fn pair(a: u8, b: u8) -> u16
+pub fn pair(a: u8, b: u8) -> u16
     ensures { λ r. ⌜ r ≡ a * 256 + b ⌝ }
 {
     (a as u16) * 256 + (b as u16)
@@ -61,40 +60,6 @@ pub fn quad_at(octets: &[u8], at: usize) -> u32
     ensures { λ r. ⌜ r ≡ bitsAt (now (octets .entry)) (8 * at) 32 ⌝ }
 {
     reversed(back_at(octets, at))
-}
-
-fn joined(q: u32, o: u8) -> u64
-    ensures { λ r. ⌜ r ≡ q * 256 + o ⌝ }
-{
-    (q as u64) * 256 + (o as u64)
-}
-
-// The five octets at `at`.
-pub fn five_at(octets: &[u8], at: usize) -> u64
-    requires { ⌜ at + 5 ≤ length (now octets) ⌝ }
-    ensures { λ r. ⌜ r ≡ bitsAt (now (octets .entry)) (8 * at) 40 ⌝ }
-{
-    joined(quad_at(octets, at), octets[at + 4])
-}
-
-// Stores the four octets of a number from `at` on, the last one most significant.
-fn store_back(octets: &mut [u8], at: usize, x: u32)
-    requires { ⌜ at + 4 ≤ length (now octets) ⌝ }
-    ensures { λ r. ⌜ now (octets .exit) ≡ splice (now (octets .entry)) at (x % 256 ∷ x / 256 % 256 ∷ x / 65536 % 256 ∷ x / 16777216 ∷ []) ⌝ }
-{
-    octets[at] = (x % 256) as u8;
-    octets[at + 1] = (x / 256 % 256) as u8;
-    octets[at + 2] = (x / 65536 % 256) as u8;
-    octets[at + 3] = (x / 16777216) as u8;
-}
-
-// Stores a number of five octets from `at` on. The compiler makes one swap of octets and one store of the first four.
-pub fn store_five(octets: &mut [u8], at: usize, x: u64)
-    requires { ⌜ (at + 5 ≤ length (now octets)) × (x < 2 ^ 40) ⌝ }
-    ensures { λ r. ⌜ bits (now (octets .exit)) ≡ splice (bits (now (octets .entry))) (8 * at) (toBits 40 x) ⌝ }
-{
-    store_back(octets, at, reversed((x / 256) as u32));
-    octets[at + 4] = (x % 256) as u8;
 }
 
 // Writes all of `from` to the first octets of `to`.

@@ -2,15 +2,17 @@
 //! the same packets of RFC 8331's layout in the same run, and a plain copy of
 //! their octets.
 //!
-//! Each measurement is the best of some rounds; the three sides take turns
+//! Each measurement is the best of some rounds; the four sides take turns
 //! within a round. The archive is called through the C boundary, the
-//! reference through its own functions, kept from being inlined. No side
-//! clears a buffer between calls.
+//! reference through its own functions, kept from being inlined, and once
+//! more behind the same boundary. No side clears a buffer between calls. The
+//! varied packets are so many, of counts and sizes drawn at random, that no
+//! branch predictor learns them.
 
 use std::hint::black_box;
 use std::time::Instant;
 
-use differential::{Archive, Head, Side, ANSWER, RFC8331, STATE};
+use differential::{Archive, Behind, Head, Side, ANSWER, RFC8331, STATE};
 use reference::anc::Limits;
 use reference::depacketizer::{self, State};
 use reference::packet;
@@ -57,8 +59,8 @@ fn realistic() -> Input {
     }
 }
 
-/// Fields of one packet each, all with so many records of n words.
-fn alike(name: &'static str, fields: usize, records: usize, n: usize) -> Input {
+/// Fields of one packet each, with the lists that are drawn.
+fn fields_of(name: &'static str, fields: usize, list: impl Fn(&mut Random) -> Vec<u16>) -> Input {
     let mut r = Random::new(2);
     let mut packets = Vec::new();
     for field in 0..fields as u32 {
@@ -70,7 +72,7 @@ fn alike(name: &'static str, fields: usize, records: usize, n: usize) -> Input {
             timestamp: 1501 * field,
             f: 2 + field as u8 % 2,
         };
-        let cells: Vec<u16> = (0..records).flat_map(|_| record(&mut r, n)).collect();
+        let cells = list(&mut r);
         let octets = Parts::plain(head, &cells).assemble();
         packets.push(Packet {
             head,
@@ -83,6 +85,26 @@ fn alike(name: &'static str, fields: usize, records: usize, n: usize) -> Input {
         packets,
         fields,
     }
+}
+
+/// Every packet with so many records of n words.
+fn alike(name: &'static str, fields: usize, records: usize, n: usize) -> Input {
+    fields_of(name, fields, |r| {
+        (0..records).flat_map(|_| record(r, n)).collect()
+    })
+}
+
+/// Up to twelve records, of up to 63 words each.
+fn varied() -> Input {
+    fields_of("varied", 4_000, |r| {
+        let records = r.below(13);
+        (0..records)
+            .flat_map(|_| {
+                let n = r.below(64);
+                record(r, n)
+            })
+            .collect()
+    })
 }
 
 /// Buffers that one side uses throughout, and the sum of what its calls
@@ -112,7 +134,14 @@ fn reference_read(bench: &mut Bench, packet: &Packet) {
 }
 
 #[inline(never)]
-fn archive_write(bench: &mut Bench, packet: &Packet) {
+fn behind_read(bench: &mut Bench, packet: &Packet) {
+    let octets = black_box(&packet.octets);
+    let number = Behind::read(RFC8331, octets, &mut bench.cells, &mut bench.answer);
+    bench.sum += number as u64 + black_box(&bench.answer)[7];
+}
+
+#[inline(always)]
+fn head_of(packet: &Packet) -> Head {
     let packet::Head {
         source,
         payload_type,
@@ -122,16 +151,27 @@ fn archive_write(bench: &mut Bench, packet: &Packet) {
         f,
     } = packet.head;
     let marker = marker as u8;
-    let head = Head {
+    Head {
         source,
         payload_type,
         marker,
         number,
         timestamp,
         f,
-    };
-    let cells = black_box(&packet.cells);
+    }
+}
+
+#[inline(never)]
+fn archive_write(bench: &mut Bench, packet: &Packet) {
+    let (head, cells) = (head_of(packet), black_box(&packet.cells));
     let number = Archive::write(RFC8331, &head, cells, &mut bench.out, &mut bench.answer);
+    bench.sum += number as u64 + black_box(&bench.answer)[0];
+}
+
+#[inline(never)]
+fn behind_write(bench: &mut Bench, packet: &Packet) {
+    let (head, cells) = (head_of(packet), black_box(&packet.cells));
+    let number = Behind::write(RFC8331, &head, cells, &mut bench.out, &mut bench.answer);
     bench.sum += number as u64 + black_box(&bench.answer)[0];
 }
 
@@ -156,6 +196,19 @@ fn archive_arrive(bench: &mut Bench, packet: &Packet) {
         ..
     } = bench;
     let number = Archive::arrive(RFC8331, state, octets, cells, answer);
+    bench.sum += number as u64 + black_box(&bench.answer)[4];
+}
+
+#[inline(never)]
+fn behind_arrive(bench: &mut Bench, packet: &Packet) {
+    let octets = black_box(&packet.octets);
+    let Bench {
+        state,
+        cells,
+        answer,
+        ..
+    } = bench;
+    let number = Behind::arrive(RFC8331, state, octets, cells, answer);
     bench.sum += number as u64 + black_box(&bench.answer)[4];
 }
 
@@ -212,35 +265,42 @@ impl Bench {
     }
 }
 
-/// Both sides' buffers and sums after one pass.
-fn check(input: &Input, archive: Step, reference: Step) {
-    let (mut ours, mut theirs) = (Bench::new(), Bench::new());
-    ours.pass(input, archive);
-    theirs.pass(input, reference);
-    assert_eq!(ours.sum, theirs.sum);
-    assert!(ours.cells == theirs.cells && ours.out == theirs.out);
+/// All sides' buffers and sums after one pass.
+fn check(input: &Input, steps: &[Step]) {
+    let passed = steps.iter().map(|&step| {
+        let mut bench = Bench::new();
+        bench.pass(input, step);
+        bench
+    });
+    let passed: Vec<Bench> = passed.collect();
+    for bench in &passed[1..] {
+        assert_eq!(bench.sum, passed[0].sum);
+        assert!(bench.cells == passed[0].cells && bench.out == passed[0].out);
+    }
 }
 
-fn measure(input: &Input, what: &str, archive: Step, reference: Step) {
-    check(input, archive, reference);
-    let steps = [archive, reference, copy];
+fn measure(input: &Input, what: &str, archive: Step, reference: Step, behind: Step) {
+    let steps = [archive, reference, behind, copy];
+    check(input, &steps[..3]);
     let mut benches = steps.map(|_| Bench::new());
-    let mut best = [f64::INFINITY; 3];
+    let mut best = [f64::INFINITY; 4];
     for _ in 0..ROUNDS {
         for ((step, bench), best) in steps.into_iter().zip(&mut benches).zip(&mut best) {
             *best = best.min(bench.time(input, step));
         }
     }
-    let [ours, theirs, copied] = best;
+    let [ours, theirs, behind, copied] = best;
     let name = format!("{} {what}", input.name);
-    let (fields, octets) = (input.fields as f64, input.octets() as f64);
+    let (packets, octets) = (input.packets.len() as f64, input.octets() as f64);
     println!(
-        "{name:<25}{:>10.0}{:>8.0}{:>11.0}{:>8.0}{:>12.2}{:>8.3}",
-        fields / ours,
+        "{name:<23}{:>10.1}{:>8.0}{:>8.0}{:>8.0}{:>8.0}{:>9.2}{:>11.2}{:>9.3}",
+        1e9 * ours / packets,
         octets / ours / 1e6,
         octets / theirs / 1e6,
+        octets / behind / 1e6,
         octets / copied / 1e6,
         theirs / ours,
+        behind / ours,
         copied / ours,
     );
 }
@@ -248,6 +308,7 @@ fn measure(input: &Input, what: &str, archive: Step, reference: Step) {
 fn main() {
     let inputs = [
         realistic(),
+        varied(),
         alike("255 words", 20, 62, 255),
         alike("tiny", 4_000, 1, 0),
     ];
@@ -264,15 +325,28 @@ fn main() {
         );
     }
     println!("Best of {ROUNDS} rounds. No side clears its buffers between calls.");
-    println!("MB/s: millions of packet octets a second. The last two: the archive's");
-    println!("speed as a multiple of the reference's, and of copying the octets.\n");
+    println!("Nanoseconds a packet; millions of packet octets a second of the");
+    println!("archive, the reference, the reference behind the same C boundary,");
+    println!("and a copy; and the archive's speed by each of these three.\n");
     println!(
-        "{:<25}{:>10}{:>8}{:>11}{:>8}{:>12}{:>8}",
-        "archive", "fields/s", "MB/s", "ref. MB/s", "copy", "of ref.", "of copy"
+        "{:<23}{:>10}{:>8}{:>8}{:>8}{:>8}{:>9}{:>11}{:>9}",
+        "archive", "ns/packet", "MB/s", "ref.", "behind", "copy", "by ref.", "by behind", "by copy"
     );
     for input in &inputs {
-        measure(input, "reader", archive_read, reference_read);
-        measure(input, "writer", archive_write, reference_write);
-        measure(input, "depacketizer", archive_arrive, reference_arrive);
+        measure(input, "reader", archive_read, reference_read, behind_read);
+        measure(
+            input,
+            "writer",
+            archive_write,
+            reference_write,
+            behind_write,
+        );
+        measure(
+            input,
+            "depacketizer",
+            archive_arrive,
+            reference_arrive,
+            behind_arrive,
+        );
     }
 }

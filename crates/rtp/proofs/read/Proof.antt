@@ -20,21 +20,24 @@ returns c =
 
 returns-2 : tie.Need-returns-2
 returns-2 c =
-    let a = c .before .before .before .before .before .before .before .before .before .args in
-    let e = into-short (a .layout) (a .octets .now) _ (sym (c .before .before .before .before .before .before .check .ensures) ∙ c .before .before .before .before .checked .given .1) (length (a .cells .now)) (c .if1 .taken) in
+    let a = c .before .before .before .before .before .before .before .before .args in
+    let e = into-short (a .layout) (a .octets .now) _ (sym (c .before .before .before .before .before .check .ensures) ∙ c .before .before .before .checked .given .1) (length (a .cells .now)) (c .if1 .taken) in
     (ap readOf (sym e), ap (λ (r : Result Content). cellsAfter r (a .cells .now)) (sym e))
 
 read-records-requires : tie.Need-read-records-requires
-read-records-requires c κs = (sym (c .before .before .before .before .before .before .before .check .ensures) ∙ c .before .before .before .before .before .checked .given .1, c .before .if1 .left)
+read-records-requires c κs = (sym (c .before .before .before .before .before .before .check .ensures) ∙ c .before .before .before .before .checked .given .1, c .before .if1 .left)
+
+summary-at-requires : tie.Need-summary-at-requires
+summary-at-requires c κs = sym (c .before .before .before .before .before .before .before .before .before .check .ensures) ∙ c .before .before .before .before .before .before .before .checked .given .1
 
 returns-3 : tie.Need-returns-3
 returns-3 c =
     let a = c .before .before .before .before .before .before .before .before .before .before .before .before .before .args in
-    let e = into-fits (a .layout) (a .octets .now) _ (sym (c .before .before .before .before .before .before .before .before .before .before .check .ensures) ∙ c .before .before .before .before .before .before .before .before .checked .given .1) (length (a .cells .now)) (c .before .before .before .before .if1 .left) in
-    (sym (ap readOf (e .0) ∙ e .1), c .before .before .read-records .ensures ∙ ap (λ (r : Result Content). cellsAfter r (a .cells .now)) (sym (e .0)))
+    let e = into-fits (a .layout) (a .octets .now) _ (sym (c .before .before .before .before .before .before .before .before .before .before .check .ensures) ∙ c .before .before .before .before .before .before .before .before .checked .given .1) (length (a .cells .now)) (c .before .before .before .before .before .if1 .left) in
+    (sym (ap readOf e ∙ c .summary-at .ensures), c .before .before .before .read-records .ensures ∙ ap (λ (r : Result Content). cellsAfter r (a .cells .now)) (sym e))
 
 pub read-spec : {M : Type 1} → statement M
 read-spec =
     tie.close
     (tie.spec (λ c κs. search needs) (λ c. search needs) (λ c. search needs) (λ c κs. search needs) returns returns-2 read-records-requires
-    (λ c. search needs) returns-3)
+    summary-at-requires (λ c. search needs) returns-3)

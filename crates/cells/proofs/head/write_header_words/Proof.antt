@@ -3,7 +3,7 @@
 use borrow.Author.Needs.{needs}
 use mathlib.Core.Path.{_≡_, ap, sym, _∙_, subst}
 use mathlib.Core.List.{List, [], _∷_}
-use Prim.Native.Nat.{ℕ, _^_, _<_}
+use Prim.Native.Nat.{ℕ, _^_, _%_, _<_}
 use native.Mathlib.Omega.{arith}
 use lib.ListN.{getD}
 use Rattle.wire.specs.Bits.{Below, bits, row, fieldBits, splice}
@@ -57,24 +57,24 @@ head-is c =
     ap (λ (n : ℕ). getD table (getD l 5 0) 0 ∷ getD table (getD l 6 0) 0 ∷ getD table n 0 ∷ []) (sym (length-words l (c .pre .1 .0)))
     ∙ entries-are table (cellRecord l) (c .pre .0 .0) (c .pre .0 .1)
 
-write-singly-requires : tie.Need-write-singly-requires
-write-singly-requires c κs =
+write-few-requires : tie.Need-write-few-requires
+write-few-requires c κs =
     let s = c .before .before .before .before .before .before .before .before .before .before in
     let f = s .pre .0 .1 in
-    (omega arith, subst (Below (2 ^ wordBits)) (sym (head-is s)) (header-lt _ (f .did), (header-lt _ (f .sdid), (header-lt _ (f .count), tt))))
+    (omega arith, subst (Below (2 ^ wordBits)) (sym (head-is s)) (header-lt _ (f .did), (header-lt _ (f .sdid), (header-lt _ (f .count), tt))), omega arith)
 
 returns : tie.Need-returns
 returns c =
     let w = c .before .before .before .before in
     let s = w .before .before .before .before .before .before .before .before .before .before .before in
     let o = s .args .octets .now in (
-      c .sum-cells .ensures ∙ ap sumLow (head-is s),
-      w .write-singly .ensures ∙ ap (λ (ws : List ℕ). splice (bits o) (s .args .at) (fieldBits (row wordBits ws))) (head-is s),
+      c .sum-cells .ensures ∙ ap (λ (ws : List ℕ). sumLow ws % 512) (head-is s),
+      w .write-few .ensures ∙ ap (λ (ws : List ℕ). splice (bits o) (s .args .at) (fieldBits (row wordBits ws))) (head-is s),
     )
 
 pub write-header-words-spec : {M : Type 1} → statement M
 write-header-words-spec =
     tie.close
     (tie.spec (λ c. search needs) cast-did (λ c. search needs) cast-sdid (λ c. search needs) (λ c. search needs) mul-t13 element-copy-out-t10 mul-t16
-    element-copy-out-t19 (λ c. search needs) element-copy-out-t23 (λ c. search needs) write-singly-requires (λ c. search needs)
+    element-copy-out-t19 (λ c. search needs) element-copy-out-t23 (λ c. search needs) write-few-requires (λ c. search needs)
     (λ c κs. search needs) (λ c. search needs) returns)

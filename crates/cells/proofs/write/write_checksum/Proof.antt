@@ -1,21 +1,22 @@
 -- `write_checksum` stores the checksum word behind a row of words.
 -- By the sum of that row, which is nothing where there are no words.
 use borrow.Author.Needs.{needs}
-use mathlib.Core.Path.{_≡_, ap, ap₂, sym, _∙_}
-use mathlib.Core.List.{List, []}
-use Prim.Native.Nat.{ℕ, _+_, _*_, _^_, _<_}
+use mathlib.Core.Path.{_≡_, refl, ap, ap₂, sym, _∙_}
+use mathlib.Core.List.{List, [], _∷_}
+use Prim.Native.Nat.{ℕ, _+_, _*_, _%_, _^_, _<_}
 use native.Mathlib.Omega.{arith}
 use lib.ListN.{length}
 use Rattle.wire.specs.Bits.{bits, toBits, splice}
 use Rattle.wire.specs.Words.{wordBits, sumLow, checksumWord}
 use Rattle.wire.proofs.WordLaws.{checksum-lt}
-use Rattle.cells.proofs.PacketBits.{sum-small}
+use Rattle.words.proofs.SumLaws.{checksum-agree, low-second}
 use Rattle.cells.proofs.write.write_checksum.Statement.{statement}
 use Rattle.cells.proofs.write.write_checksum.Tie as tie
 
 -- without words the sum is that of the words before them
 none : (words : List ℕ) → length words ≡ 0 → sumLow words ≡ 0
-none words e = omega (arith, sum-small words)
+none [] e = refl
+none (w ∷ words) e = absurd (omega arith)
 
 store-requires : tie.Need-store-requires
 store-requires c κs =
@@ -32,7 +33,7 @@ returns c =
     c .before .before .store .ensures ∙ ap₂ (λ (k w : ℕ). splice (bits (a .octets .now)) k (toBits wordBits w)) at sum
 
 add-all : tie.Need-add-all
-add-all c = omega (arith, sum-small (c .before .before .before .before .args .words .now))
+add-all c = omega (arith, c .sum-cells .ensures)
 
 mul-store : tie.Need-mul-store
 mul-store c = omega arith
@@ -50,7 +51,8 @@ returns-2 c =
     let a = c .before .before .before .before .before .before .before .before .before .args in
     let words = a .words .now in
     let sum : c .before .before .before .checksum-word2 .result ≡ checksumWord (a .sum + sumLow words) =
-    c .before .before .before .checksum-word2 .ensures ∙ ap (λ (x : ℕ). checksumWord (a .sum + x)) (c .before .before .before .before .before .sum-cells .ensures) in
+    c .before .before .before .checksum-word2 .ensures ∙ ap (λ (x : ℕ). checksumWord (a .sum + x)) (c .before .before .before .before .before .sum-cells .ensures)
+    ∙ checksum-agree (a .sum + sumLow words % 512) (a .sum + sumLow words) (low-second (a .sum) (sumLow words)) in
     c .before .before .store2 .ensures ∙ ap (λ (w : ℕ). splice (bits (a .octets .now)) (a .at + wordBits * length words) (toBits wordBits w)) sum
 
 pub write-checksum-spec : {M : Type 1} → statement M

@@ -15,8 +15,7 @@ use Rattle.wire.proofs.SizeLaws.{least-size, size-bits}
 use Rattle.wire.proofs.Window.{below-all}
 use Rattle.record.proofs.FrontLaws.{length-words}
 use Rattle.words.specs.Word.{WordsFit}
-use Rattle.cells.specs.Packet.{headWords}
-use Rattle.cells.proofs.PacketBits.{sum-small, written}
+use Rattle.cells.proofs.PacketBits.{written}
 use Rattle.cells.proofs.write.write_packet.Statement.{statement}
 use Rattle.cells.proofs.write.write_packet.Tie as tie
 
@@ -71,7 +70,7 @@ write-user-words-requires c κs =
       (
         subst (λ (l : List ℕ). length l < headerNumbers) e (f .count),
         subst (Below (2 ^ wordBits)) e (f .words),
-        omega (arith, c .before .before .before .before .write-head .ensures .0, sum-small (headWords r)),
+        omega (arith, c .before .before .before .before .write-head .ensures .0),
       ),
       subst (λ (l : List ℕ). WordsFit o (wordsAt L) (length l + 1)) e fit,
     )

@@ -5,9 +5,10 @@ use mathlib.Core.Path.{_≡_, ap, sym, _∙_}
 use mathlib.Core.Bool.{Bool}
 use mathlib.Core.List.{[], _∷_}
 use Rattle.wire.specs.Packet.{readContent}
-use Rattle.rtp.specs.declared.packet.Outline.{Outline}
+use Rattle.rtp.specs.Answers.{summaryOf}
+use Rattle.rtp.specs.declared.packet.Summary.{Summary}
 use Rattle.rtp.specs.declared.packet.Checked.the-variants as checked
-use Rattle.rtp.proofs.ReadLaws.{refused-is, Found, found}
+use Rattle.rtp.proofs.ReadLaws.{refused-is, Found, found, summary-is}
 use Rattle.depacketizer.specs.declared.admit.Stage.the-variants as stage
 use Rattle.stream.specs.Step.{sound, openedChecks}
 use Rattle.depacketizer.specs.Answers.{stageOf, stageRefusal}
@@ -25,12 +26,18 @@ passes c = first (c .before .before) ∙ c .enum-told .given .1
 says : (c : tie.After-known-told) → let a = c .before .before .before .before .before .before .before .before .before .args in Found (a .layout) (a .octets .now) (readContent (a .layout) (a .octets .now)) (c .before .checked .given .0 .0)
 says c = found _ _ _ _ (sym (c .before .before .before .check .ensures) ∙ c .before .checked .given .1)
 
+said : (c : tie.After-summary-at) → summaryOf (says (c .before) .says) ≡ c .summary-at .result
+said c = summary-is _ _ _ (says (c .before) .reads) (c .summary-at .ensures)
+
 -- the stage of 30 and 31
 second : (c : tie.After-check-opened) → let a = c .before .before .before .before .before .before .before .before .before .before .before .args in
     stageOf (openedChecks (a .state .source) (a .state .«payload_type») (says (c .before .before) .says .source) (says (c .before .before) .says .type)) ≡ c .check-opened .result
 second c =
     let a = c .before .before .before .before .before .before .before .before .before .before .before .args in
-    ap (λ (y : Outline). stageOf (openedChecks (a .state .source) (a .state .«payload_type») (y .summary .head .source) (y .summary .head .«payload_type»))) (says (c .before .before) .outline) ∙ sym (c .check-opened .ensures)
+    ap (λ (y : Summary). stageOf (openedChecks (a .state .source) (a .state .«payload_type») (y .head .source) (y .head .«payload_type»))) (said (c .before)) ∙ sym (c .check-opened .ensures)
+
+summary-at-requires : tie.Need-summary-at-requires
+summary-at-requires c κs = sym (c .before .before .before .check .ensures) ∙ c .before .checked .given .1
 
 returns : tie.Need-returns
 returns c =
@@ -63,5 +70,5 @@ pub admit-spec : {M : Type 1} → statement M
 admit-spec =
     tie.close
     (tie.spec (λ c κs. search needs) (λ c κs. search needs) (λ c. search needs) (λ c. search needs) (λ c κs. search needs) returns (λ c κs. search needs)
-    (λ c. search needs) (λ c. search needs) returns-2 (λ c κs. search needs) (λ c. search needs) (λ c. search needs)
+    (λ c. search needs) (λ c. search needs) returns-2 summary-at-requires (λ c κs. search needs) (λ c. search needs) (λ c. search needs)
     (λ c κs. search needs) returns-3 returns-4)

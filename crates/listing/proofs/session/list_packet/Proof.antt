@@ -4,28 +4,23 @@ use borrow.Author.Needs.{needs}
 use mathlib.Core.Path.{_≡_, ap, sym, _∙_}
 use Rattle.wire.specs.Layout.{Layout}
 use Rattle.wire.specs.Packet.{readContent}
-use Rattle.rtp.specs.Answers.{checkedOf}
 use Rattle.stream.specs.Step.{step}
 use Rattle.depacketizer.specs.declared.state.Arrival.{Arrival}
 use Rattle.depacketizer.specs.Answers.{arrivalOf}
 use Rattle.text.proofs.PutLaws.{same}
 use Rattle.listing.specs.declared.session.Session.the-variants as session
 use Rattle.lines.specs.Lines.{answerText, refusedText}
-use Rattle.listing.specs.Session.{Turn, layoutIn}
-use Rattle.listing.specs.Answers.{checkedNumber, enteredBy, openedRefusal}
-use Rattle.listing.proofs.TurnLaws.{number-is, turn-refused, turn-arrived}
+use Rattle.listing.specs.Session.{Turn, layoutIn, numberOf, entered}
+use Rattle.listing.specs.Answers.{openedRefusal}
+use Rattle.listing.proofs.TurnLaws.{turn-refused, turn-arrived}
 use Rattle.listing.proofs.session.list_packet.Statement.{statement}
 use Rattle.listing.proofs.session.list_packet.Tie as tie
-
--- what the check gave, in the session's layout
-checks : (c : tie.After-check) → c .check .result ≡ checkedOf (layoutIn (c .before .before .before .before .before .args .session)) (c .before .before .before .before .before .args .octets .now) (readContent (layoutIn (c .before .before .before .before .before .args .session)) (c .before .before .before .before .before .args .octets .now))
-checks c = c .check .ensures ∙ ap (λ (L : Layout). checkedOf L (c .before .before .before .before .before .args .octets .now) (readContent L (c .before .before .before .before .before .args .octets .now))) (c .before .layout-of .ensures)
 
 returns : tie.Need-returns
 returns c =
     let a = c .before .before .before .before .before .before .before .before .before .before .before .before .before .before .args in
     let o = c .before .before .before .before .before .enum-told .given .1 in
-    let t = turn-refused (a .session) (a .octets .now) (a .store .now) (c .before .before .before .before .before .before .before .enter .result) (c .before .before .before .before .before .before .before .enter .ensures ∙ ap (enteredBy (a .session)) (checks (c .before .before .before .before .before .before .before .before .before))) _ o in (
+    let t = turn-refused (a .session) (a .octets .now) (a .store .now) (c .before .before .before .before .before .before .before .enter .result) (c .before .before .before .before .before .before .before .enter .ensures ∙ ap (λ (L : Layout). entered (a .session) (readContent L (a .octets .now))) (c .before .before .before .before .before .before .before .before .before .before .layout-of .ensures)) _ o in (
       sym (ap (λ (x : Turn). x .session) t),
       (sym (ap (λ (x : Turn). x .store) t), same (ap refusedText (c .before .before .before .refusal-of .ensures ∙ ap openedRefusal o) ∙ sym (ap (λ (x : Turn). x .text) t)) (c .before .before .put-refused .ensures)),
     )
@@ -34,8 +29,8 @@ returns-2 : tie.Need-returns-2
 returns-2 c =
     let a = c .before .before .before .before .before .before .before .before .before .before .before .before .before .before .before .before .before .before .before .before .args in
     let e = c .before .before .before .before .before .before .before .before .before .before .before .before .before .before .before .before .layout-of .ensures in
-    let t = turn-arrived (a .session) (a .octets .now) (a .store .now) (c .before .before .before .before .before .before .before .before .before .before .before .before .before .enter .result) (c .before .before .before .before .before .before .before .before .before .before .before .before .before .enter .ensures ∙ ap (enteredBy (a .session)) (checks (c .before .before .before .before .before .before .before .before .before .before .before .before .before .before .before))) (c .before .before .before .before .before .before .before .before .before .before .before .opened .given .0 .0) (c .before .before .before .before .before .before .before .before .before .before .before .opened .given .1) in
-    let n = c .before .before .before .before .before .before .before .before .before .before .before .before .before .before .number-of .ensures ∙ ap checkedNumber (checks (c .before .before .before .before .before .before .before .before .before .before .before .before .before .before .before)) ∙ number-is (layoutIn (a .session)) (a .octets .now) (readContent (layoutIn (a .session)) (a .octets .now)) in
+    let t = turn-arrived (a .session) (a .octets .now) (a .store .now) (c .before .before .before .before .before .before .before .before .before .before .before .before .before .enter .result) (c .before .before .before .before .before .before .before .before .before .before .before .before .before .enter .ensures ∙ ap (λ (L : Layout). entered (a .session) (readContent L (a .octets .now))) e) (c .before .before .before .before .before .before .before .before .before .before .before .opened .given .0 .0) (c .before .before .before .before .before .before .before .before .before .before .before .opened .given .1) in
+    let n = c .before .before .before .before .before .before .before .before .before .before .before .before .before .before .number-of .ensures ∙ ap (λ (L : Layout). numberOf (readContent L (a .octets .now))) e in
     let d = c .before .before .before .before .before .before .before .before .before .before .before .opened .given .0 .0 in
     let r0 = c .before .before .before .before .before .before .before .before .arrive .ensures .0 ∙ ap (λ (L : Layout). arrivalOf (step (d .state) L (a .octets .now) (a .store .now))) e in
     let r1 = c .before .before .before .before .before .before .before .before .arrive .ensures .1 ∙ ap (λ (L : Layout). step (d .state) L (a .octets .now) (a .store .now) .store) e in (

@@ -86,22 +86,21 @@ returns-2 c =
     (ap (checkedOf L s)
     (refused-left L s (f .header-passed) (f .padding-passed) (f .payload-passed) (below-all s (octet (c .before .before .before .before .before .before .before .before .before .before .before))) _ _ (ran (c .before .before .before .before .before .before) ∙ c .before .before .before .before .run .given .1) (omega (arith, c .if1 .taken))))
 
-head-at-requires : tie.Need-head-at-requires
-head-at-requires c κs = let f = found (c .before .before .before .before .before .before .before .before .before .before .before) in (sym (f .header), f .least, omega (arith, f .whole))
+cast-t12 : tie.Need-cast-t12
+cast-t12 c = omega (arith, octet (c .before .before .before .before .before .before .before .before .before .before .before) (c .before .before .before .before .before .before .before .before .before .before .before .before .args .header .0 + 4))
 
 returns-3 : tie.Need-returns-3
 returns-3 c =
-    let L = c .before .before .before .before .before .before .before .before .before .before .before .before .before .args .layout in
-    let s = c .before .before .before .before .before .before .before .before .before .before .before .before .before .args .octets .now in
-    let f = found (c .before .before .before .before .before .before .before .before .before .before .before .before) in
+    let L = c .before .before .before .before .before .before .before .before .before .before .before .before .args .layout in
+    let s = c .before .before .before .before .before .before .before .before .before .before .before .before .args .octets .now in
+    let f = found (c .before .before .before .before .before .before .before .before .before .before .before) in
     let l = f .length in
-    let e : runAt L s ≡ c .before .before .before .before .before .before .before .before .before .before .before .before .before .args .header .0 + c .before .before .before .before .before .before .before .before .before .before .before .payload-header-size .result = omega (arith, f .header, c .before .before .before .before .before .before .before .before .before .before .before .payload-header-size .ensures) in
     sym
-    (accepted-run L s (f .header-passed) (f .padding-passed) (f .payload-passed) (below-all s (octet (c .before .before .before .before .before .before .before .before .before .before .before .before))) _ _ (ran (c .before .before .before .before .before .before .before) ∙ c .before .before .before .before .before .run .given .1) (omega (arith, c .before .if1 .left))
-    ∙ λ i. checked.Packet (record { summary = record { head = sym (c .head-at .ensures) i; records = counted (c .before .before .before .before .before .before .before .before .before .before .before .before) i; cells = c .before .before .before .before .before .run .given .0 .1 .0 }; at = e i; length = record { 0 = l i } }))
+    (accepted-run L s (f .header-passed) (f .padding-passed) (f .payload-passed) (below-all s (octet (c .before .before .before .before .before .before .before .before .before .before .before))) _ _ (ran (c .before .before .before .before .before .before) ∙ c .before .before .before .before .run .given .1) (omega (arith, c .if1 .left))
+    ∙ λ i. checked.Packet (record { header = record { 0 = f .header i }; length = record { 0 = l i }; records = counted (c .before .before .before .before .before .before .before .before .before .before .before) i; cells = c .before .before .before .before .run .given .0 .1 .0 }))
 
 pub check-packets-spec : {M : Type 1} → statement M
 check-packets-spec =
     tie.close
     (tie.spec (λ c κs. search needs) add-at add-end add-count shared-slice-read-count (λ c. search needs) (λ c. search needs) part-check-run-end cast-check-run
-    (λ c κs. search needs) (λ c. search needs) (λ c. search needs) (λ c κs. search needs) returns returns-2 head-at-requires returns-3)
+    (λ c κs. search needs) (λ c. search needs) (λ c. search needs) (λ c κs. search needs) returns returns-2 cast-t12 returns-3)

@@ -8,22 +8,27 @@ use Rattle.rtp.proofs.ReadLaws.{Outlined, outlined}
 use Rattle.rtp.proofs.check.read_records.Statement.{statement}
 use Rattle.rtp.proofs.check.read_records.Tie as tie
 
-found : (c : tie.After-struct-known) → Outlined (c .before .before .before .before .before .args .layout) (c .before .before .before .before .before .args .octets .now) (c .before .before .before .before .before .args .outline) (c .before .before .before .before .before .pre .0)
-found c = outlined (c .before .before .before .before .before .args .layout) _ _ _ (below-all (c .before .before .before .before .before .args .octets .now) (λ j. c .before .before .before .before .shared-slice-known .given j .fits))
+found : (c : tie.After-shared-slice-known) → Outlined (c .before .args .layout) (c .before .args .octets .now) (c .before .args .outline) (c .before .pre .0)
+found c = outlined (c .before .args .layout) _ _ _ (below-all (c .before .args .octets .now) (λ j. c .shared-slice-known .given j .fits))
+
+add-at : tie.Need-add-at
+add-at c = omega (arith, c .before .payload-header-size .ensures, found (c .before .before .before .before) .whole)
 
 add-end : tie.Need-add-end
-add-end c = omega (arith, found c .whole)
+add-end c = omega (arith, c .before .before .before .payload-header-size .ensures, found (c .before .before .before .before .before .before) .whole)
 
 part-read-run-end : tie.Need-part-read-run-end
-part-read-run-end c = omega (arith, found c .whole)
+part-read-run-end c = omega (arith, c .before .before .before .payload-header-size .ensures, found (c .before .before .before .before .before .before) .whole)
 
 read-run-requires : tie.Need-read-run-requires
-read-run-requires c κs = (found (c .before .before .before) .accepts, omega (arith, found (c .before .before .before) .size))
+read-run-requires c κs =
+    let f = found (c .before .before .before .before .before .before .before .before) in
+    rw (c .before .before .before .before .before .payload-header-size .ensures) (f .accepts, omega (arith, f .size))
 
 returns : tie.Need-returns
-returns c = c .before .before .read-run .ensures ∙ found (c .before .before .before .before .before .before) .after _
+returns c = rw (c .before .before .before .before .before .before .before .before .payload-header-size .ensures) at (c .before .before .read-run .ensures) ∙ found (c .before .before .before .before .before .before .before .before .before .before .before) .after _
 
 pub read-records-spec : {M : Type 1} → statement M
 read-records-spec =
     tie.close
-    (tie.spec add-end (λ c. search needs) (λ c. search needs) part-read-run-end (λ c. search needs) read-run-requires (λ c. search needs) returns)
+    (tie.spec (λ c κs. search needs) add-at add-end (λ c. search needs) (λ c. search needs) part-read-run-end read-run-requires (λ c. search needs) returns)

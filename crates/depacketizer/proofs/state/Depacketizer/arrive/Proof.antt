@@ -17,7 +17,7 @@ use Rattle.rtp.specs.Answers.{checkedOf, cellsAfter, summaryOf}
 use Rattle.rtp.specs.declared.packet.Outline.{Outline}
 use Rattle.rtp.specs.declared.packet.Summary.{Summary}
 use Rattle.rtp.specs.declared.packet.Checked.the-variants as checked
-use Rattle.rtp.proofs.ReadLaws.{Found, found}
+use Rattle.rtp.proofs.ReadLaws.{Found, found, summary-is}
 use Rattle.stream.specs.declared.state.Answer.the-variants as answer
 use Rattle.stream.specs.declared.state.State.{State}
 use Rattle.depacketizer.specs.declared.distance.Freshness.the-variants as freshness
@@ -39,16 +39,16 @@ says : (c : tie.After-known-told) → let a = c .before .before .before .before 
     Found (a .layout) (a .octets .now) (admission (a .self .state) (a .layout) (length (a .store .now)) (a .octets .now)) (c .before .admitted .given .0 .0)
 says c = found _ _ _ _ (sym (c .before .before .before .admit .ensures) ∙ c .before .admitted .given .1)
 
-said : (c : tie.After-known-told) → summaryOf (says c .says) ≡ c .before .admitted .given .0 .0 .summary
-said c = ap (λ (y : Outline). y .summary) (says c .outline)
-
-number-is : (c : tie.After-known-told) → c .before .admitted .given .0 .0 .summary .head .number .0 ≡ says c .says .number
-number-is c = ap (λ (y : Summary). y .head .number .0) (sym (said c))
-
 -- the state is sound, and the packet is read
 passes : (c : tie.After-known-told) → let a = c .before .before .before .before .before .before .before .args in
     (sound (a .self .state) (length (a .store .now)) ≡ true) × (readContent (a .layout) (a .octets .now) ≡ accepted (says c .says))
 passes c = let a = c .before .before .before .before .before .before .before .args in passed (a .self .state) (a .layout) (length (a .store .now)) (a .octets .now) (says c .says) (says c .reads)
+
+said : (c : tie.After-summary-at) → summaryOf (says (c .before) .says) ≡ c .summary-at .result
+said c = summary-is _ _ _ (passes (c .before) .1) (c .summary-at .ensures)
+
+number-is : (c : tie.After-summary-at) → c .summary-at .result .head .number .0 ≡ says (c .before) .says .number
+number-is c = ap (λ (y : Summary). y .head .number .0) (sym (said c))
 
 is-sound : (c : tie.After-known-told) → let a = c .before .before .before .before .before .before .before .args in
     Sound (a .self .state) (length (a .store .now))
@@ -61,7 +61,7 @@ placed : (c : tie.After-known-told2)
     ≡ freshness.Fresh (c .before .freshness .given .0 .0) (c .before .freshness .given .0 .1 .0)
 placed c =
     let a = c .before .before .before .before .before .before .before .before .before .before .before .before .before .args in
-    ap (λ (x : ℕ). freshnessOf (a .self .state .heard) (classify (distance (a .self .state .last .0) x))) (sym (number-is (c .before .before .before .before .before .before)))
+    ap (λ (x : ℕ). freshnessOf (a .self .state .heard) (classify (distance (a .self .state .last .0) x))) (sym (number-is (c .before .before .before .before .before)))
     ∙ sym (c .before .before .before .classify .ensures) ∙ c .before .freshness .given .1
 
 -- what is decided, of what the packet says
@@ -72,7 +72,7 @@ decided : (c : tie.After-decide)
 decided c =
     let a = c .before .before .before .before .before .before .before .before .before .before .before .before .before .before .args in
     c .decide .ensures
-    ∙ ap (λ (x : Summary). decisionOf (follow (cond (c .before .before .freshness .given .0 .1 .0) (gathered (a .self .state)) lost) (carriedBy x) (length (a .store .now)))) (sym (said (c .before .before .before .before .before .before .before)))
+    ∙ ap (λ (x : Summary). decisionOf (follow (cond (c .before .before .freshness .given .0 .1 .0) (gathered (a .self .state)) lost) (carriedBy x) (length (a .store .now)))) (sym (said (c .before .before .before .before .before .before)))
 
 -- the whole step
 stepped : (c : tie.After-decide)
@@ -135,8 +135,13 @@ returns-2 c =
     let k = says p .says in
     let e = step-admitted (a .self .state) (a .layout) (a .octets .now) (a .store .now) k (says p .reads)
     ∙ packet-late (a .self .state) k (a .store .now) (a .self .state .heard)
-    (ap (λ (x : ℕ). freshnessOf (a .self .state .heard) (classify (distance (a .self .state .last .0) x))) (sym (number-is p)) ∙ sym (c .before .before .before .classify .ensures) ∙ c .before .enum-told2 .given .1) in
+    (ap (λ (x : ℕ). freshnessOf (a .self .state .heard) (classify (distance (a .self .state .last .0) x))) (sym (number-is (c .before .before .before .before .before))) ∙ sym (c .before .before .before .classify .ensures) ∙ c .before .enum-told2 .given .1) in
     (ap (λ (x : State). record { state = record { state = x }; answer = answer.Refused (record { number = 32; index = 0 }) }) (c .later .ensures) ∙ ap arrivalOf (sym e), ap (λ (x : Step). x .store) (sym e))
+
+summary-at-requires : tie.Need-summary-at-requires
+summary-at-requires c κs =
+    let a = c .before .before .before .before .before .before .before .args in
+    ap (checkedOf (a .layout) (a .octets .now)) (passes c .1) ∙ ap checked.Packet (says c .outline)
 
 decide-requires : tie.Need-decide-requires
 decide-requires c κs = let s = is-sound (c .before .before .before .before .before .before) in (s .fitting .records, s .fitting .cells)
@@ -155,7 +160,7 @@ read-records-requires c κs =
     let a = c .before .before .before .before .before .before .before .before .before .before .before .before .before .before .before .before .args in
     let p = c .before .before .before .before .before .before .before .before .before in
     let n = roomy (c .before .before) (c .before .if1 .taken) in
-    let e = ap (λ (x : Summary). x .cells) (said p) in
+    let e = ap (λ (y : Outline). y .cells) (says p .outline) in
     (ap (checkedOf (a .layout) (a .octets .now)) (passes p .1) ∙ ap checked.Packet (says p .outline), simp (length-take, length-drop) (omega (arith, n, e)))
 
 same-length : tie.Need-same-length
@@ -166,12 +171,12 @@ returns-3 c =
     let p = c .before .before .before .before .before .before .before .before .before in
     let d = c .before .before in
     let a = c .before .before .before .before .before .before .before .before .before .before .before .before .before .before .before .before .args in
-    let e = ap (λ (x : ℕ). afterOf (a .self .state) x (d .decide .result) (d .before .before .freshness .given .0 .0)) (number-is p) in
+    let e = ap (λ (x : ℕ). afterOf (a .self .state) x (d .decide .result) (d .before .before .freshness .given .0 .0)) (number-is (c .before .before .before .before .before .before .before .before)) in
     ((λ i. record { state = record { state = (c .after .ensures ∙ e) i }; answer = d .decide .result .answer }) ∙ ap arrivalOf (sym (stepped d)), written c ∙ ap (λ (x : Step). x .store) (sym (stepped d)))
 
 pub arrive-spec : {M : Type 1} → statement M
 arrive-spec =
     tie.close
-    (tie.spec (λ c κs. search needs) (λ c. search needs) (λ c. search needs) (λ c κs. search needs) returns (λ c κs. search needs) (λ c. search needs)
+    (tie.spec (λ c κs. search needs) (λ c. search needs) (λ c. search needs) (λ c κs. search needs) returns summary-at-requires (λ c κs. search needs) (λ c. search needs)
     (λ c. search needs) (λ c κs. search needs) returns-2 decide-requires mul-read-records sub-read-records part-read-records-start (λ c. search needs)
     read-records-requires (λ c κs. search needs) same-length returns-3)
