@@ -71,13 +71,15 @@ fn packet_of_a(layout: Layout) -> Vec<u8> {
 /// A number, what the case is, the octets, the index.
 type Octets = (u8, &'static str, Vec<u8>, u64);
 
-/// Octets that the packet reader and an arrival refuse alike: 1 to 13 and 15.
+/// Octets that the packet reader and an arrival refuse alike: 1 to 13, 15
+/// and 16.
 fn packets(layout: Layout) -> Vec<Octets> {
     let own = match layout {
         Rfc8331 => rfc_packets(),
         Draft2015 => draft_packets(),
     };
-    [header_packets(layout), anc_packets(layout), own].concat()
+    let (header, anc) = (header_packets(layout), anc_packets(layout));
+    [header, anc, protected_packets(layout), own].concat()
 }
 
 // A case a line.
@@ -137,6 +139,39 @@ fn anc_packets(layout: Layout) -> Vec<Octets> {
     ]
 }
 
+/// A protected word: 16 after 10 and both 9, before 11, 12 and 13; its borders;
+/// and what is no user data word is not tested.
+// A case a line.
+#[rustfmt::skip]
+fn protected_packets(layout: Layout) -> Vec<Octets> {
+    let damaged = |counts: &[usize], damage: &dyn Fn(&mut Parts)| damaged(layout, counts, damage);
+    let word = |index: usize, place: usize, word: u16| move |p: &mut Parts| p.anc[index].words[3 + place] = word;
+    let summed = |index: usize, place: usize, word: u16| move |p: &mut Parts| {
+        let mut list = cells(8 + p.anc[index].words.len() - 4);
+        list[8 + place] = word;
+        p.anc[index] = Anc::of(&list);
+    };
+    vec![
+        (16, "0x000", damaged(&[1], &summed(0, 0, 0x000)), 0),
+        (16, "0x003", damaged(&[0, 9], &summed(1, 8, 0x003)), 1),
+        (16, "0x3FC", damaged(&[9, 9, 255], &summed(2, 200, 0x3FC)), 2),
+        (16, "0x3FF", damaged(&[3; 255], &summed(254, 2, 0x3FF)), 254),
+        (16, "before 11", damaged(&[9, 9], &word(1, 5, 0x002)), 1),
+        (16, "before 12", damaged(&[2, 2], &|p| (p.anc[0].words[4], p.anc[0].alignment) = (0x3FD, 1)), 0),
+        (16, "before 13", damaged(&[5, 6], &|p| (p.anc[1].words[3], p.extra) = (1, vec![0])), 1),
+        (16, "before a later 10", damaged(&[5, 6], &|p| (p.anc[0].words[3], p.anc[1].words[0]) = (1, 0)), 0),
+        (11, "0x004", damaged(&[0, 9], &word(1, 8, 0x004)), 1),
+        (11, "0x3FB", damaged(&[9, 9, 9], &word(2, 7, 0x3FB)), 2),
+        (11, "a checksum of 0x000", damaged(&[4, 4], &|p| p.anc[1].words[7] = 0), 1),
+        (11, "a checksum of 0x3FF", damaged(&[0, 4], &|p| p.anc[0].words[3] = 0x3FF), 0),
+        (11, "before a later 16", damaged(&[5, 6], &|p| (p.anc[0].words[4], p.anc[1].words[3]) = (0x155, 0)), 0),
+        (12, "before a later 16", damaged(&[5, 6], &|p| (p.anc[0].alignment, p.anc[1].words[3]) = (1, 0)), 0),
+        (10, "DID 0x3FC, before 16", damaged(&[5, 6], &|p| (p.anc[1].words[0], p.anc[1].words[3]) = (0x3FC, 0)), 1),
+        (10, "Data_Count 0x000", damaged(&[5, 6], &|p| p.anc[0].words[2] = 0), 0),
+        (9, "size, before 16", damaged(&[5, 6], &|p| (p.cut, p.anc[1].words[3]) = (1, 0)), 1),
+    ]
+}
+
 /// F, a packet of the drafts, and 01's numbers.
 // A case a line.
 #[rustfmt::skip]
@@ -154,7 +189,7 @@ fn rfc_packets() -> Vec<Octets> {
     ]
 }
 
-/// R bits: 15 after 10 and both 9, before 11 and 12. And a packet of RFC
+/// R bits: 15 after 10 and both 9, before 16, 11 and 12. And a packet of RFC
 /// 8331, and 02's numbers.
 // A case a line.
 #[rustfmt::skip]
@@ -177,10 +212,12 @@ fn draft_packets() -> Vec<Octets> {
         (15, "the first bit", damaged(&[0], &r(0, 2)), 0),
         (15, "the second bit", damaged(&[0, 3], &r(1, 1)), 1),
         (15, "both bits", damaged(&[4; 200], &r(199, 3)), 199),
+        (15, "before 16", damaged(&[5, 6], &|p| (p.anc[1].r, p.anc[1].words[3]) = (2, 0x3FE)), 1),
+        (16, "before a later 15", damaged(&[5, 6], &|p| (p.anc[0].words[3], p.anc[1].r) = (3, 1)), 0),
         (15, "before 11 and 12", damaged(&[0, 5, 5], &|p| all(&mut p.anc[1])), 1),
         (15, "before 13", damaged(&[5, 6], &|p| (p.anc[1].r, p.extra) = (1, vec![0])), 1),
         (15, "before a later 10", damaged(&[5, 6], &|p| (p.anc[0].r, p.anc[1].words[0]) = (1, 0)), 0),
-        (11, "before a later 15", damaged(&[5, 6], &|p| (p.anc[0].words[4], p.anc[1].r) = (0x3FF, 1)), 0),
+        (11, "before a later 15", damaged(&[5, 6], &|p| (p.anc[0].words[4], p.anc[1].r) = (0x155, 1)), 0),
         (12, "before a later 15", damaged(&[0, 6], &|p| (p.anc[0].alignment, p.anc[1].r) = (1, 1)), 0),
         (10, "before 15", damaged(&[5, 6], &|p| (p.anc[1].words[2], p.anc[1].r) = (0, 1)), 1),
         (9, "size, before 15", damaged(&[5, 6], &|p| (p.cut, p.anc[1].r) = (1, 1)), 1),
@@ -256,8 +293,46 @@ fn lists() -> Vec<(&'static str, Vec<u16>, u64)> {
     ]
 }
 
+/// Lists with protected words: 16 over the whole list, behind 20 over the whole
+/// list, with the record's index.
+fn protected_lists() -> Vec<(u8, &'static str, Vec<u16>, u64)> {
+    let with = |before: usize, n: usize, words: &[(usize, u16)]| {
+        let mut list = [records(before), cells(8 + n)].concat();
+        for &(place, word) in words {
+            list[8 * (before + 1) + place] = word;
+        }
+        list
+    };
+    let protected = |before| with(before, 9, &[(4, 0x3FD)]);
+    let cut = A[..7].to_vec();
+    vec![
+        (16, "0x000", with(0, 1, &[(0, 0x000)]), 0),
+        (16, "0x003", with(1, 3, &[(2, 0x003)]), 1),
+        (16, "0x3FC", with(2, 255, &[(254, 0x3FC)]), 2),
+        (16, "0x3FF", with(3, 20, &[(7, 0x3FF)]), 3),
+        (16, "two words", with(4, 20, &[(3, 1), (9, 2)]), 4),
+        (16, "two records", [protected(5), protected(2)].concat(), 5),
+        (16, "over 255 records", protected(300), 300),
+        (16, "over 4,095 records", protected(4_100), 4_100),
+        (
+            16,
+            "over the cells",
+            [cells(32_768), protected(0)].concat(),
+            125,
+        ),
+        (20, "a cut record behind", [protected(6), cut].concat(), 7),
+        (20, "a word too large", with(7, 9, &[(0, 3), (8, 1024)]), 7),
+        (
+            20,
+            "too large behind",
+            [protected(0), with(0, 1, &[(0, 1024)])].concat(),
+            1,
+        ),
+    ]
+}
+
 /// Lists in a packet, and the octets that record A takes and an empty list:
-/// 24, 20, 21, 23.
+/// 24, 20, 16, 21, 23. The borders' other side is in `small`.
 // A case a line.
 #[rustfmt::skip]
 fn of_written(layout: Layout, a: usize, empty: usize) -> Vec<Refused> {
@@ -278,23 +353,36 @@ fn of_written(layout: Layout, a: usize, empty: usize) -> Vec<Refused> {
         table.push(of(20, what, 112, 0, list.clone(), 9, index));
         table.push(of(20, what, 112, 3, list, 9, index));
     }
+    for (number, what, list, index) in protected_lists() {
+        table.push(of(24, what, 112, 1, list.clone(), 0, 0));
+        table.push(of(number, what, 112, 0, list.clone(), 0, index));
+        table.push(of(number, what, 112, 3, list, 9, index));
+    }
     table
 }
 
-/// What the drafts do not carry: 25 after 24, 20 and 21 and before 23, index
-/// 0 wherever it is found.
+/// What the drafts do not carry: 25 after 24, 20, 16 and 21 and before 23,
+/// index 0 wherever it is found.
 fn of_not_carried() -> Vec<Refused> {
     let with = |at: usize, cell: u16| {
         let mut list = records(5);
         list[8 * 3 + at] = cell;
         list
     };
+    let protected = || [&A[..7], &[1, 0x3FF]].concat();
     let cut = |list: Vec<u16>| list[..39].to_vec();
     let many = |list: Vec<u16>| [list, records(251)].concat();
     let of = |number, what, f, list, index| {
         refused(number, what, write(Draft2015, 112, f, list), 0, index)
     };
     let mut table = vec![
+        of(
+            16,
+            "S 1 before a protected word",
+            2,
+            [with(3, 1), protected()].concat(),
+            5,
+        ),
         of(25, "F 2, no records", 2, Vec::new(), 0),
         of(25, "F 3", 3, A.to_vec(), 0),
         of(24, "F 4, S 1", 4, with(3, 1), 0),
@@ -314,6 +402,10 @@ fn of_fields() -> Vec<Refused> {
     let mut table = Vec::new();
     for (what, list, index) in lists() {
         table.push(refused(20, what, field(2, list), 9, index));
+    }
+    for (number, what, list, index) in protected_lists() {
+        table.push(refused(53, what, field(1, list.clone()), 0, 0));
+        table.push(refused(number, what, field(2, list), 0, index));
     }
     table.extend([
         refused(21, "4,096 records", field(2, records(4_096)), 9, 0),
@@ -420,6 +512,10 @@ fn of_files(version: Version) -> Vec<Refused> {
     let end = good.len();
     let head = version.field_head();
     let long = file_of(2, 125, &|p| p.anc = parts_of_cells(32_769));
+    let protected = file_of(2, 125, &|p| {
+        p.anc = parts_of_cells(32_769);
+        p.anc[124].words[3] = 0;
+    });
     vec![
         read(9, &good[..end - 1], 5, 99, 2),
         read(9, &good[..5 + head + 11], 5, 99, 0),
@@ -427,6 +523,17 @@ fn of_files(version: Version) -> Vec<Refused> {
         read(10, &file_of(2, 3, &|p| p.anc[1].words[0] ^= 1), 5, 99, 1),
         read(11, &file_of(2, 3, &|p| p.anc[2].words[4] ^= 1), 5, 99, 2),
         read(12, &file_of(2, 3, &|p| p.anc[0].alignment = 1), 5, 99, 0),
+        read(16, &file_of(2, 3, &|p| p.anc[1].words[3] = 3), 5, 99, 1),
+        read(16, &file_of(2, 3, &|p| p.anc[2].words[15] = 0x3FC), 5, 0, 2),
+        read(11, &file_of(2, 3, &|p| p.anc[1].words[4] = 4), 5, 99, 1),
+        read(
+            11,
+            &file_of(2, 3, &|p| p.anc[2].words[15] = 0x3FB),
+            5,
+            99,
+            2,
+        ),
+        read(16, &protected, 5, 0, 124),
         read(14, &good, 5, 41, 0),
         read(21, &long, 5, 0, 0),
         read(50, b"AN", 0, 99, 0),
@@ -492,7 +599,7 @@ fn every_number_with_its_index() {
 #[test]
 fn the_table_has_every_number() {
     let numbers: BTreeSet<u8> = table().iter().map(|case| case.number).collect();
-    let of_the_papers = (1..=15)
+    let of_the_papers = (1..=16)
         .chain([20, 21, 23, 24, 25, 30, 31, 32, 35])
         .chain(40..=44)
         .chain(50..=55);

@@ -5,7 +5,8 @@ use differential::call::{compare, compare_wanted, Call, Lengths, Memory};
 use differential::model::{number_of, row_of};
 use differential::{Head, Pair, ANSWER, DRAFTS, LAYOUT, RFC8331, STATE};
 use reference::depacketizer::open;
-use reference::random::{carried, record, Parts, Random};
+use reference::file::Version;
+use reference::random::{anc_of, carried, file_field, record, Parts, Random};
 use reference::runs::{changed, A, HEAD};
 use reference::Layout;
 
@@ -55,6 +56,81 @@ fn every_word_of_a_record() {
         }
         let wrong = if place < 3 { met[10] } else { met[11] };
         assert_eq!((met[0], wrong), (1, if place < 3 { 768 } else { 1023 }));
+    }
+}
+
+/// The user data words that ST 291-1 keeps for timing.
+fn is_protected(word: u16) -> bool {
+    word < 4 || word > 0x3FB
+}
+
+/// A record of `n` words, 0x155 each but one.
+fn with_word(n: usize, place: usize, word: u16) -> Vec<u16> {
+    let mut cells = [&A[..7], &[n as u16], &vec![0x155; n][..]].concat();
+    cells[8 + place] = word;
+    cells
+}
+
+/// A record in a packet of either layout, in a list and in a file of either
+/// version: the same number from all of them, and its index.
+fn anywhere(record: &[u16], number: u8) {
+    let list = [&A[..], record].concat();
+    let size = 60 + 2 * list.len();
+    let check = |call: &Call| {
+        let (met, after) = compare(call, &lent(list.len(), size));
+        assert_eq!(met, number, "{call:?}");
+        assert!(number == 0 || after.answer.get()[0] == 1);
+    };
+    for layout in Layout::ALL {
+        let octets = Parts::of(layout, HEAD, &list).assemble();
+        let told = number_of(layout);
+        check(&Call::Read {
+            layout: told,
+            octets,
+        });
+        check(&write(layout, 112, 0, list.clone()));
+    }
+    for version in [Version::One, Version::Two] {
+        let field = file_field(version, 9, 2, 2, &anc_of(&list));
+        let file = [version.start().to_vec(), field].concat();
+        check(&Call::FileRead { file, at: 5 });
+    }
+    let (timestamp, f, cells) = (9, 2, list.clone());
+    check(&Call::FileWrite {
+        timestamp,
+        f,
+        cells,
+    });
+}
+
+/// Every ten-bit number as a user data word: 0x000 to 0x003 and 0x3FC to 0x3FF
+/// are refused by 16.
+#[test]
+fn every_user_data_word() {
+    for word in 0..1024 {
+        let number = if is_protected(word) { 16 } else { 0 };
+        for (n, place) in [(1, 0), (20, 11)] {
+            anywhere(&with_word(n, place, word), number);
+        }
+    }
+}
+
+/// A protected word in every place of every count of words, and its neighbour
+/// that is not protected.
+#[test]
+fn every_place_of_a_protected_word() {
+    for n in 1..256 {
+        for place in 0..n {
+            for word in [0x003, 0x004, 0x3FB, 0x3FC] {
+                let memory = lent(8 + n, 0);
+                let cells = with_word(n, place, word);
+                let number = if is_protected(word) { 16 } else { 0 };
+                for layout in Layout::ALL {
+                    let octets = Parts::of(layout, HEAD, &cells).assemble();
+                    assert_eq!(read(layout, octets, &memory), number);
+                }
+            }
+        }
     }
 }
 

@@ -131,7 +131,7 @@ fn fields_with_trouble() {
         let told = layout as usize;
         assert!(met.kinds[told][WHOLE as usize] > 2_000, "{met:?}");
         assert!(met.wrapped[told] > 100, "{met:?}");
-        for number in [7, 30, 31, 32, 35] {
+        for number in [7, 16, 30, 31, 32, 35] {
             assert!(met.of(layout, number) > 10, "{layout} {number}: {met:?}");
         }
     }
@@ -163,7 +163,7 @@ fn packets_in_no_fields() {
         "{met:?}"
     );
     for (layout, own) in [(RFC8331, 6), (DRAFTS, 15)] {
-        let both = (2..=5).chain(7..=13).chain([30, 31, 32, 35]);
+        let both = (2..=5).chain(7..=13).chain([16, 30, 31, 32, 35]);
         for number in both.chain([own]) {
             assert!(met.of(layout, number) > 0, "{layout} {number}: {met:?}");
         }

@@ -88,8 +88,8 @@ pub fn distance(last: u32, number: u32) -> Distance {
     }
 }
 
-/// One arrival, in the layout that the caller tells: 35, then 1 to 13 and 15,
-/// then 30, 31, 32; a fresh one is counted and gathered. The store is written
+/// One arrival, in the layout that the caller tells: 35, then 1 to 13, 15
+/// and 16, then 30, 31, 32; a fresh one is counted and gathered. The store is written
 /// by held and whole only.
 #[inline]
 pub fn arrive(state: State, layout: Layout, octets: &[u8], store: &mut [u16]) -> (State, Answer) {

@@ -49,7 +49,8 @@ impl Listing {
         self.line(format_args!("refused {number} {index}"));
     }
 
-    /// The first packet that passes 1 to 13 and 15 opens the depacketizer.
+    /// The first packet that passes 1 to 13, 15 and 16 opens the
+    /// depacketizer.
     fn packet(&mut self, octets: &[u8]) {
         let summary = match check(self.layout, octets) {
             Ok(accepted) => accepted.summary,

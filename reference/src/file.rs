@@ -58,7 +58,7 @@ pub fn begin(out: &mut [u8]) -> Result<usize, Refusal> {
     Ok(START.len())
 }
 
-/// Writes one field of version 2 and returns its size: 53, 20, 21, 23.
+/// Writes one field of version 2 and returns its size: 53, 20, 16, 21, 23.
 pub fn write(timestamp: u32, f: u8, cells: &[u16], out: &mut [u8]) -> Result<usize, Refusal> {
     if !is_file_f(f) {
         return Err(Refusal::plain(53));
@@ -75,7 +75,7 @@ pub fn write(timestamp: u32, f: u8, cells: &[u16], out: &mut [u8]) -> Result<usi
 }
 
 /// Reads the field at an offset into lent cells:
-/// 50, 51, 55, 54, 52, 53, 9 to 12, 21, 14.
+/// 50, 51, 55, 54, 52, 53, 9 to 12 and 16, 21, 14.
 pub fn read(file: &[u8], offset: usize, cells: &mut [u16]) -> Result<Field, Refusal> {
     let version = version(file)?;
     if offset < START.len() || offset > file.len() {

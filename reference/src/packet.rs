@@ -48,7 +48,7 @@ impl Summary {
     }
 }
 
-/// An accepted packet: none of 1 to 13 and 15 is given.
+/// An accepted packet: none of 1 to 13, 15 and 16 is given.
 #[derive(Clone, Copy, Debug, PartialEq, Eq)]
 pub struct Accepted<'a> {
     pub summary: Summary,
@@ -66,7 +66,7 @@ fn be32(octets: &[u8], at: usize) -> u32 {
 }
 
 /// The order of reading: 1, 2 (under 12 octets), 3, 2 (rest), 4, 5, 6, 7, 8;
-/// each ANC packet's 9 to 12 and 15; then 13. Without F there is no 6.
+/// each ANC packet's 9 to 12, 15 and 16; then 13. Without F there is no 6.
 #[inline]
 pub fn check(layout: Layout, octets: &[u8]) -> Result<Accepted<'_>, Refusal> {
     let payload = payload(octets).map_err(Refusal::plain)?;
@@ -144,8 +144,8 @@ fn extension(octets: &[u8], at: usize) -> Result<usize, u8> {
     }
 }
 
-/// Reads a packet and puts its records into lent cells: 1 to 13 and 15, then
-/// 14.
+/// Reads a packet and puts its records into lent cells: 1 to 13, 15 and 16,
+/// then 14.
 #[inline]
 pub fn read(layout: Layout, octets: &[u8], cells: &mut [u16]) -> Result<Summary, Refusal> {
     let accepted = check(layout, octets)?;
@@ -153,8 +153,8 @@ pub fn read(layout: Layout, octets: &[u8], cells: &mut [u16]) -> Result<Summary,
     Ok(accepted.summary)
 }
 
-/// Writes a packet into lent octets and returns its size: 24, 20, 21, 25, 22,
-/// 23. P, X and CC are zero, the reserved and R bits too.
+/// Writes a packet into lent octets and returns its size: 24, 20, 16, 21, 25,
+/// 22, 23. P, X and CC are zero, the reserved and R bits too.
 #[inline]
 pub fn write(layout: Layout, head: &Head, cells: &[u16], out: &mut [u8]) -> Result<usize, Refusal> {
     if head.payload_type > 127 || head.f == 1 || head.f > 3 {

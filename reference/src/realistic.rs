@@ -2,7 +2,7 @@
 //! field, eight records a packet.
 
 use crate::packet::Head;
-use crate::random::{Parts, Random};
+use crate::random::{clear_word, Parts, Random};
 
 pub const PACKETS: usize = 3;
 
@@ -26,7 +26,7 @@ pub fn records(r: &mut Random) -> Vec<u16> {
     for (place, (did, sdid, fewest, most)) in KINDS.into_iter().enumerate() {
         let n = fewest + r.below(most - fewest + 1);
         cells.extend([0, 9 + place as u16, 0xFFF, 0, 0, did, sdid, n as u16]);
-        cells.extend((0..n).map(|_| r.below(1024) as u16));
+        cells.extend((0..n).map(|_| clear_word(r)));
     }
     cells
 }

@@ -45,8 +45,8 @@ pub fn records(count: usize) -> Vec<u16> {
 }
 
 /// Exactly that many cells: records of 255 words and a shorter last one,
-/// all else as in record A. The words count on through the list, modulo
-/// 1,024.
+/// all else as in record A. The words count on through the list, from 4 to
+/// 0x3FB and again: those that are not protected.
 pub fn cells(count: usize) -> Vec<u16> {
     let mut list = Vec::new();
     let mut word = 0;
@@ -54,8 +54,8 @@ pub fn cells(count: usize) -> Vec<u16> {
         let n = (count - list.len() - A.len()).min(255) as u16;
         list.extend(&A[..7]);
         list.push(n);
-        list.extend((word..word + n).map(|word| word % 1024));
-        word = (word + n) % 1024;
+        list.extend((word..word + n).map(|word| 4 + word % 1016));
+        word = (word + n) % 1016;
     }
     list
 }

@@ -3,17 +3,17 @@
 
 use reference::coverage::cover;
 
-const INDEXED: [u8; 9] = [9, 10, 11, 12, 15, 20, 41, 42, 43];
+const INDEXED: [u8; 10] = [9, 10, 11, 12, 15, 16, 20, 41, 42, 43];
 
 #[test]
 fn every_number_is_reached() {
     let coverage = cover(1, 8_000);
-    let reads: Vec<u8> = (0..=15).collect();
-    let arrivals: Vec<u8> = (0..=13).chain([15, 30, 31, 32, 35]).collect();
-    let frames: Vec<u8> = (2..=13).chain([0, 15, 30, 31, 32]).collect();
+    let reads: Vec<u8> = (0..=16).collect();
+    let arrivals: Vec<u8> = (0..=13).chain([15, 16, 30, 31, 32, 35]).collect();
+    let frames: Vec<u8> = (2..=13).chain([0, 15, 16, 30, 31, 32]).collect();
     let expected: [(&str, &[u8]); 10] = [
         ("read", &reads),
-        ("write", &[0, 20, 21, 23, 24, 25]),
+        ("write", &[0, 16, 20, 21, 23, 24, 25]),
         ("arrive", &arrivals),
         ("frames", &frames),
         ("open", &[0, 24]),
@@ -21,9 +21,9 @@ fn every_number_is_reached() {
         ("sdp write", &[0, 41, 43, 44]),
         (
             "file read",
-            &[0, 9, 10, 11, 12, 14, 21, 50, 51, 52, 53, 54, 55],
+            &[0, 9, 10, 11, 12, 14, 16, 21, 50, 51, 52, 53, 54, 55],
         ),
-        ("file write", &[0, 20, 21, 23, 53]),
+        ("file write", &[0, 16, 20, 21, 23, 53]),
         ("file begin", &[0, 23]),
     ];
     for (entry, numbers) in expected {

@@ -109,7 +109,7 @@ fn other_listings() {
         ..head(number, timestamp, 2)
     };
     let big: Vec<u16> = (0..70)
-        .flat_map(|_| [vec![0, 0, 0, 0, 0, 0, 0, 255], vec![0; 255]].concat())
+        .flat_map(|_| [vec![0, 0, 0, 0, 0, 0, 0, 255], vec![4; 255]].concat())
         .collect();
     let foreign = Head {
         source: 2,
@@ -190,11 +190,11 @@ fn limits_of_the_writer() {
     let mut cells = Vec::new();
     for n in [255; 124].into_iter().chain([148]) {
         cells.extend([0, 0, 0, 0, 0, 0, 0, n]);
-        cells.extend(vec![0x3FF; n as usize]);
+        cells.extend(vec![0x3FB; n as usize]);
     }
     assert_eq!(cells.len(), 32_768);
     assert!(write(LAYOUT, &head(0, 0, 0), &cells, &mut out).is_ok());
-    cells.push(0);
+    cells.push(4);
     cells[124 * 263 + 7] = 149;
     assert_eq!(cells.len(), 32_769);
     assert_eq!(
@@ -207,13 +207,13 @@ fn limits_of_the_writer() {
 #[test]
 fn leading_zeros_in_a_listing() {
     let mut input = Vec::new();
-    let cells = [0, 0, 12, 0, 5, 0x0A, 0x00, 3, 0, 0x0F, 0x3FC];
+    let cells = [0, 0, 12, 0, 5, 0x0A, 0x00, 3, 4, 0x0F, 0x3FB];
     put_frame(&packet(&head(1, 0, 0), &[]), &mut input);
     put_frame(&packet(&head(2, 0, 0), &cells), &mut input);
     let output = "fieldlist 1\n\
         1 skipped\n\
         2 whole ts=0 f=0 records=1\n \
-        y line=0 off=12 s=0/5 did=0a sdid=00 words=3 000 00f 3fc\n\
+        y line=0 off=12 s=0/5 did=0a sdid=00 words=3 004 00f 3fb\n\
         fresh=2 late=0 missing=0\n";
     assert_eq!(fieldlist(&input), output);
 }

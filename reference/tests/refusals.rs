@@ -20,7 +20,7 @@ const HEAD: Head = Head {
 
 fn record(n: u16) -> Vec<u16> {
     let mut cells = vec![1, 9, 4095, 1, 127, 0x61, 0x02, n];
-    cells.extend((0..n).map(|word| word * 37 % 1024));
+    cells.extend((0..n).map(|word| 4 + word * 37 % 1016));
     cells
 }
 

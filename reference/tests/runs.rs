@@ -20,13 +20,14 @@ fn bit_line(bit: u32) -> String {
 /// 255 records take 20 + 255 x 12 octets and sum to 255 x 79. The 32,768
 /// cells are 124 records of 255 words and one of 148: 20 + 124 x 328 + 196
 /// octets. Their heads sum to 125 x 79 + 124 x 255 + 148 = 41,643 and their
-/// 31,768 words to 31 x 523,776 + 276 = 16,237,332: 26,047 modulo 65,536.
+/// 31,768 words, 31 times 4 to 1,019 and then 4 to 275, to
+/// 31 x 519,684 + 37,944 = 16,148,148: 2,399 modulo 65,536.
 #[test]
 fn the_text() {
     let mut lines = vec![
         "records 255: written 3080 read 255 2040 20145".to_string(),
         "records 256: refused 21 0".to_string(),
-        "cells 32768: written 40888 read 125 32768 26047".to_string(),
+        "cells 32768: written 40888 read 125 32768 2399".to_string(),
         "cells 32769: refused 21 0".to_string(),
         "padding 0: refused 4 0".to_string(),
     ];

@@ -2,25 +2,28 @@
 -- The words from DID on are one row; the alignment bits are a remainder of the last four octets.
 use mathlib.Core.Path.{_≡_, refl, ap, sym, _∙_}
 use mathlib.Core.Bool.{Bool, true, false, not, _&&_}
-use mathlib.Core.List.{List, _++_}
+use mathlib.Core.List.{List, [], _∷_, _++_}
 use Prim.Native.Nat.{ℕ, suc, _+_, _-_, _*_, _/_, _%_, _^_, _<_, _≤_}
-use native.Mathlib.Nat.{one-mul, mod-eq-of-lt, div-one}
+use native.Mathlib.Nat.{one-mul, mod-eq-of-lt, mod-mod, div-one}
 use native.Mathlib.Omega.{arith}
 use borrow.Author.Tests.{not-true, not-false, eq-eqb}
 use lib.Dec.{eqb}
 use lib.ListN.{length, getD}
 use lib.Pow.{pow-lt}
 use Rattle.wire.specs.Bits.{bitsAt, rowAt}
-use Rattle.wire.specs.Words.{wordBits, headerNumbers, isHeaderWord, sumLow}
+use Rattle.wire.specs.Words.{wordBits, headerNumbers, isHeaderWord, sumLow, checksumWord, allClear}
 use Rattle.wire.specs.Layout.{Layout, rfc8331, sAt, sBits, streamBits, alignment, leastSize}
-use Rattle.wire.specs.Anc.{ancRecord, dataCount, ancSize, bodyBits, didAt, wordsAt, padding, areHeaderWords, rOk, checksumOk, alignmentOk}
+use Rattle.wire.specs.Anc.{ancRecord, dataCount, ancSize, bodyBits, didAt, wordsAt, padding, headerWords, areHeaderWords, headersOk, rOk, wordsOk, checksumOk, alignmentOk}
 use Rattle.wire.specs.declared.layout.Layout.the-variants as layout
-use Rattle.anc.specs.Tests.{checksumAt, zeroBits, streamOctet}
+use Rattle.anc.specs.Tests.{packetWords, zeroBits, streamOctet}
 use Rattle.wire.proofs.HeadLaws.{s-at, stream-at}
 use Rattle.wire.proofs.BitLaws.{length-rowAt, bitsAt-lt, no-bits}
 use Rattle.wire.proofs.Window.{bitsAt-part}
 use Rattle.wire.proofs.SizeLaws.{size-bits, pad-few, least-size}
 use Rattle.wire.proofs.LayoutLaws.{places}
+use Rattle.wire.proofs.ResultLaws.{and-true}
+use Rattle.wire.proofs.WordLaws.{header-clear}
+use Rattle.words.proofs.SumLaws.{checksum-agree}
 use Rattle.words.specs.Word.{WordsFit}
 
 -- what a branch on a test says of what the test computes
@@ -49,24 +52,25 @@ pub fetched : (w x : ℕ) (r : Bool) → w ≡ x → r ≡ isHeaderWord w → is
 fetched w x r e h = sym (h ∙ ap isHeaderWord e)
 
 -- three words without others
-pub no-words : (s : List ℕ) (did words n : ℕ) → n ≡ 0
-    → sumLow (rowAt wordBits s did 3) ≡ sumLow (rowAt wordBits s did 3 ++ rowAt wordBits s words n)
+pub no-words : (s : List ℕ) (did words n : ℕ) → n ≡ 0 → rowAt wordBits s did 3 ≡ rowAt wordBits s did 3 ++ rowAt wordBits s words n
 unfolding rowAt
 no-words s did words n e = rw e
 
 -- three words, and those behind them, are one row
 pub one-row : (s : List ℕ) (did words n : ℕ) → words ≡ did + 3 * wordBits
-    → sumLow (rowAt wordBits s did (3 + n)) ≡ sumLow (rowAt wordBits s did 3 ++ rowAt wordBits s words n)
+    → rowAt wordBits s did (3 + n) ≡ rowAt wordBits s did 3 ++ rowAt wordBits s words n
 unfolding rowAt
 one-row s did words n e =
     let k : 3 + n ≡ suc (suc (suc n)) = omega arith in
     let p : words ≡ did + wordBits + wordBits + wordBits = omega arith in
     rw (k, p)
 
-pub two-rows : (s : List ℕ) (did words n : ℕ)
-    → sumLow (rowAt wordBits s did 3) + sumLow (rowAt wordBits s words n) ≡ sumLow (rowAt wordBits s did 3 ++ rowAt wordBits s words n)
-unfolding rowAt
-two-rows s did words n = omega arith
+-- header words that pass 10 are no protected words, so the words behind them decide
+clear-behind : (hs ws : List ℕ) → areHeaderWords hs ≡ true → allClear (hs ++ ws) ≡ allClear ws
+clear-behind [] ws e = refl
+clear-behind (h ∷ hs) ws e =
+    let a = and-true (isHeaderWord h) (areHeaderWords hs) e in
+    rw (header-clear h (a .0)) (clear-behind hs ws (a .1))
 
 -- the header words of the smallest packet lie in the octets
 pub header-there : (L : Layout) (s : List ℕ) → leastSize L ≤ length s → WordsFit s (didAt L) 3
@@ -94,9 +98,14 @@ there L s n z h e l =
 
 -- the tests by bits are the definition's
 module _ (L : Layout) (s : List ℕ) (n : ℕ) (e : dataCount L s ≡ n) where
-  pub checksum-test : checksumAt s (didAt L) (wordsAt L) n ≡ checksumOk L s
+  pub clear-test : headersOk L s ≡ true → allClear (packetWords L n s) ≡ wordsOk L s
+  unfolding headersOk wordsOk
+  clear-test h = clear-behind (headerWords L s) (rowAt wordBits s (wordsAt L) n) h ∙ rw e
+
+  pub checksum-test : (sum : ℕ) → sum ≡ sumLow (packetWords L n s) % 512
+      → eqb (bitsAt s (wordsAt L + wordBits * n) wordBits) (checksumWord sum) ≡ checksumOk L s
   unfolding checksumOk
-  checksum-test = rw e
+  checksum-test sum h = rw (checksum-agree sum (sumLow (packetWords L n s)) (ap (λ (x : ℕ). x % 512) h ∙ mod-mod (sumLow (packetWords L n s)) 512), e)
 
   pub alignment-test : (z : ℕ) → z ≡ ancSize L n → zeroBits s (wordsAt L + wordBits * (n + 1)) (8 * z) ≡ alignmentOk L s
   unfolding alignmentOk

@@ -12,7 +12,7 @@ use Rattle.anc.specs.declared.check.Verdict.the-variants as verdict
 use Rattle.anc.specs.declared.check.Run.{Run}
 use Rattle.anc.specs.declared.check.Run.the-variants as run
 
--- one packet (01, "Order of reading": 9 to 12): its Data_Count, which "counts ten-bit words"
+-- one packet (01, "Order of reading": 9 to 12; 02: 15, 16): its Data_Count, which "counts ten-bit words"
 abbrev pub verdictOf : Result Record → Verdict
 verdictOf (refused x) = verdict.Refused x
 verdictOf (accepted r) = verdict.Accepted (record { 0 = length (r .words) })
@@ -22,7 +22,7 @@ abbrev pub runOf : Layout → Result (List Record × List ℕ) → Run
 runOf L (refused x) = run.Refused x
 runOf L (accepted q) = run.Accepted (record { 0 = runSize L (q .0) }) (length (listOf (q .0)))
 
--- the refusal of a run: "its number and an index from 0: the ANC packet for 9 to 12", and 15 (02, K3)
+-- the refusal of a run: "its number and an index from 0: the ANC packet for 9 to 12", and 15 (02, K3) and 16 (K5)
 abbrev pub runRefusal : Run → Refusal
 runRefusal (run.Refused x) = x
 runRefusal (run.Accepted o c) = noRefusal

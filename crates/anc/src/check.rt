@@ -1,24 +1,27 @@
 // Packets checked, without writing anything (01, "Order of reading").
 ghost use mathlib.Core.Path.{_≡_};
-ghost use mathlib.Core.List.{_++_};
-ghost use Prim.Native.Nat.{_+_, _*_, _%_, _<_, _^_, _≤_};
+ghost use mathlib.Core.Bool.{true};
+ghost use Prim.Native.Nat.{_+_, _*_, _<_, _^_, _≤_};
+ghost use lib.Dec.{eqb};
 ghost use lib.ListN.{length};
-ghost use Rattle.wire.specs.Anc.{ancSize, areHeaderWords, dataCount, didAt, rOk, readAnc, readRun, wordsAt};
-ghost use Rattle.wire.specs.Bits.{rowAt};
+ghost use Rattle.wire.specs.Anc.{ancSize, areHeaderWords, dataCount, didAt, headersOk, rOk, readAnc, readRun, wordsAt};
+ghost use Rattle.wire.specs.Bits.{bitsAt, rowAt};
 ghost use Rattle.wire.specs.Layout.{leastSize};
-ghost use Rattle.wire.specs.Words.{HeaderTable, isHeaderWord, sumLow, wordBits};
+ghost use Rattle.wire.specs.Words.{HeaderTable, checksumWord, isHeaderWord, wordBits};
 ghost use Rattle.words.specs.Word.{WordsFit};
 ghost use Rattle.anc.specs.Answers.{runOf, runRefusal, verdictOf};
-ghost use Rattle.anc.specs.Tests.{checksumAt, readAncContent, zeroBits};
+ghost use Rattle.row_scan.specs.Clear.{Scanned};
+ghost use Rattle.anc.specs.Tests.{packetWords, readAncContent, zeroBits};
 use places::did_at;
 use places::least_size;
 use places::packet_size;
 use places::plus;
 use places::words_at;
 use record::header::Header;
-use rows::scan::scan_singly;
-use rows::scan::scan_words;
-use std::num::wrapping_add_u16;
+use row_scan::scan::Scan;
+use row_scan::scan::both;
+use row_scan::scan::scan_singly;
+use row_scan::scan::scan_words;
 use wire::count::OctetCount;
 use wire::count::WordCount;
 use wire::layout::DID_AT;
@@ -68,31 +71,29 @@ fn header_words_ok(octets: &[u8], at: usize, table: &[u16; 256]) -> bool
     is_header_word(fetch(octets, at + 2 * WORD_BITS), table)
 }
 
-// The sum of the low nine bits of DID, SDID, Data_Count and `n` user data words, modulo 512: one row in RFC 8331's layout, two in the drafts', where R
-// stands between them.
-fn sum_with_header(layout: Layout, octets: &[u8], n: usize) -> u16
+// Of DID, SDID, Data_Count and `n` user data words: one row in RFC 8331's layout, two in the drafts', where R stands between them.
+fn scan_packet(layout: Layout, octets: &[u8], n: usize) -> Scan
     requires { ⌜ WordsFit (now octets) (didAt layout) 3 × WordsFit (now octets) (wordsAt layout) n ⌝ }
-    ensures { λ r. ⌜ r ≡ sumLow (rowAt wordBits (now (octets .entry)) (didAt layout) 3 ++ rowAt wordBits (now (octets .entry)) (wordsAt layout) n) % 512 ⌝ }
+    ensures { λ r. ⌜ Scanned (packetWords layout n (now (octets .entry))) (r .sum) (r .clear) ⌝ }
 {
     if n == 0 {
-        return scan_singly(octets, did_at(layout), 3) % 512;
+        return scan_singly(octets, did_at(layout), 3);
     }
     match layout {
         Layout::Rfc8331 => scan_words(octets, DID_AT, 3 + n),
         Layout::Draft2015 => {
             let head = scan_singly(octets, DRAFT_DID_AT, 3);
             let words = scan_singly(octets, DRAFT_WORDS_AT, n);
-            wrapping_add_u16(head, words) % 512
+            both(head, words)
         }
     }
 }
 
-// The word behind `n` user data words, over these and DID, SDID and Data_Count.
-fn checksum_ok(layout: Layout, octets: &[u8], n: usize) -> bool
-    requires { ⌜ WordsFit (now octets) (didAt layout) 3 × WordsFit (now octets) (wordsAt layout) (n + 1) ⌝ }
-    ensures { λ r. ⌜ r ≡ checksumAt (now (octets .entry)) (didAt layout) (wordsAt layout) n ⌝ }
+// The word behind `n` user data words, where the low nine bits of these and of DID, SDID and Data_Count make the sum.
+fn checksum_ok(layout: Layout, octets: &[u8], n: usize, sum: u16) -> bool
+    requires { ⌜ WordsFit (now octets) (wordsAt layout) (n + 1) ⌝ }
+    ensures { λ r. ⌜ r ≡ eqb (bitsAt (now (octets .entry)) (wordsAt layout + wordBits * n) wordBits) (checksumWord sum) ⌝ }
 {
-    let sum = sum_with_header(layout, octets, n);
     fetch(octets, words_at(layout) + WORD_BITS * n) == checksum_word(sum)
 }
 
@@ -143,7 +144,8 @@ impl Verdict {
     }
 }
 
-// 15, 11 and 12 of the packet at the front of the octets, which is all there.
+// 15, 16, 11 and 12 of the packet at the front of the octets, which is all there and passed 10. A header word that passed is no protected word, so one
+// pass over them and the user data words tells of these.
 fn check_content(
     layout: Layout,
     octets: &[u8],
@@ -151,6 +153,7 @@ fn check_content(
     size: OctetCount,
     index: usize,
 ) -> Verdict
+    requires { ⌜ headersOk layout (now octets) ≡ true ⌝ }
     requires { ⌜ (dataCount layout (now octets) ≡ words .0) × (size .0 ≡ ancSize layout (words .0)) × (size .0 ≤ length (now octets)) ⌝ }
     ensures { λ r. ⌜ r ≡ verdictOf (readAncContent layout index (now (octets .entry))) ⌝ }
 {
@@ -158,7 +161,11 @@ fn check_content(
     if !r_ok(layout, octets) {
         return Verdict::refuse(Refusal::R_BIT_SET, index);
     }
-    if !checksum_ok(layout, octets, n) {
+    let scan = scan_packet(layout, octets, n);
+    if !scan.clear {
+        return Verdict::refuse(Refusal::PROTECTED_WORD, index);
+    }
+    if !checksum_ok(layout, octets, n, scan.sum) {
         return Verdict::refuse(Refusal::CHECKSUM_WRONG, index);
     }
     if !zero_end(octets, words_at(layout) + WORD_BITS * (n + 1), size) {

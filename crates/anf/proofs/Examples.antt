@@ -9,9 +9,10 @@ use lib.ListN.{length, take, set}
 use Rattle.wire.specs.Bits.{toBits, num, bits, octets, bitsAt, rowAt, fieldBits}
 use Rattle.wire.specs.Words.{headerWord, checksumWord}
 use Rattle.wire.specs.Result.{Result, Checks, accepted, refuse, judge}
-use Rattle.wire.specs.Anc.{ancSize, ancRecord, headersOk, rOk, checksumOk, alignmentOk, ancChecks, readAnc, readRun}
-use Rattle.wire.specs.Cells.{cellsOf, listOf, cellRecord, headInRange, cellChecks, recordsFrom}
+use Rattle.wire.specs.Anc.{ancSize, ancRecord, headersOk, rOk, wordsOk, checksumOk, alignmentOk, ancChecks, readAnc, readRun}
+use Rattle.wire.specs.Cells.{cellsOf, listOf, cellRecord, headInRange, cellChecks, recordsFrom, clearFrom}
 use Rattle.wire.proofs.Examples.{a, aOctets, b, bOctets}
+use Rattle.wire.proofs.ProtectedExamples.{with}
 use Rattle.anf.specs.declared.format.Version.the-variants as version
 use Rattle.anf.specs.File.{fileName, nameBits, nameSize, fileHeadSize, versionNumber, versionField, versionOf, FieldContent, fileOctets, fieldHeaderChecks, readFront, fileChecks, offsetChecks, readField, readInto, writeHead, endOfFile, writeField, readFrom, readFile}
 
@@ -43,12 +44,12 @@ pub written : (fileOctets version.Two (first ∷ second ∷ []) ≡ file)
     × (writeField 1000 2 (listOf (a ∷ [])) 19 ≡ accepted firstOctets)
     × (writeField 0x01020304 3 (listOf (a ∷ b ∷ [])) 100 ≡ accepted secondOctets)
     × (writeField 7 0 [] 7 ≡ accepted (0 ∷ 0 ∷ 0 ∷ 7 ∷ 0 ∷ 0 ∷ 0 ∷ []))
-unfolding toBits num octets fieldBits headerWord checksumWord ancSize cellRecord headInRange cellChecks recordsFrom
+unfolding toBits num octets fieldBits headerWord checksumWord ancSize cellRecord headInRange cellChecks recordsFrom clearFrom
 written = (refl, refl, refl, refl, refl)
 
 -- read at 5, at the offset after the first field, and at the end
 pub read : (readInto file 5 8 ≡ accepted (first, 24)) × (readInto file 24 18 ≡ accepted (second, 55)) × (readInto file 55 0 ≡ refuse 54 0)
-unfolding toBits num bits bitsAt rowAt headerWord checksumWord ancSize ancRecord headersOk rOk checksumOk alignmentOk ancChecks readAnc readRun fieldHeaderChecks readFront versionOf fileChecks offsetChecks readField readInto
+unfolding toBits num bits bitsAt rowAt headerWord checksumWord ancSize ancRecord headersOk rOk wordsOk checksumOk alignmentOk ancChecks readAnc readRun fieldHeaderChecks readFront versionOf fileChecks offsetChecks readField readInto
 read = (refl, refl, refl)
 
 -- the whole file, and the file cut in its second field
@@ -56,7 +57,7 @@ pub whole : (readFile file ≡ record { fields = first ∷ second ∷ []; end = 
     × (readFile (take 54 file) ≡ record { fields = first ∷ []; end = record { number = 9; index = 1 } })
     × (readFile (take 30 file) ≡ record { fields = first ∷ []; end = record { number = 52; index = 0 } })
     × (readFile (take 24 file) ≡ record { fields = first ∷ []; end = endOfFile })
-unfolding toBits num bits bitsAt rowAt headerWord checksumWord ancSize ancRecord headersOk rOk checksumOk alignmentOk ancChecks readAnc readRun fieldHeaderChecks readFront versionOf fileChecks offsetChecks readField readFrom
+unfolding toBits num bits bitsAt rowAt headerWord checksumWord ancSize ancRecord headersOk rOk wordsOk checksumOk alignmentOk ancChecks readAnc readRun fieldHeaderChecks readFront versionOf fileChecks offsetChecks readField readFrom
 whole = (refl, refl, refl, refl)
 
 -- "The reader takes versions 1 and 2" (02, K2): a version 1 file is the octets of its version, is read field by field, and ends in 52
@@ -66,7 +67,7 @@ pub version-1 : (fileOctets version.One (first ∷ second ∷ []) ≡ file1)
     × (readFile file1 ≡ record { fields = first ∷ second ∷ []; end = endOfFile })
     × (readFile (take 28 file1) ≡ record { fields = first ∷ []; end = record { number = 52; index = 0 } })
     × (readFile (take 29 file1) ≡ record { fields = first ∷ []; end = record { number = 9; index = 0 } })
-unfolding toBits num bits bitsAt rowAt headerWord checksumWord ancSize ancRecord headersOk rOk checksumOk alignmentOk ancChecks readAnc readRun fieldHeaderChecks readFront versionOf fileChecks offsetChecks readField octets fieldBits readInto readFrom
+unfolding toBits num bits bitsAt rowAt headerWord checksumWord ancSize ancRecord headersOk rOk wordsOk checksumOk alignmentOk ancChecks readAnc readRun fieldHeaderChecks readFront versionOf fileChecks offsetChecks readField octets fieldBits readInto readFrom
 version-1 = (refl, refl, refl, refl, refl)
 
 -- "an old reader refuses it with 51" (02, K2): 50 and 51 as 01 has them
@@ -105,11 +106,25 @@ pub refused-packets : (readField (take 23 file) 5 ≡ refuse 9 0) × (readField 
     × (readField (set file 16 0x10) 5 ≡ refuse 10 0) × (readField (set file 51 0x00) 24 ≡ refuse 11 1) × (readField (set file 23 0x01) 5 ≡ refuse 12 0)
     × (readField (set (take 24 file) 10 0xFF) 5 ≡ refuse 9 1)
     × (readInto file 5 7 ≡ refuse 14 0)
-unfolding toBits num bits bitsAt rowAt headerWord checksumWord ancSize ancRecord headersOk rOk checksumOk alignmentOk ancChecks readAnc readRun fieldHeaderChecks readFront versionOf fileChecks offsetChecks readField readInto
+unfolding toBits num bits bitsAt rowAt headerWord checksumWord ancSize ancRecord headersOk rOk wordsOk checksumOk alignmentOk ancChecks readAnc readRun fieldHeaderChecks readFront versionOf fileChecks offsetChecks readField readInto
 refused-packets = (refl, refl, refl, refl, refl, refl, refl)
+
+-- 16 with the index of the packet in its field, before 11 (02, K5): B with 0x3FB, 0x3FC, 0x004 and 0x003 for its first word, its checksum wrong each time
+pub refused-protected : (readField (set (set file 50 0x0B) 51 0xFB) 24 ≡ refuse 11 1) × (readField (set (set file 50 0x0B) 51 0xFC) 24 ≡ refuse 16 1)
+    × (readField (set (set file 50 0x08) 51 0x04) 24 ≡ refuse 11 1) × (readField (set (set file 50 0x08) 51 0x03) 24 ≡ refuse 16 1)
+unfolding toBits num bits bitsAt rowAt headerWord checksumWord ancSize ancRecord headersOk rOk wordsOk checksumOk alignmentOk ancChecks readAnc readRun fieldHeaderChecks readFront versionOf fileChecks offsetChecks readField
+refused-protected = (refl, refl, refl, refl)
+
+-- writing: 16 with the record's index, behind 53 and 20 and before 23; 0x004 and 0x3FB are written
+pub refused-protected-writing : (writeField 7 1 (cellsOf (with 0x003 0x100)) 100 ≡ refuse 53 0)
+    × (writeField 7 2 (cellsOf (with 0x003 0x100) ++ (1 ∷ [])) 100 ≡ refuse 20 1)
+    × (writeField 7 2 (listOf (a ∷ with 0x100 0x3FC ∷ [])) 0 ≡ refuse 16 1)
+    × (writeField 7 2 (cellsOf (with 0x004 0x3FB)) 18 ≡ refuse 23 0)
+unfolding toBits num octets fieldBits headerWord checksumWord ancSize cellRecord headInRange cellChecks recordsFrom clearFrom
+refused-protected-writing = (refl, refl, refl, refl)
 
 -- writing: 53 before 20, 20 with the record's index, 23
 pub refused-writing : (writeField 7 1 (1 ∷ []) 100 ≡ refuse 53 0) × (writeField 7 4 [] 100 ≡ refuse 53 0)
     × (writeField 7 2 (cellsOf a ++ (1 ∷ [])) 100 ≡ refuse 20 1) × (writeField 7 2 (cellsOf a) 18 ≡ refuse 23 0) × (writeHead 4 ≡ refuse 23 0)
-unfolding toBits num octets fieldBits headerWord checksumWord ancSize cellRecord headInRange cellChecks recordsFrom
+unfolding toBits num octets fieldBits headerWord checksumWord ancSize cellRecord headInRange cellChecks recordsFrom clearFrom
 refused-writing = (refl, refl, refl, refl, refl)

@@ -127,7 +127,7 @@ fieldHeaderChecks v s = (leb (fieldHeaderSize v) (length s), 52) ∷ (fileFOk (f
 abbrev pub limitChecks : List Record → Checks
 limitChecks rs = (withinLimits (length rs) (length (listOf rs)), 21) ∷ []
 
--- 52, 53, 9 to 12, 21
+-- 52, 53, 9 to 12 and 16 (02, K5: "and in stored files"), 21
 unfoldable pub readFront : Version → List ℕ → Result FieldContent
 readFront v s =
     judge 0 (fieldHeaderChecks v s)
@@ -178,7 +178,7 @@ writeHead room = judge 0 ((leb fileHeadSize room, 23) ∷ []) (accepted (fileHea
 abbrev pub roomChecks : List Record → (cells room : ℕ) → Checks
 roomChecks rs cells room = (withinLimits (length rs) cells, 21) ∷ (leb (fieldSize writtenVersion rs) room, 23) ∷ []
 
--- "Writing one field: 53, 20, 21, 23": the records that are written
+-- "Writing one field: 53, 20, 21, 23", and 16 "after 20" (02, K5): the records that are written
 abbrev pub fieldRecords : (f : ℕ) (cells : List ℕ) (room : ℕ) → Result (List Record)
 fieldRecords f cells room = recordsToWrite ((fileFOk f, 53) ∷ []) (λ rs. roomChecks rs (length cells) room) cells
 

@@ -9,7 +9,7 @@ use Rattle.wire.specs.Layout.{rfc8331}
 use Rattle.wire.specs.Result.{accepted, IsAccepted}
 use Rattle.wire.specs.Anc.{Each, Record, WellFormed}
 use Rattle.wire.specs.Cells.{listOf, cellRecord, cellChecks, rest, readList}
-use Rattle.wire.proofs.CellLaws.{front-passed, front-reads, list-iff}
+use Rattle.wire.proofs.CellLaws.{front-reads, list-iff}
 use Rattle.wire.proofs.ResultLaws.{Passed, accepted-is}
 use Rattle.record.proofs.FrontLaws.{Lies, lies}
 use Rattle.cells.specs.Answers.{listRecords}
@@ -26,10 +26,10 @@ front l h some = let a = accepted-is (readList l) h in let p = list-iff l (a .0)
     go : (rs : List Record) → readList l ≡ accepted rs → Each (WellFormed rfc8331) rs → l ≡ listOf rs → Front l
     go [] e f c = absurd (omega (arith, ap length c))
     go (r ∷ rs) e f c =
-        let p = subst (λ (y : List ℕ). Passed (cellChecks y) × (cellRecord y ≡ r) × (rest y ≡ listOf rs)) (sym c) (front-reads r (listOf rs) (f .0)) in
+        let p = subst (λ (y : List ℕ). Passed (cellChecks y) × (cellRecord y ≡ r) × (rest y ≡ listOf rs)) (sym c) (front-reads r (listOf rs) (f .0 .fits)) in
         let b : readList (rest l) ≡ accepted rs = list-iff (rest l) rs .1 (f .1, p .2) in
         record {
-          formed = front-passed l (p .0) .0;
+          formed = subst (WellFormed rfc8331) (sym (p .1)) (f .0);
           lies = lies l (p .0);
           behind = subst IsAccepted (sym b) tt;
           records = ap listRecords e ∙ λ i. sym (p .1) i ∷ listRecords (sym b i);

@@ -1,15 +1,19 @@
--- A list checked record by record: what was counted, and what the cells that are left will add.
+-- A list checked record by record: what was counted, and what the cells that are left will add; 16 once all of it passed 20.
 -- By the record at the front of the cells: its checks decide, and its words give its cells and its size.
-use mathlib.Core.Path.{_≡_, refl, ap, ap₂, _∙_}
+use mathlib.Core.Path.{_≡_, refl, ap, ap₂, sym, _∙_}
+use mathlib.Core.Bool.{Bool, true, false, cond}
 use mathlib.Core.List.{List, [], _∷_}
 use Prim.Native.Nat.{ℕ, _+_, _<_, _≤_}
 use native.Mathlib.Nat.{zero-add, add-zero}
 use native.Mathlib.Omega.{arith}
+use lib.Dec.{eqb}
 use lib.ListN.{length, length-drop}
-use Rattle.wire.specs.Result.{Result, refused, accepted, _then_}
+use borrow.Author.Tests.{eqb-true, eqb-false, eq-eqb, ne-eqb}
+use Rattle.wire.specs.Result.{Result, refused, accepted, refuse, _then_}
+use Rattle.wire.specs.Words.{allClear}
 use Rattle.wire.specs.Layout.{Layout}
 use Rattle.wire.specs.Anc.{Record, ancSize, runSize}
-use Rattle.wire.specs.Cells.{headCells, cellCount, cellRecord, cellChecks, rest, recordsFrom}
+use Rattle.wire.specs.Cells.{headCells, cellCount, cellRecord, cellChecks, rest, recordsFrom, clearFrom}
 use Rattle.wire.proofs.ResultLaws.{Passed, judge-passes}
 use Rattle.wire.proofs.CellLaws.{records-bound}
 use Rattle.record.specs.declared.check.Front.the-variants as front
@@ -18,6 +22,20 @@ use Rattle.record.proofs.FrontLaws.{lies, malformed}
 use Rattle.cells.specs.declared.check.Listed.{Listed}
 use Rattle.cells.specs.declared.check.Listed.the-variants as listed
 use Rattle.cells.specs.Answers.{listedOf}
+use Rattle.cells.specs.Clear.{clearBefore}
+
+-- what 16 says of `count` records, the first `first` of them clear, and of those behind them
+unfoldable pub verdict : (first count : ℕ) → List Record → Result (List Record)
+verdict first count rs = cond (eqb first count) (clearFrom count rs) (refuse 16 first)
+
+-- the records before the first protected word are at most all
+pub before-most : (first count : ℕ) (clear : Bool) → first ≤ count → clearBefore first count clear ≤ count + 1
+before-most first count false h = omega arith
+before-most first count true h = go (eqb first count)
+  where
+    go : (t : Bool) → cond t (count + 1) first ≤ count + 1
+    go true = omega arith
+    go false = omega arith
 
 module _ (L : Layout) where
   -- `count` records of `octets` octets before those that are read
@@ -40,30 +58,66 @@ module _ (L : Layout) where
   tally-one count octets r (refused x) = refl
   tally-one count octets r (accepted rs) = tallied _ _ _ _ (omega arith) (omega arith)
 
+  -- one more under 16: a protected word in it decides, where none came before
+  verdict-one : (first count octets : ℕ) (r : Record) (rs : List Record) → first ≤ count
+      → tally count octets (verdict first count (r ∷ rs))
+      ≡ tally (count + 1) (octets + ancSize L (length (r .words))) (verdict (clearBefore first count (allClear (r .words))) (count + 1) rs)
+  unfolding verdict clearFrom
+  verdict-one first count octets r rs h = go (allClear (r .words)) (eqb first count) refl refl
+    where
+      go : (c e : Bool) → allClear (r .words) ≡ c → eqb first count ≡ e
+          → tally count octets (verdict first count (r ∷ rs))
+          ≡ tally (count + 1) (octets + ancSize L (length (r .words))) (verdict (clearBefore first count (allClear (r .words))) (count + 1) rs)
+      go true true p q = rw (p, q, eq-eqb (count + 1) (count + 1) refl) (tally-one count octets r (clearFrom (count + 1) rs))
+      go false true p q =
+          let s = eqb-true first count q in
+          rw (p, q, ne-eqb first (count + 1) (λ e. omega arith)) (ap (λ (k : ℕ). listed.Refused (record { number = 16; index = k })) (sym s))
+      go true false p q = rw (p, q, ne-eqb first (count + 1) (λ e. omega arith)) refl
+      go false false p q = rw (p, q, ne-eqb first (count + 1) (λ e. omega arith)) refl
+
+  verdict-next : (first count octets : ℕ) (r : Record) (y : Result (List Record)) → first ≤ count
+      → tally count octets ((y then λ rs. accepted (r ∷ rs)) then verdict first count)
+      ≡ tally (count + 1) (octets + ancSize L (length (r .words))) (y then verdict (clearBefore first count (allClear (r .words))) (count + 1))
+  verdict-next first count octets r (refused x) h = refl
+  verdict-next first count octets r (accepted rs) h = verdict-one first count octets r rs h
+
   -- a record that passes is counted
-  pub tally-next : (count octets : ℕ) (l : List ℕ) → 0 < length l → Passed (cellChecks l)
-      → tally count octets (recordsFrom (length l) count l)
-      ≡ tally (count + 1) (octets + ancSize L (cellCount l)) (recordsFrom (length (rest l)) (count + 1) (rest l))
+  pub tally-next : (first count octets : ℕ) (l : List ℕ) → first ≤ count → 0 < length l → Passed (cellChecks l)
+      → tally count octets (recordsFrom (length l) count l then verdict first count)
+      ≡ tally (count + 1) (octets + ancSize L (cellCount l))
+      (recordsFrom (length (rest l)) (count + 1) (rest l) then verdict (clearBefore first count (allClear (cellRecord l .words))) (count + 1))
   unfolding recordsFrom
-  tally-next count octets [] h p = absurd (omega arith)
-  tally-next count octets (x ∷ l) h p =
+  tally-next first count octets [] f h p = absurd (omega arith)
+  tally-next first count octets (x ∷ l) f h p =
       let d : length (rest (x ∷ l)) ≤ length l = rw (length-drop (headCells + cellCount (x ∷ l)) (x ∷ l)) (omega arith) in
-      ap (tally count octets)
+      ap (λ (y : Result (List Record)). tally count octets (y then verdict first count))
       (judge-passes count (cellChecks (x ∷ l)) _ p
       ∙ ap (λ (y : Result (List Record)). y then λ rs. accepted (cellRecord (x ∷ l) ∷ rs)) (records-bound (length l) (count + 1) (rest (x ∷ l)) d))
-      ∙ tally-one count octets (cellRecord (x ∷ l)) (recordsFrom (length (rest (x ∷ l))) (count + 1) (rest (x ∷ l)))
+      ∙ verdict-next first count octets (cellRecord (x ∷ l)) (recordsFrom (length (rest (x ∷ l))) (count + 1) (rest (x ∷ l))) f
       ∙ rw (lies (x ∷ l) p .words)
 
   -- one that does not pass is refused with its index
-  pub tally-stops : (count octets : ℕ) (l : List ℕ) → 0 < length l → frontOf l ≡ front.Malformed
-      → tally count octets (recordsFrom (length l) count l) ≡ listed.Refused (record { number = 20; index = count })
+  pub tally-stops : (first count octets : ℕ) (l : List ℕ) → 0 < length l → frontOf l ≡ front.Malformed
+      → tally count octets (recordsFrom (length l) count l then verdict first count) ≡ listed.Refused (record { number = 20; index = count })
   unfolding recordsFrom
-  tally-stops count octets [] h e = absurd (omega arith)
-  tally-stops count octets (x ∷ l) h e = ap (tally count octets) (malformed count (x ∷ l) _ e)
+  tally-stops first count octets [] h e = absurd (omega arith)
+  tally-stops first count octets (x ∷ l) h e =
+      ap (λ (y : Result (List Record)). tally count octets (y then verdict first count)) (malformed count (x ∷ l) _ e)
 
-  -- no cells are no record
-  pub tally-ends : (count octets : ℕ) (l : List ℕ) → length l ≤ 0
-      → tally count octets (recordsFrom (length l) count l) ≡ listed.Records count (record { 0 = octets })
+  -- no cells are no record: what is left is 16
+  pub tally-ends : (first count octets : ℕ) (l : List ℕ) → length l ≤ 0
+      → tally count octets (recordsFrom (length l) count l then verdict first count) ≡ tally count octets (verdict first count [])
   unfolding recordsFrom
-  tally-ends count octets [] h = tallied _ _ _ _ (add-zero count) (add-zero octets)
-  tally-ends count octets (x ∷ l) h = absurd (omega arith)
+  tally-ends first count octets [] h = refl
+  tally-ends first count octets (x ∷ l) h = absurd (omega arith)
+
+  pub ends-protected : (first count octets : ℕ) → first < count
+      → listed.Refused (record { number = 16; index = first }) ≡ tally count octets (verdict first count [])
+  unfolding verdict
+  ends-protected first count octets h = rw (ne-eqb first count (λ e. omega arith)) refl
+
+  pub ends-clear : (first count octets : ℕ) → first ≤ count → count ≤ first
+      → listed.Records count (record { 0 = octets }) ≡ tally count octets (verdict first count [])
+  unfolding verdict clearFrom
+  ends-clear first count octets h k =
+      rw (eq-eqb first count (omega arith)) (tallied _ _ _ _ (sym (add-zero count)) (sym (add-zero octets)))

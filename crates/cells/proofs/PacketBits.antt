@@ -26,7 +26,7 @@ summed-low words sum =
 -- the table's entries for DID, SDID and Data_Count are their header words
 pub entries-are : (table : List ℕ) (r : Record) → HeaderTable table → WellFormed rfc8331 r
     → getD table (r .did) 0 ∷ getD table (r .sdid) 0 ∷ getD table (length (r .words)) 0 ∷ [] ≡ headWords r
-entries-are table r t f = λ i. t .entry (r .did) (f .did) i ∷ t .entry (r .sdid) (f .sdid) i ∷ t .entry (length (r .words)) (f .count) i ∷ []
+entries-are table r t f = λ i. t .entry (r .did) (f .fits .did) i ∷ t .entry (r .sdid) (f .fits .sdid) i ∷ t .entry (length (r .words)) (f .fits .count) i ∷ []
 
 -- the words, and the checksum word stored behind them
 pub summed-stored : (b : List Bool) (at : ℕ) (words : List ℕ) (sum : ℕ) → at ≤ length b

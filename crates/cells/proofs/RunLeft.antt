@@ -9,7 +9,7 @@ use Rattle.wire.specs.Bits.{overwrite, splice}
 use Rattle.wire.specs.Layout.{Layout}
 use Rattle.wire.specs.Result.{IsAccepted}
 use Rattle.wire.specs.Anc.{ancOctets, runOctets, ancSize}
-use Rattle.wire.specs.Cells.{cellCount, cellRecord, recordsFrom, rest, readList}
+use Rattle.wire.specs.Cells.{cellCount, cellRecord, recordsFrom, clearFrom, rest, readList}
 use Rattle.wire.proofs.ListLaws.{length-splice, splice-append, splice-none}
 use Rattle.wire.proofs.SizeLaws.{length-anc}
 use Rattle.cells.specs.Answers.{listOctets}
@@ -29,7 +29,7 @@ module _ (L : Layout) where
 
   -- after the last
   pub to-write-none : (all octets left : List ℕ) (to : ℕ) → ToWrite all octets left to → length left ≤ 0 → octets ≡ all
-  unfolding recordsFrom
+  unfolding recordsFrom clearFrom
   to-write-none all octets [] to w h = sym (splice-none octets to) ∙ w .written
   to-write-none all octets (x ∷ left) to w h = absurd (omega arith)
 

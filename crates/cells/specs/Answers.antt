@@ -14,7 +14,7 @@ abbrev pub listedOf : Layout → Result (List Record) → Listed
 listedOf L (refused x) = listed.Refused x
 listedOf L (accepted rs) = listed.Records (length rs) (record { 0 = runSize L rs })
 
--- the refusal of a list: "its number and an index from 0: .. the record for 20"
+-- the refusal of a list: "its number and an index from 0: .. the record for 20", and for 16 (02, K5)
 abbrev pub listRefusal : Listed → Refusal
 listRefusal (listed.Refused x) = x
 listRefusal (listed.Records n o) = noRefusal

@@ -1,11 +1,12 @@
-// A list checked and measured, without writing anything (01, refusal 20).
+// A list checked and measured, without writing anything (01, refusal 20; 02, K5, refusal 16).
 ghost use mathlib.Core.Path.{_≡_};
-ghost use Prim.Native.Nat.{_+_};
+ghost use Prim.Native.Nat.{_+_, _^_, _<_};
 ghost use lib.Dec.{leb};
 ghost use Rattle.wire.specs.Cells.{readList};
 ghost use Rattle.wire.specs.Result.{IsAccepted};
 ghost use Rattle.wire.specs.Writing.{noStream};
 ghost use Rattle.cells.specs.Answers.{listRecords, listRefusal, listedOf};
+ghost use Rattle.cells.specs.Clear.{clearBefore};
 use places::packet_size;
 use places::plus;
 use record::check::Front;
@@ -46,13 +47,25 @@ impl Listed {
     }
 }
 
-// All records of the list, and the octets that they take in the layout.
+// How many records stand before the first that has a protected word: `first` of `count`, and one record more.
+fn clear_before(first: usize, count: usize, clear: bool) -> usize
+    requires { ⌜ count + 1 < 2 ^ 64 ⌝ }
+    ensures { λ r. ⌜ r ≡ clearBefore first count clear ⌝ }
+{
+    if clear & (first == count) {
+        return count + 1;
+    }
+    first
+}
+
+// All records of the list, and the octets that they take in the layout: 20 over the whole list, and then 16.
 pub fn check_list(layout: Layout, cells: &[u16]) -> Listed
     ensures { λ r. ⌜ r ≡ listedOf layout (readList (now (cells .entry))) ⌝ }
 {
     let mut rest = cells;
     let mut octets = OctetCount(0);
     let mut count: usize = 0;
+    let mut first: usize = 0;
     while rest.len() > 0 {
         let front = check_record(rest);
         match front {
@@ -62,14 +75,21 @@ pub fn check_list(layout: Layout, cells: &[u16]) -> Listed
                     index: count,
                 });
             }
-            Front::Record(words) => {
+            Front::Record { words, clear } => {
                 let size = packet_size(layout, words);
                 let step = Header::CELLS + (words.0 as usize);
                 rest = &rest[step..];
                 octets = plus(octets, size);
+                first = clear_before(first, count, clear);
             }
         }
         count += 1;
+    }
+    if first < count {
+        return Listed::Refused(Refusal {
+            number: Refusal::PROTECTED_WORD,
+            index: first,
+        });
     }
     Listed::Records { count, octets }
 }

@@ -71,7 +71,7 @@ fn check_opened(source: u32, payload_type: u8, head: Head) -> Stage
     require(head.payload_type == payload_type, Refusal::TYPE_OTHER)
 }
 
-// 35, then 1 to 13 and 15, then 30, 31.
+// 35, then 1 to 13, 15 and 16, then 30, 31.
 pub(crate) fn admit(state: State, room: usize, layout: Layout, octets: &[u8]) -> Checked
     ensures { λ r. ⌜ r ≡ checkedOf layout (now (octets .entry)) (step.admission state layout room (now (octets .entry))) ⌝ }
 {

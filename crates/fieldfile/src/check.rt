@@ -24,7 +24,7 @@ use wire::number::Timestamp;
 use wire::refusal::Refusal;
 use words::octet::quad_at;
 
-// 52, 53, 9 to 12, 21, of the field at the front of the octets, which stand at `at` of a file of this version.
+// 52, 53, 9 to 12 and 16, 21, of the field at the front of the octets, which stand at `at` of a file of this version.
 fn check_front(octets: &[u8], at: OctetCount, version: Version) -> FieldRead
     requires { ⌜ at .0 + length (now octets) < 2 ^ 64 ⌝ }
     ensures { λ r. ⌜ r ≡ readOf (readFront version (now (octets .entry)) then λ k. accepted (k, at .0 + fieldSize version (k .records))) ⌝ }

@@ -17,7 +17,7 @@ use wire::number::Timestamp;
 use wire::refusal::Refusal;
 use words::octet::copy;
 
-// 53, 20, 21, 23: the records, and the octets of their ANC data packets.
+// 53, 20, 16, 21, 23: the records, and the octets of their ANC data packets.
 pub(crate) fn measure(f: u8, cells: &[u16], room: usize) -> Listed
     ensures { λ r. ⌜ r ≡ listedOf rfc8331 (fieldRecords f (now (cells .entry)) room) ⌝ }
 {

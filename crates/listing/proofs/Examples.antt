@@ -7,9 +7,9 @@ use lib.ListN.{replicate}
 use Rattle.wire.specs.Layout.{rfc8331}
 use Rattle.wire.specs.Bits.{toBits, num, bits, bitsAt, rowAt}
 use Rattle.wire.specs.Words.{headerWord, checksumWord}
-use Rattle.wire.specs.Anc.{ancSize, ancRecord, headersOk, rOk, checksumOk, alignmentOk, ancChecks, readAnc, readRun}
+use Rattle.wire.specs.Anc.{ancSize, ancRecord, headersOk, rOk, wordsOk, checksumOk, alignmentOk, ancChecks, readAnc, readRun}
 use Rattle.wire.specs.Packet.{packetRead, headerChecks, paddingChecks, payloadChecks, readRecords, readPacket, readContent}
-use Rattle.wire.specs.Cells.{cellRecord, headInRange, cellChecks, recordsFrom}
+use Rattle.wire.specs.Cells.{cellRecord, headInRange, cellChecks, recordsFrom, clearFrom}
 use Rattle.wire.proofs.PacketExamples.{frame7Octets, frame8Octets, frame10Octets}
 use Rattle.stream.specs.Step.{step}
 use Rattle.text.specs.Text.{ascii, decimal, decimalIn, digits, hex}
@@ -39,5 +39,5 @@ input = 0 ∷ 32 ∷ (frame7Octets ++ (0 ∷ 32 ∷ (frame8Octets ++ (0 ∷ 32 �
 
 pub example : listing rfc8331 store input
     ≡ ascii "fieldlist 1\n7 skipped\n8 whole ts=2501 f=3 records=1\n y line=9 off=0 s=0/0 did=41 sdid=05 words=0\n8 late\n10 skipped\nfresh=3 late=1 missing=1\n"
-unfolding toBits num bits bitsAt rowAt headerWord checksumWord ancSize ancRecord headersOk rOk checksumOk alignmentOk ancChecks readAnc readRun packetRead headerChecks paddingChecks payloadChecks readRecords readPacket readContent step cellRecord headInRange cellChecks recordsFrom ascii decimal decimalIn hex digits turn cutText remaining listing lineText locationText dataText wholeText refusedText countsText
+unfolding toBits num bits bitsAt rowAt headerWord checksumWord ancSize ancRecord headersOk rOk wordsOk checksumOk alignmentOk ancChecks readAnc readRun packetRead headerChecks paddingChecks payloadChecks readRecords readPacket readContent step cellRecord headInRange cellChecks recordsFrom clearFrom ascii decimal decimalIn hex digits turn cutText remaining listing lineText locationText dataText wholeText refusedText countsText
 example = refl

@@ -83,7 +83,7 @@ fn number_of(layout: Layout, octets: &[u8], checked: Checked) -> u64
     }
 }
 
-// The first packet that passes 1 to 13 opens the depacketizer.
+// The first packet that passes 1 to 13, 15 and 16 opens the depacketizer.
 fn opening(layout: Layout, octets: &[u8], checked: Checked) -> Opened
     requires { ⌜ checked ≡ checkedOf layout (now octets) (readContent layout (now octets)) ⌝ }
     ensures { λ r. ⌜ r ≡ listing.opening (readContent layout (now (octets .entry))) ⌝ }

@@ -63,7 +63,7 @@ fn layout_ok(layout: Layout, f: u8, cells: &[u16]) -> bool
     }
 }
 
-// 24, 20, 21, 25, 22, 23: the records, and the octets of their ANC data packets.
+// 24, 20, 16, 21, 25, 22, 23: the records, and the octets of their ANC data packets.
 pub(crate) fn measure(layout: Layout, head: Head, cells: &[u16], room: usize) -> Listed
     ensures { λ r. ⌜ r ≡ listedOf layout (packetRecords layout (contentOf head) (now (cells .entry)) room) ⌝ }
 {

@@ -1,4 +1,4 @@
--- A header is found exactly where the cells of a well-formed record stand, and otherwise 20 is given.
+-- A header is found exactly where the cells of a record stand whose numbers are in range, and otherwise 20 is given.
 -- By the checks of the record at the front of the cells from there on.
 use mathlib.Core.Path.{_≡_, refl, ap, sym, _∙_, subst}
 use mathlib.Core.Logic.{_↔_}
@@ -9,7 +9,7 @@ use lib.ListN.{length, take, drop}
 use Rattle.wire.specs.declared.refusal.Refusal.{Refusal}
 use Rattle.wire.specs.Result.{Result, refused, accepted, refuse}
 use Rattle.wire.specs.Layout.{rfc8331}
-use Rattle.wire.specs.Anc.{Record, WellFormed}
+use Rattle.wire.specs.Anc.{Record, InRange}
 use Rattle.wire.specs.Cells.{headCells, cellsOf, cellCount, cellRecord, cellChecks, rest}
 use Rattle.wire.proofs.ResultLaws.{Passed, accepted-inj, judge-accepts, judge-passes}
 use Rattle.wire.proofs.CellLaws.{front-passed, front-reads}
@@ -22,13 +22,13 @@ use Rattle.record.specs.Header.{headerOf, recordOf, headerCells, headerA
 use Rattle.record.proofs.HeaderLaws.{header-record, header-cells}
 use Rattle.record.proofs.FrontLaws.{lies, taken, malformed}
 
--- the cells of the well-formed record `r` stand from the cell `at` on, with others behind them
+-- the cells of the record `r`, whose numbers are in range, stand from the cell `at` on, with others behind them
 pub record StandsAt (l : List ℕ) (at : ℕ) (r : Record) : Type 0 where
-  pub formed : WellFormed rfc8331 r
+  pub formed : InRange rfc8331 r
   pub behind : List ℕ
   pub cells : drop at l ≡ cellsOf r ++ behind
 
--- A HEADER is found exactly where a well-formed record's cells stand, and is that record's
+-- A HEADER is found exactly where such a record's cells stand, and is that record's
 pub header-at-iff : (l : List ℕ) (at : ℕ) (h : Header) → (headerAt l at ≡ accepted h) ↔ ((r : Record) × StandsAt l at r × (headerOf r ≡ h))
 unfolding headerAt
 header-at-iff l at h = (
@@ -55,8 +55,8 @@ unfolding headerAt
 header-at-refused l at x e = go (frontOf (drop at l)) refl
   where
     go : (f : Front) → frontOf (drop at l) ≡ f → x ≡ record { number = 20; index = 0 }
-    go (front.Record w) h =
-        let p = judge-passes 0 (cellChecks (drop at l)) (accepted (headerOf (cellRecord (drop at l)))) (taken (drop at l) w h .0) in
+    go (front.Record w clear) h =
+        let p = judge-passes 0 (cellChecks (drop at l)) (accepted (headerOf (cellRecord (drop at l)))) (taken (drop at l) w clear h .passed) in
         let o : _≡_ {A = ℕ} 0 1 = cc in
         absurd (omega arith)
     go front.Malformed h =
@@ -77,7 +77,7 @@ found-passed l at h e = go (headerAt l at) refl e
 
 -- the record at the front of the cells has the header `h`
 pub record Starts (l : List ℕ) (h : Header) : Type 0 where
-  pub formed : WellFormed rfc8331 (cellRecord l)
+  pub formed : InRange rfc8331 (cellRecord l)
   pub count : h .words .0 ≡ cellCount l
   pub inside : headCells + h .words .0 ≤ length l
   pub whole : recordOf h (take (h .words .0) (drop headCells l)) ≡ cellRecord l

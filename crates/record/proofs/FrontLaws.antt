@@ -1,19 +1,20 @@
 -- The record at the front of cells: what its checks say of where it lies, and what `check_record` answers.
 -- By the checks in their order, which all give one number.
-use mathlib.Core.Path.{_≡_, refl, ap, sym, _∙_}
+use mathlib.Core.Path.{_≡_, refl, ap, ap₂, sym, _∙_}
 use mathlib.Core.Bool.{Bool, true, false}
 use mathlib.Core.List.{List, [], _∷_}
-use Prim.Native.Nat.{ℕ, _+_, _-_, _<_, _≤_}
+use Prim.Native.Nat.{ℕ, _+_, _-_, _^_, _<_, _≤_}
 use native.Mathlib.Omega.{arith}
-use lib.ListN.{length, take, drop, length-drop}
+use lib.ListN.{length, take, drop, getD, length-drop}
 use lib.Seq.{length-take-le}
-use borrow.Author.Tests.{leb-true}
+use lib.Dec.{leb, ltb}
+use borrow.Author.Tests.{leb-true, ltb-true, lt-ltb}
 use Rattle.wire.specs.Result.{Result, accepted, refuse, Checks, judge}
-use Rattle.wire.specs.Words.{headerNumbers}
+use Rattle.wire.specs.Words.{wordBits, headerNumbers, leastClear, mostClear, isClear, allClear}
 use Rattle.wire.specs.Anc.{Each, Record}
-use Rattle.wire.specs.Cells.{headCells, cellCount, cellRecord, cellChecks, rest}
+use Rattle.wire.specs.Cells.{headCells, cellCount, cellRecord, allBelow, headInRange, cellChecks, rest}
 use Rattle.wire.specs.declared.count.WordCount.{WordCount}
-use Rattle.wire.proofs.ResultLaws.{Passed, judge-passes}
+use Rattle.wire.proofs.ResultLaws.{Passed, judge-passes, and-true, and-both}
 use Rattle.wire.proofs.CellLaws.{front-passed}
 use Rattle.wire.proofs.ListLaws.{part-all}
 use Rattle.record.specs.declared.check.Front.the-variants as front
@@ -36,22 +37,55 @@ lies l p =
     let w = length-words l h in
     record { inside = h; small = rw (← w) (front-passed l p .0 .count); words = w }
 
+-- its count fits eight bits where the cells before the words are in range
+pub count-small : (l : List ℕ) → headInRange l ≡ true → cellCount l < headerNumbers
+unfolding headInRange
+count-small l e =
+    let a = and-true (ltb (getD l 0 0) 2) _ e .1 in
+    let a = and-true (ltb (getD l 1 0) 2048) _ a .1 in
+    let a = and-true (ltb (getD l 2 0) 4096) _ a .1 in
+    let a = and-true (ltb (getD l 3 0) 2) _ a .1 in
+    let a = and-true (ltb (getD l 4 0) 128) _ a .1 in
+    let a = and-true (ltb (getD l 5 0) headerNumbers) _ a .1 in
+    ltb-true (cellCount l) headerNumbers (and-true (ltb (getD l 6 0) headerNumbers) (ltb (cellCount l) headerNumbers) a .1)
+
 -- the cells behind the record, as the code takes them
 pub rest-is : (l : List ℕ) (n : ℕ) → n ≡ cellCount l → take (length l - (headCells + n)) (drop (headCells + n) l) ≡ rest l
 rest-is l n e = part-all (headCells + n) l ∙ ap (λ (k : ℕ). drop (headCells + k) l) e
 
 -- what `check_record` answers
-pub front-taken : (l : List ℕ) → Passed (cellChecks l) → front.Record (record { 0 = cellCount l }) ≡ frontOf l
-front-taken l p =
-    sym (ap frontFrom (judge-passes 0 (cellChecks l) (accepted (cellRecord l)) p) ∙ ap (λ (n : ℕ). front.Record (record { 0 = n })) (lies l p .words))
+pub front-taken : (l : List ℕ) (clear : Bool) → Passed (cellChecks l) → allClear (cellRecord l .words) ≡ clear
+    → front.Record (record { 0 = cellCount l }) clear ≡ frontOf l
+front-taken l clear p c =
+    sym (ap frontFrom (judge-passes 0 (cellChecks l) (accepted (cellRecord l)) p) ∙ ap₂ (λ (n : ℕ) (x : Bool). front.Record (record { 0 = n }) x) (lies l p .words) c)
 
-front-record : (ts : Checks) (r : Record) (w : WordCount) → frontFrom (judge 0 ts (accepted r)) ≡ front.Record w → Passed ts × (w .0 ≡ length (r .words))
-front-record [] r w e = let q : w ≡ record { 0 = length (r .words) } = cc in (tt, ap (λ (x : WordCount). x .0) q)
-front-record ((true, m) ∷ ts) r w e = let p = front-record ts r w e in ((refl, p .0), p .1)
-front-record ((false, m) ∷ ts) r w e = let o : _≡_ {A = ℕ} 0 1 = cc in absurd (omega arith)
+front-record : (ts : Checks) (r : Record) (w : WordCount) (clear : Bool) → frontFrom (judge 0 ts (accepted r)) ≡ front.Record w clear
+    → Passed ts × (w .0 ≡ length (r .words)) × (clear ≡ allClear (r .words))
+front-record [] r w clear e =
+    let q : w ≡ record { 0 = length (r .words) } = cc in
+    let c : clear ≡ allClear (r .words) = cc in
+    (tt, ap (λ (x : WordCount). x .0) q, c)
+front-record ((true, m) ∷ ts) r w clear e = let p = front-record ts r w clear e in ((refl, p .0), p .1, p .2)
+front-record ((false, m) ∷ ts) r w clear e = let o : _≡_ {A = ℕ} 0 1 = cc in absurd (omega arith)
 
-pub taken : (l : List ℕ) (w : WordCount) → frontOf l ≡ front.Record w → Passed (cellChecks l) × (w .0 ≡ cellCount l)
-taken l w e = let p = front-record (cellChecks l) (cellRecord l) w e in (p .0, p .1 ∙ lies l (p .0) .words)
+-- what its answer says of the record
+pub record Taken (l : List ℕ) (w : WordCount) (clear : Bool) : Type 0 where
+  pub passed : Passed (cellChecks l)
+  pub count : w .0 ≡ cellCount l
+  pub told : clear ≡ allClear (cellRecord l .words)
+
+pub taken : (l : List ℕ) (w : WordCount) (clear : Bool) → frontOf l ≡ front.Record w clear → Taken l w clear
+taken l w clear e =
+    let p = front-record (cellChecks l) (cellRecord l) w clear e in
+    record { passed = p .0; count = p .1 ∙ lies l (p .0) .words; told = p .2 }
+
+-- clear words fit ten bits
+pub clear-below : (ws : List ℕ) → allClear ws ≡ true → allBelow (2 ^ wordBits) ws ≡ true
+clear-below [] e = refl
+clear-below (w ∷ ws) e =
+    let a = and-true (isClear w) (allClear ws) e in
+    let m = leb-true w mostClear (and-true (leb leastClear w) (leb w mostClear) (a .0) .1) in
+    and-both (lt-ltb w (2 ^ wordBits) (omega arith)) (clear-below ws (a .1))
 
 -- checks that all give one number give it, whatever the index
 all-one-number : {A : Type 0} (i m : ℕ) (ts : Checks) (r : Record) (x : Result A) → Each (λ (t : Bool × ℕ). t .1 ≡ m) ts

@@ -4,6 +4,7 @@ use Prim.Native.Nat.{ℕ}
 use lib.ListN.{length}
 use Rattle.wire.specs.Result.{Result, refused, accepted, judge}
 use Rattle.wire.specs.Anc.{Record}
+use Rattle.wire.specs.Words.{allClear}
 use Rattle.wire.specs.Cells.{cellChecks, cellRecord}
 use Rattle.record.specs.declared.check.Front.{Front}
 use Rattle.record.specs.declared.check.Front.the-variants as front
@@ -11,10 +12,10 @@ use Rattle.record.specs.declared.header.Header.{Header}
 use Rattle.record.specs.declared.header.Found.{Found}
 use Rattle.record.specs.declared.header.Found.the-variants as found
 
--- a record, by its n; or 20: "list malformed", the same for all of its cases
+-- a record, by its n and by whether it has no protected word (02, K5); or 20: "list malformed", the same for all of its cases
 abbrev pub frontFrom : Result Record → Front
 frontFrom (refused x) = front.Malformed
-frontFrom (accepted r) = front.Record (record { 0 = length (r .words) })
+frontFrom (accepted r) = front.Record (record { 0 = length (r .words) }) (allClear (r .words))
 
 -- the record at the front of the cells
 abbrev pub frontOf : List ℕ → Front

@@ -1,22 +1,24 @@
-// The record at the front of cells, checked (01, refusal 20).
+// The record at the front of cells, checked (01, refusal 20; 02, K5, refusal 16).
 ghost use mathlib.Core.Path.{_≡_};
 ghost use Prim.Native.Nat.{_^_, _≤_};
 ghost use lib.ListN.{length};
 ghost use Rattle.wire.specs.Cells.{allBelow, headCells, headInRange};
-ghost use Rattle.wire.specs.Words.{wordBits};
+ghost use Rattle.wire.specs.Words.{allClear, wordBits};
 ghost use Rattle.record.specs.Answers.{frontOf};
 use crate::header::Header;
 use wire::count::WordCount;
 use wire::layout::FLAG_NUMBERS;
 use wire::layout::HEADER_NUMBERS;
+use wire::layout::LEAST_CLEAR;
 use wire::layout::LINE_NUMBERS;
+use wire::layout::MOST_CLEAR;
 use wire::layout::OFFSET_NUMBERS;
 use wire::layout::STREAM_NUMBERS;
 use wire::layout::WORD_NUMBERS;
 
-// What the record at the front of a list is.
+// What the record at the front of a list is: its n, and whether none of its words is a protected one.
 pub enum Front {
-    Record(WordCount),
+    Record { words: WordCount, clear: bool },
     Malformed,
 }
 
@@ -48,7 +50,20 @@ fn words_in_range(words: &[u16]) -> bool
     fit
 }
 
-// The record at the front of the cells.
+// No word is a protected one.
+fn words_clear(words: &[u16]) -> bool
+    ensures { λ r. ⌜ r ≡ allClear (now (words .entry)) ⌝ }
+{
+    let mut clear = true;
+    let mut k: usize = 0;
+    while k < words.len() {
+        clear = clear & ((LEAST_CLEAR <= words[k]) & (words[k] <= MOST_CLEAR));
+        k += 1;
+    }
+    clear
+}
+
+// The record at the front of the cells. Words that are clear fit ten bits, so others are looked at twice only where one is protected or too large.
 pub fn check_record(cells: &[u16]) -> Front
     ensures { λ r. ⌜ r ≡ frontOf (now (cells .entry)) ⌝ }
 {
@@ -63,8 +78,15 @@ pub fn check_record(cells: &[u16]) -> Front
     if cells.len() < end {
         return Front::Malformed;
     }
-    if !words_in_range(&cells[Header::CELLS..end]) {
-        return Front::Malformed;
+    let words = WordCount(n as u8);
+    if words_clear(&cells[Header::CELLS..end]) {
+        return Front::Record { words, clear: true };
     }
-    Front::Record(WordCount(n as u8))
+    if words_in_range(&cells[Header::CELLS..end]) {
+        return Front::Record {
+            words,
+            clear: false,
+        };
+    }
+    Front::Malformed
 }

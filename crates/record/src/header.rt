@@ -2,7 +2,7 @@
 ghost use mathlib.Core.Path.{_≡_};
 ghost use Prim.Native.Nat.{_+_, _≤_};
 ghost use lib.ListN.{length};
-ghost use Rattle.wire.specs.Anc.{WellFormed};
+ghost use Rattle.wire.specs.Anc.{InRange};
 ghost use Rattle.wire.specs.Cells.{cellCount, cellRecord, headCells};
 ghost use Rattle.wire.specs.Layout.{rfc8331};
 ghost use Rattle.record.specs.Answers.{foundOf};
@@ -51,12 +51,12 @@ impl Header {
         let front = check_record(here);
         match front {
             Front::Malformed => malformed(),
-            Front::Record(_) => Found::Header(header_of(here)),
+            Front::Record { words: _, clear: _ } => Found::Header(header_of(here)),
         }
     }
 }
 
-// No whole well-formed record starts there.
+// No whole record starts there whose numbers are in range.
 fn malformed() -> Found
     ensures { λ r. ⌜ r ≡ Found.Refused (record { number = 20; index = 0 }) ⌝ }
 {
@@ -68,7 +68,7 @@ fn malformed() -> Found
 
 // The header of the record at the front of the cells, which was checked.
 fn header_of(cells: &[u16]) -> Header
-    requires { ⌜ WellFormed rfc8331 (cellRecord (now cells)) × (headCells + cellCount (now cells) ≤ length (now cells)) ⌝ }
+    requires { ⌜ InRange rfc8331 (cellRecord (now cells)) × (headCells + cellCount (now cells) ≤ length (now cells)) ⌝ }
     ensures { λ r. ⌜ r ≡ headerOf (cellRecord (now (cells .entry))) ⌝ }
 {
     Header {

@@ -83,7 +83,7 @@ next before at all out left to w h = go (w .records) (w .formed) (w .cells) (w .
         → ((o : List ℕ) (r : ℕ) → Put out to (recordTexts rs) o r → Put before at all o r) → Next before at all out left to
     go [] f e g = absurd (omega (arith, ap length e))
     go (r ∷ rs) f e g =
-        let p = subst (λ (y : List ℕ). Passed (cellChecks y) × (cellRecord y ≡ r) × (rest y ≡ listOf rs)) (sym e) (front-reads r (listOf rs) (f .0)) in
+        let p = subst (λ (y : List ℕ). Passed (cellChecks y) × (cellRecord y ≡ r) × (rest y ≡ listOf rs)) (sym e) (front-reads r (listOf rs) (f .0 .fits)) in
         record {
           passed = p .0;
           then = λ o n t. record { records = rs; formed = f .1; cells = p .2; put = λ o₂ n₂ u. g o₂ n₂ (both (same (ap recordText (p .1)) t) u) };

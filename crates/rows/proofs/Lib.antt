@@ -1,3 +1,2 @@
 pub mod LaneLaws
 pub mod Rows
-pub mod TotalLaws

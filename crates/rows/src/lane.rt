@@ -33,14 +33,14 @@ const LANES: [u16; 16] = [
     64,
 ];
 
-pub(crate) fn lanes() -> [u16; 16]
+pub fn lanes() -> [u16; 16]
     ensures { λ r. ⌜ r ≡ lanes ⌝ }
 {
     LANES
 }
 
 // The step to the next octet, and to the next eight words: the first factor.
-pub(crate) fn step(octets: &[u8], m: &[u16; 16]) -> usize
+pub fn step(octets: &[u8], m: &[u16; 16]) -> usize
     requires { ⌜ now m ≡ lanes ⌝ }
     ensures { λ r. ⌜ r ≡ 1 ⌝ }
 {
@@ -64,7 +64,7 @@ fn lane(octets: &[u8], at: usize, one: usize, m: &[u16; 16], z: usize, j: usize)
 }
 
 // The eight words from the octet `from` on.
-pub(crate) fn eight_at(octets: &[u8], from: usize, m: &[u16; 16]) -> [u16; 8]
+pub fn eight_at(octets: &[u8], from: usize, m: &[u16; 16]) -> [u16; 8]
     requires { ⌜ WordsFit (now octets) (8 * from) 8 × (now m ≡ lanes) ⌝ }
     ensures { λ r. ⌜ r ≡ rowAt wordBits (now (octets .entry)) (8 * from) 8 ⌝ }
 {

@@ -1,5 +1,4 @@
-// Rows of ten-bit words in octets: read out as cells, and summed; eight words a turn, in numbers of 16 bits. Every function here serves the crates
-// above and states what it asks of them.
-mod lane;
+// Rows of ten-bit words in octets, eight words a turn, in numbers of 16 bits: eight words at once (`lane`), read out as cells (`row`). `row_scan`
+// passes over rows, `row_writer` writes them. Every function here serves the crates above and states what it asks of them.
+pub mod lane;
 pub mod row;
-pub mod scan;

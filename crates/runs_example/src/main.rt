@@ -10,7 +10,9 @@ use rtp::packet::Head;
 use rtp::packet::Read;
 use std::num::wrapping_add_u16;
 use wire::layout::FRONT_SIZE;
+use wire::layout::LEAST_CLEAR;
 use wire::layout::Layout;
+use wire::layout::MOST_CLEAR;
 use wire::limit::MAX_CELLS;
 use wire::limit::MAX_PACKET;
 use wire::limit::MAX_RECORDS;
@@ -33,6 +35,9 @@ const COUNT_AT: usize = 7;
 const MAX_WORDS: usize = 255;
 
 const LONG_CELLS: usize = Header::CELLS + MAX_WORDS;
+
+// How many words are not protected.
+const CLEAR_WORDS: usize = (MOST_CLEAR - LEAST_CLEAR + 1) as usize;
 
 fn name(label: &[u8], n: u64) {
     number(label, n);
@@ -114,7 +119,7 @@ fn words_within(room: usize) -> u16 {
 }
 
 // The cell at an index of a list of `count` cells: records of 255 words and a shorter last one, all else as in record A. The
-// words count on through the list, modulo 1,024.
+// words count on through the list, from 4 to 1,019 and again: those that are not protected.
 fn long_cell(k: usize, count: usize) -> u16
     requires { ⌜ k < count ⌝ }
 {
@@ -127,7 +132,7 @@ fn long_cell(k: usize, count: usize) -> u16
         return words_within(count - k - 1);
     }
     let before = k / LONG_CELLS * MAX_WORDS;
-    ((before + place - Header::CELLS) % 1024) as u16
+    LEAST_CLEAR + ((before + place - Header::CELLS) % CLEAR_WORDS) as u16
 }
 
 // Records of 255 words, and a last one that fills the list.

@@ -8,7 +8,7 @@ use Rattle.wire.specs.Bits.{toBits, num, bits, bitsAt, rowAt}
 use Rattle.wire.specs.Words.{headerWord, checksumWord}
 use Rattle.wire.specs.Layout.{rfc8331, draft2015}
 use Rattle.wire.specs.Result.{accepted, refuse}
-use Rattle.wire.specs.Anc.{ancSize, ancRecord, headersOk, rOk, checksumOk, alignmentOk, ancChecks, readAnc, readRun}
+use Rattle.wire.specs.Anc.{ancSize, ancRecord, headersOk, rOk, wordsOk, checksumOk, alignmentOk, ancChecks, readAnc, readRun}
 use Rattle.wire.specs.Packet.{packetRead, headerChecks, paddingChecks, payloadChecks, readRecords, readPacket, readContent}
 use Rattle.wire.proofs.Examples.{a}
 use Rattle.wire.proofs.DraftExamples.{aOctets}
@@ -31,7 +31,7 @@ abbrev stream : Stream
 stream = record { layout = draft2015; source = 1; type = 112; start = 7; fields = field 7 1 ∷ field 8 2 ∷ [] }
 
 accepts : (i : ℕ) → i < 2 → admit draft2015 1 112 (nth stream i .part .octets) ≡ accepted (contentAt stream i (nth stream i))
-unfolding toBits num bits bitsAt rowAt headerWord checksumWord ancSize ancRecord headersOk rOk checksumOk alignmentOk ancChecks readAnc readRun packetRead headerChecks paddingChecks payloadChecks readRecords readPacket readContent
+unfolding toBits num bits bitsAt rowAt headerWord checksumWord ancSize ancRecord headersOk rOk wordsOk checksumOk alignmentOk ancChecks readAnc readRun packetRead headerChecks paddingChecks payloadChecks readRecords readPacket readContent
 accepts zero h = refl
 accepts (suc zero) h = refl
 accepts (suc (suc i)) h = absurd (omega arith)
@@ -56,7 +56,7 @@ proper : Proper stream calls
 proper = (((tt, omega arith, omega arith), (_, refuses), omega arith), omega arith, omega arith)
 
 pub handed : run stream calls .handed ≡ asSent (field 8 2) ∷ []
-unfolding toBits num bits bitsAt rowAt headerWord checksumWord ancSize ancRecord headersOk rOk checksumOk alignmentOk ancChecks readAnc readRun packetRead headerChecks paddingChecks payloadChecks readRecords readPacket readContent step
+unfolding toBits num bits bitsAt rowAt headerWord checksumWord ancSize ancRecord headersOk rOk wordsOk checksumOk alignmentOk ancChecks readAnc readRun packetRead headerChecks paddingChecks payloadChecks readRecords readPacket readContent step
 handed = refl
 
 pub demanded : Demand3After stream [] calls (run stream calls)

@@ -11,7 +11,7 @@ use Rattle.wire.specs.Bits.{toBits, num, bits, bitsAt, rowAt}
 use Rattle.wire.specs.Words.{headerWord, checksumWord}
 use Rattle.wire.specs.Layout.{rfc8331}
 use Rattle.wire.specs.Result.{accepted, refuse}
-use Rattle.wire.specs.Anc.{Each, ancSize, ancRecord, headersOk, rOk, checksumOk, alignmentOk, ancChecks, readAnc, readRun}
+use Rattle.wire.specs.Anc.{Each, ancSize, ancRecord, headersOk, rOk, wordsOk, checksumOk, alignmentOk, ancChecks, readAnc, readRun}
 use Rattle.wire.specs.Packet.{packetRead, headerChecks, paddingChecks, payloadChecks, readRecords, readPacket, readContent}
 use Rattle.wire.specs.Cells.{listOf}
 use Rattle.wire.proofs.Examples.{a, aOctets}
@@ -58,7 +58,7 @@ stream =
 -- each packet is admitted, and says what the stream says of it
 pub admits : (admit rfc8331 1 112 frame7Octets ≡ accepted frame7) × (admit rfc8331 1 112 frame8Octets ≡ accepted frame8)
     × (admit rfc8331 1 112 frame9Octets ≡ accepted (frame 9 4002 2)) × (admit rfc8331 1 112 frame10Octets ≡ accepted frame10)
-unfolding toBits num bits bitsAt rowAt headerWord checksumWord ancSize ancRecord headersOk rOk checksumOk alignmentOk ancChecks readAnc readRun packetRead headerChecks paddingChecks payloadChecks readRecords readPacket readContent
+unfolding toBits num bits bitsAt rowAt headerWord checksumWord ancSize ancRecord headersOk rOk wordsOk checksumOk alignmentOk ancChecks readAnc readRun packetRead headerChecks paddingChecks payloadChecks readRecords readPacket readContent
 admits = (refl, refl, refl, refl)
 
 -- eleven octets are refused by 2
@@ -142,7 +142,7 @@ pub answered : (answers stream calls
       late = 1;
       missing = 1;
     })
-unfolding toBits num bits bitsAt rowAt headerWord checksumWord ancSize ancRecord headersOk rOk checksumOk alignmentOk ancChecks readAnc readRun packetRead headerChecks paddingChecks payloadChecks readRecords readPacket readContent step
+unfolding toBits num bits bitsAt rowAt headerWord checksumWord ancSize ancRecord headersOk rOk wordsOk checksumOk alignmentOk ancChecks readAnc readRun packetRead headerChecks paddingChecks payloadChecks readRecords readPacket readContent step
 answered = (refl, refl)
 
 -- A field of two packets behind packet 7: 8, unmarked, and these octets, both with record A.
@@ -196,5 +196,5 @@ pub pair-answered : (answers pair (lends wide (2 ∷ 1 ∷ 0 ∷ []))
     × (answers mixed (lends wide (2 ∷ 1 ∷ 0 ∷ [])) ≡ answer.Skipped ∷ answer.Held ∷ answer.Mixed ∷ [])
     × (run mixed (lends wide (2 ∷ 1 ∷ 0 ∷ [])) .store ≡ run mixed (lends wide (1 ∷ 0 ∷ [])) .store)
     × (answers retimed (lends wide (2 ∷ 1 ∷ 0 ∷ [])) ≡ answer.Skipped ∷ answer.Held ∷ answer.Mixed ∷ [])
-unfolding toBits num bits bitsAt rowAt headerWord checksumWord ancSize ancRecord headersOk rOk checksumOk alignmentOk ancChecks readAnc readRun packetRead headerChecks paddingChecks payloadChecks readRecords readPacket readContent step
+unfolding toBits num bits bitsAt rowAt headerWord checksumWord ancSize ancRecord headersOk rOk wordsOk checksumOk alignmentOk ancChecks readAnc readRun packetRead headerChecks paddingChecks payloadChecks readRecords readPacket readContent step
 pair-answered = (refl, refl, refl, refl, refl, refl, refl, refl)

@@ -9,7 +9,7 @@ use Rattle.wire.specs.Bits.{toBits, num, bits, bitsAt, rowAt}
 use Rattle.wire.specs.Words.{headerWord, checksumWord}
 use Rattle.wire.specs.Layout.{rfc8331}
 use Rattle.wire.specs.Result.{accepted}
-use Rattle.wire.specs.Anc.{Each, ancSize, ancRecord, headersOk, rOk, checksumOk, alignmentOk, ancChecks, readAnc, readRun}
+use Rattle.wire.specs.Anc.{Each, ancSize, ancRecord, headersOk, rOk, wordsOk, checksumOk, alignmentOk, ancChecks, readAnc, readRun}
 use Rattle.wire.specs.Packet.{packetRead, headerChecks, paddingChecks, payloadChecks, readRecords, readPacket, readContent}
 use Rattle.wire.specs.Cells.{listOf}
 use Rattle.wire.proofs.Examples.{a, aOctets}
@@ -59,7 +59,7 @@ stream =
     }
 
 accepts : (i : ℕ) → i < 7 → admit rfc8331 1 112 (nth stream i .part .octets) ≡ accepted (contentAt stream i (nth stream i))
-unfolding toBits num bits bitsAt rowAt headerWord checksumWord ancSize ancRecord headersOk rOk checksumOk alignmentOk ancChecks readAnc readRun packetRead headerChecks paddingChecks payloadChecks readRecords readPacket readContent
+unfolding toBits num bits bitsAt rowAt headerWord checksumWord ancSize ancRecord headersOk rOk wordsOk checksumOk alignmentOk ancChecks readAnc readRun packetRead headerChecks paddingChecks payloadChecks readRecords readPacket readContent
 accepts zero h = refl
 accepts (suc zero) h = refl
 accepts (suc (suc zero)) h = refl
@@ -110,5 +110,5 @@ pub answered : answers stream calls
     ∷ answer.Skipped
     ∷ answer.Whole (record { timestamp = record { 0 = 4 }; f = 2; records = 0; cells = 0 })
     ∷ []
-unfolding toBits num bits bitsAt rowAt headerWord checksumWord ancSize ancRecord headersOk rOk checksumOk alignmentOk ancChecks readAnc readRun packetRead headerChecks paddingChecks payloadChecks readRecords readPacket readContent step
+unfolding toBits num bits bitsAt rowAt headerWord checksumWord ancSize ancRecord headersOk rOk wordsOk checksumOk alignmentOk ancChecks readAnc readRun packetRead headerChecks paddingChecks payloadChecks readRecords readPacket readContent step
 answered = refl

@@ -114,7 +114,7 @@ pub data Arriving : Type 0 where
   other : Layout → List ℕ → Arriving
   packet : ℕ → Arriving
 
--- "the other octets among it are refused by 1 to 13, 30 or 31", and 15, "counted with 1 to 13" (02, K3)
+-- "the other octets among it are refused by 1 to 13, 30 or 31", and 15 and 16, "counted with 1 to 13" (02, K3 and K5)
 abbrev pub OfStream : Stream → Arriving → Type 0
 OfStream s (other L o) = (x : Refusal) × (admit L (s .source) (s .type) o ≡ refused x)
 OfStream s (packet i) = i < length (sent (s .fields))

@@ -13,10 +13,10 @@ use lib.Seq.{take-at, drop-at}
 use lib.Pow.{pow-pos}
 use borrow.Author.Tests.{eq-eqb, eqb-true, leb-true, le-leb}
 use Rattle.wire.specs.Bits.{num, bitsAt, rowAt, Fields, row, width, Fit, Below}
-use Rattle.wire.specs.Words.{wordBits, headerNumbers, headerWord, isHeaderWord, sumLow, checksumWord}
+use Rattle.wire.specs.Words.{wordBits, headerNumbers, headerWord, isHeaderWord, sumLow, checksumWord, allClear}
 use Rattle.wire.specs.Layout.{Layout, rfc8331, sBits, streamBits, rBits, alignment, leastSize}
 use Rattle.wire.specs.Result.{accepted}
-use Rattle.wire.specs.Anc.{Each, Record, WellFormed, checksum, headerFields, bodyFields, padding, ancFields, ancOctets, runOctets, bodyBits, ancSize, didAt, wordsAt, dataCount, ancRecord, headersOk, rOk, checksumOk, alignmentOk, ancChecks, readAnc, behind, readRun, runSize}
+use Rattle.wire.specs.Anc.{Each, Record, InRange, WellFormed, checksum, headerFields, bodyFields, padding, ancFields, ancOctets, runOctets, bodyBits, ancSize, didAt, wordsAt, dataCount, ancRecord, headersOk, rOk, wordsOk, checksumOk, alignmentOk, ancChecks, readAnc, behind, readRun, runSize}
 use Rattle.wire.proofs.BitLaws.{Reads, packed, unpacked, reads-append, width-row, length-rowAt, reads-rowAt, rowAt-reads, below-drop, below-octets, below-append, fit-append}
 use Rattle.wire.proofs.SizeLaws.{width-body, width-anc, length-anc, least-size}
 use Rattle.wire.proofs.WordLaws.{header-mod, header-lt, header-passes, checksum-lt}
@@ -34,16 +34,16 @@ module _ (L : Layout) (r : Record) where
   abbrev wordFields : Fields
   wordFields = row wordBits (r .words) ++ sumFields
 
-  -- the fields of a well-formed record fit
-  pub fit-anc : WellFormed L r → Fit (ancFields L r)
+  -- the fields of a record whose numbers are in range fit
+  pub fit-anc : InRange L r → Fit (ancFields L r)
   fit-anc h =
       let head : Fit (headerFields L r) =
       omega (arith, header-lt _ (h .did), header-lt _ (h .sdid), header-lt _ (h .count), pow-pos (rBits L)) in
       let words : Fit wordFields = fit-append (row wordBits (r .words)) sumFields .1 (fit-row wordBits (r .words) .1 (h .words), (checksum-lt _, tt)) in
       fit-append (bodyFields L r) _ .1 (fit-append (headerFields L r) wordFields .1 (head, words), (pow-pos _, tt))
 
-  -- a record is well-formed if its fields fit and its header words carry eight-bit numbers
-  pub formed-anc : Fit (ancFields L r) → r .did < headerNumbers → r .sdid < headerNumbers → length (r .words) < headerNumbers → WellFormed L r
+  -- its numbers are in range if its fields fit and its header words carry eight-bit numbers
+  pub formed-anc : Fit (ancFields L r) → r .did < headerNumbers → r .sdid < headerNumbers → length (r .words) < headerNumbers → InRange L r
   formed-anc h d sd n =
       let b = fit-append (headerFields L r) wordFields .0 (fit-append (bodyFields L r) _ .0 h .0) in
       let g = b .0 in
@@ -63,7 +63,7 @@ module _ (L : Layout) (s : List ℕ) where
   -- octets that pass are long enough, and read as the fields of their record
   passed-reads : Passed (ancChecks L s)
       → (ancSize L (dataCount L s) ≤ length s) × (length (ancRecord L s .words) ≡ dataCount L s) × Reads s 0 (ancFields L (ancRecord L s))
-  unfolding ancChecks ancRecord headersOk rOk checksumOk alignmentOk rowAt
+  unfolding ancChecks ancRecord headersOk rOk wordsOk checksumOk alignmentOk rowAt
   passed-reads p =
       let r = ancRecord L s in
       let n = dataCount L s in
@@ -97,7 +97,7 @@ module _ (L : Layout) (s : List ℕ) where
   -- octets that read as the fields of a well-formed record pass, and the record is theirs
   reads-passed : (r : Record) → WellFormed L r → Reads s 0 (ancFields L r) → ancSize L (length (r .words)) ≤ length s
       → (ancRecord L s ≡ r) × Passed (ancChecks L s)
-  unfolding ancChecks ancRecord headersOk rOk checksumOk alignmentOk rowAt
+  unfolding ancChecks ancRecord headersOk rOk wordsOk checksumOk alignmentOk rowAt
   reads-passed r f rd l =
       let w = r .words in
       let b = reads-append s 0 (bodyFields L r) _ .0 rd in
@@ -112,18 +112,19 @@ module _ (L : Layout) (s : List ℕ) where
       let ho : bitsAt s 12 12 ≡ r .offset = search in
       let hs : bitsAt s 24 (sBits L) ≡ r .s = search in
       let ht : bitsAt s (24 + sBits L) (streamBits L) ≡ r .stream = search in
-      let hd = ap (λ (x : ℕ). x % headerNumbers) e1 ∙ header-mod (r .did) (f .did) in
-      let hsd = ap (λ (x : ℕ). x % headerNumbers) e2 ∙ header-mod (r .sdid) (f .sdid) in
-      let n : dataCount L s ≡ length w = ap (λ (x : ℕ). x % headerNumbers) e3 ∙ header-mod (length w) (f .count) in
+      let hd = ap (λ (x : ℕ). x % headerNumbers) e1 ∙ header-mod (r .did) (f .fits .did) in
+      let hsd = ap (λ (x : ℕ). x % headerNumbers) e2 ∙ header-mod (r .sdid) (f .fits .sdid) in
+      let n : dataCount L s ≡ length w = ap (λ (x : ℕ). x % headerNumbers) e3 ∙ header-mod (length w) (f .fits .count) in
       let hw : rowAt wordBits s (wordsAt L) (dataCount L s) ≡ w = ap (rowAt wordBits s (wordsAt L)) n ∙ rowAt-reads wordBits s (wordsAt L) w (t .0) in
       let wb = ap (bodyBits L) n ∙ sym (width-body L r) in
       let sum = ap (λ (x : ℕ). bitsAt s (wordsAt L + x) wordBits) (ap (λ (x : ℕ). wordBits * x) n ∙ sym (width-row wordBits w)) ∙ t .1 .0
       ∙ (λ i. checksumWord (sumLow (sym e1 i ∷ sym e2 i ∷ sym e3 i ∷ sym hw i))) in
       let least : leb (leastSize L) (length s) ≡ true = le-leb (leastSize L) (length s) (omega (arith, least-size L (length w))) in
       let headers : headersOk L s ≡ true =
-      and-both (header-passes _ _ e1 (f .did)) (and-both (header-passes _ _ e2 (f .sdid)) (and-both (header-passes _ _ e3 (f .count)) refl)) in
+      and-both (header-passes _ _ e1 (f .fits .did)) (and-both (header-passes _ _ e2 (f .fits .sdid)) (and-both (header-passes _ _ e3 (f .fits .count)) refl)) in
       let whole : leb (ancSize L (dataCount L s)) (length s) ≡ true = le-leb (ancSize L (dataCount L s)) (length s) (rw n l) in
       let quiet : rOk L s ≡ true = eq-eqb _ 0 er in
+      let clear : wordsOk L s ≡ true = ap allClear hw ∙ f .clear in
       let sums : checksumOk L s ≡ true = eq-eqb (bitsAt s (wordsAt L + wordBits * dataCount L s) wordBits) _ sum in
       let zeros : alignmentOk L s ≡ true =
       eq-eqb _ 0 (ap₂ (λ (x y : ℕ). bitsAt s x (padding (alignment L) y)) (wb ∙ sym (zero-add _)) wb ∙ b .1 .0) in
@@ -132,13 +133,14 @@ module _ (L : Layout) (s : List ℕ) where
   -- the record of octets that pass is well-formed, and its octets stand at the front
   passed-stands : Below 256 s → Passed (ancChecks L s)
       → WellFormed L (ancRecord L s) × (take (ancSize L (length (ancRecord L s .words))) s ≡ ancOctets L (ancRecord L s))
-  unfolding ancRecord
+  unfolding ancChecks ancRecord wordsOk
   passed-stands b p =
       let r = ancRecord L s in
       let f = passed-reads p in
       let lw = f .1 in
+      let clear : wordsOk L s ≡ true = search in
       let k = packed s (ancFields L r) (ancSize L (length (r .words))) (width-anc L r) b (rw lw (f .0)) (f .2) in
-      (formed-anc L r (k .0) (mod-lt _ (lit< tt)) (mod-lt _ (lit< tt)) (rw lw (mod-lt _ (lit< tt))), k .1)
+      (record { fits = formed-anc L r (k .0) (mod-lt _ (lit< tt)) (mod-lt _ (lit< tt)) (rw lw (mod-lt _ (lit< tt))); clear = clear }, k .1)
 
   module _ (i : ℕ) (r : Record) where
     answer-is : readAnc L i s ≡ accepted r → Passed (ancChecks L s) × (ancRecord L s ≡ r)
@@ -164,7 +166,7 @@ module _ (L : Layout) (s : List ℕ) where
     λ p.
         let n = ancSize L (length (r .words)) in
         let l : n ≤ length s = omega (arith, sym (length-take n s) ∙ ap length (p .1) ∙ length-anc L r) in
-        let q = reads-passed r (p .0) (unpacked s (ancFields L r) n (width-anc L r) (fit-anc L r (p .0)) (p .1)) l in
+        let q = reads-passed r (p .0) (unpacked s (ancFields L r) n (width-anc L r) (fit-anc L r (p .0 .fits)) (p .1)) l in
         judge-passes i (ancChecks L s) (accepted (ancRecord L s)) (q .1) ∙ ap accepted (q .0),
   )
 

@@ -12,11 +12,11 @@ use lib.Seq.{take-append-seam, drop-append-seam, length-take-le, drop-drop}
 use lib.Dec.{ltb}
 use borrow.Author.Tests.{leb-true, le-leb, ltb-true, lt-ltb}
 use Rattle.wire.specs.Bits.{Below}
-use Rattle.wire.specs.Words.{wordBits, headerNumbers}
+use Rattle.wire.specs.Words.{wordBits, headerNumbers, allClear}
 use Rattle.wire.specs.Layout.{rfc8331, sBits, streamBits}
-use Rattle.wire.specs.Result.{accepted}
-use Rattle.wire.specs.Anc.{Record, WellFormed, Each}
-use Rattle.wire.specs.Cells.{headCells, cellsOf, listOf, cellCount, cellRecord, allBelow, headInRange, cellChecks, rest, recordsFrom, readList}
+use Rattle.wire.specs.Result.{accepted, _then_}
+use Rattle.wire.specs.Anc.{Record, InRange, WellFormed, Each}
+use Rattle.wire.specs.Cells.{headCells, cellsOf, listOf, cellCount, cellRecord, allBelow, headInRange, cellChecks, rest, recordsFrom, recordsIn, clearFrom, readList}
 use Rattle.wire.proofs.ListLaws.{drop-run}
 use Rattle.wire.proofs.ResultLaws.{Passed, accepted-inj, judge-accepts, judge-passes, then-accepts, and-true, and-both}
 
@@ -31,8 +31,8 @@ eight-cells : (l : List ℕ) → headCells ≤ length l
     → l ≡ getD l 0 0 ∷ getD l 1 0 ∷ getD l 2 0 ∷ getD l 3 0 ∷ getD l 4 0 ∷ getD l 5 0 ∷ getD l 6 0 ∷ cellCount l ∷ drop headCells l
 eight-cells l h = drop-run 7 0 0 l h
 
--- cells that pass start with the cells of their record, which is well-formed
-pub front-passed : (l : List ℕ) → Passed (cellChecks l) → WellFormed rfc8331 (cellRecord l) × (l ≡ cellsOf (cellRecord l) ++ rest l)
+-- cells that pass start with the cells of their record, whose numbers are in range
+pub front-passed : (l : List ℕ) → Passed (cellChecks l) → InRange rfc8331 (cellRecord l) × (l ≡ cellsOf (cellRecord l) ++ rest l)
 unfolding cellChecks cellRecord headInRange
 front-passed l p =
     let n = cellCount l in
@@ -60,8 +60,8 @@ front-passed l p =
       rw (lw, ← drop-drop n headCells l, take-append-drop n (drop headCells l)) (eight-cells l h8),
     )
 
--- and the cells of a well-formed record pass, with the record read back and what follows left
-pub front-reads : (r : Record) (t : List ℕ) → WellFormed rfc8331 r
+-- and the cells of such a record pass, with the record read back and what follows left
+pub front-reads : (r : Record) (t : List ℕ) → InRange rfc8331 r
     → Passed (cellChecks (cellsOf r ++ t)) × (cellRecord (cellsOf r ++ t) ≡ r) × (rest (cellsOf r ++ t) ≡ t)
 unfolding cellChecks cellRecord headInRange
 front-reads r t h =
@@ -85,9 +85,9 @@ front-reads r t h =
       sym (drop-drop n headCells (cellsOf r ++ t)) ∙ drop-append-seam (r .words) t,
     )
 
--- with a bound that is large enough, cells are taken exactly when they are those of well-formed records
+-- with a bound that is large enough, 20 is not given exactly where the cells are those of records in range
 pub records-iff : (bound i : ℕ) (l : List ℕ) → length l ≤ bound → (rs : List Record)
-    → (recordsFrom bound i l ≡ accepted rs) ↔ (Each (WellFormed rfc8331) rs × (l ≡ listOf rs))
+    → (recordsFrom bound i l ≡ accepted rs) ↔ (Each (InRange rfc8331) rs × (l ≡ listOf rs))
 unfolding recordsFrom
 records-iff zero i [] h [] = (λ e. (tt, refl), λ p. refl)
 records-iff zero i [] h (r ∷ rs) = (λ e. absurd (nil≢cons (accepted-inj e)), λ p. absurd (nil≢cons (p .1)))
@@ -110,15 +110,63 @@ records-iff (suc bound) i (x ∷ l) h (r ∷ rs) =
           let c = cons-eq-cons .0 (accepted-inj (b .2)) in
           let f = front-passed (x ∷ l) (a .0) in
           let more = ih .0 (b .1 ∙ ap accepted (c .1)) in
-          ((subst (WellFormed rfc8331) (c .0) (f .0), more .0), f .1 ∙ ap₂ (λ (y : Record) (t : List ℕ). cellsOf y ++ t) (c .0) (more .1)),
+          ((subst (InRange rfc8331) (c .0) (f .0), more .0), f .1 ∙ ap₂ (λ (y : Record) (t : List ℕ). cellsOf y ++ t) (c .0) (more .1)),
       λ p.
           let f = subst (λ (y : List ℕ). Passed (cellChecks y) × (cellRecord y ≡ r) × (rest y ≡ listOf rs)) (sym (p .1)) (front-reads r (listOf rs) (p .0 .0)) in
           judge-passes i (cellChecks (x ∷ l)) _ (f .0) ∙ rw (ih .1 (p .0 .1, f .2), f .1),
     )
 
+-- 16 is not given exactly where no record has a protected word
+abbrev pub Clear : Record → Type 0
+Clear r = allClear (r .words) ≡ true
+
+clear-iff : (i : ℕ) (rs qs : List Record) → (clearFrom i rs ≡ accepted qs) ↔ ((rs ≡ qs) × Each Clear qs)
+unfolding clearFrom
+clear-iff i [] [] = (λ e. (refl, tt), λ p. refl)
+clear-iff i [] (q ∷ qs) = (λ e. absurd (nil≢cons (accepted-inj e)), λ p. absurd (nil≢cons (p .0)))
+clear-iff i (r ∷ rs) [] = (
+  λ e.
+      let a = judge-accepts i ((allClear (r .words), 16) ∷ []) _ [] e in
+      let b = then-accepts (clearFrom (i + 1) rs) _ [] (a .1) in
+      absurd (nil≢cons (sym (accepted-inj (b .2)))),
+  λ p. absurd (nil≢cons (sym (p .0))),
+)
+clear-iff i (r ∷ rs) (q ∷ qs) =
+    let ih = clear-iff (i + 1) rs qs in (
+      λ e.
+          let a = judge-accepts i ((allClear (r .words), 16) ∷ []) _ (q ∷ qs) e in
+          let b = then-accepts (clearFrom (i + 1) rs) _ (q ∷ qs) (a .1) in
+          let c = cons-eq-cons .0 (accepted-inj (b .2)) in
+          let more = ih .0 (b .1 ∙ ap accepted (c .1)) in
+          (ap₂ _∷_ (c .0) (more .0), (subst Clear (c .0) (a .0 .0), more .1)),
+      λ p.
+          let c = cons-eq-cons .0 (p .0) in
+          judge-passes i ((allClear (r .words), 16) ∷ []) _ (subst Clear (sym (c .0)) (p .1 .0), tt)
+          ∙ ap (λ z. z then λ ys. accepted (r ∷ ys)) (ih .1 (c .1, p .1 .1))
+          ∙ ap (λ (y : Record). accepted (y ∷ qs)) (c .0),
+    )
+
+-- well-formed is in range and without protected words
+formed-iff : (rs : List Record) → (Each (InRange rfc8331) rs × Each Clear rs) ↔ Each (WellFormed rfc8331) rs
+formed-iff [] = (λ p. tt, λ h. (tt, tt))
+formed-iff (r ∷ rs) =
+    let ih = formed-iff rs in (
+      λ p. (record { fits = p .0 .0; clear = p .1 .0 }, ih .0 (p .0 .1, p .1 .1)),
+      λ h. let m = ih .1 (h .1) in ((h .0 .fits, m .0), (h .0 .clear, m .1)),
+    )
+
 -- A LIST is taken exactly when it is the cells of well-formed records
 pub list-iff : (l : List ℕ) (rs : List Record) → (readList l ≡ accepted rs) ↔ (Each (WellFormed rfc8331) rs × (l ≡ listOf rs))
-list-iff l = records-iff (length l) 0 l (le-refl (length l))
+list-iff l rs = (
+  λ e.
+      let a = then-accepts (recordsIn l) _ rs e in
+      let p = records-iff (length l) 0 l (le-refl (length l)) (a .0) .0 (a .1) in
+      let c = clear-iff 0 (a .0) rs .0 (a .2) in
+      (formed-iff rs .0 (subst (Each (InRange rfc8331)) (c .0) (p .0), c .1), p .1 ∙ ap listOf (c .0)),
+  λ p.
+      let f = formed-iff rs .1 (p .0) in
+      ap (λ x. x then λ qs. clearFrom 0 qs) (records-iff (length l) 0 l (le-refl (length l)) rs .1 (f .0, p .1)) ∙ clear-iff 0 rs rs .1 (refl, f .1),
+)
 
 bounds-agree : (b c i : ℕ) (l : List ℕ) → length l ≤ b → length l ≤ c → recordsFrom b i l ≡ recordsFrom c i l
 unfolding recordsFrom

@@ -10,8 +10,8 @@ use Rattle.wire.specs.Bits.{toBits, num, bits, octets, bitsAt, rowAt, fi
 use Rattle.wire.specs.Words.{headerWord, checksumWord}
 use Rattle.wire.specs.Layout.{rfc8331, draft2015}
 use Rattle.wire.specs.Result.{accepted, refuse, _then_}
-use Rattle.wire.specs.Anc.{Record, bodyBits, padding, ancOctets, ancSize, ancRecord, headersOk, rOk, checksumOk, alignmentOk, ancChecks, readAnc, readRun}
-use Rattle.wire.specs.Cells.{cellsOf, listOf, cellRecord, headInRange, cellChecks, recordsFrom, readList}
+use Rattle.wire.specs.Anc.{Record, bodyBits, padding, ancOctets, ancSize, ancRecord, headersOk, rOk, wordsOk, checksumOk, alignmentOk, ancChecks, readAnc, readRun}
+use Rattle.wire.specs.Cells.{cellsOf, listOf, cellRecord, headInRange, cellChecks, recordsFrom, clearFrom, readList}
 use Rattle.wire.specs.Packet.{packetOctets, packetRead, headerChecks, paddingChecks, payloadChecks, readRecords, readPacket, Content, readContent}
 use Rattle.wire.specs.Writing.{maxRecords, maxCells, contentOctets, withRecords, headOk, headChecks, limitChecks, writeContent}
 use Rattle.wire.proofs.WritingLaws.{limit-fails}
@@ -43,7 +43,7 @@ written = (refl, refl)
 -- and read, alone and as a run
 pub read : (i : ℕ) → (readAnc draft2015 i aOctets ≡ accepted a) × (readAnc draft2015 i plainBOctets ≡ accepted plainB)
     × (readRun draft2015 0 2 (aOctets ++ (plainBOctets ++ (7 ∷ []))) ≡ accepted (a ∷ plainB ∷ [], 7 ∷ []))
-unfolding toBits num bits bitsAt rowAt headerWord checksumWord ancSize ancRecord headersOk rOk checksumOk alignmentOk ancChecks readAnc readRun
+unfolding toBits num bits bitsAt rowAt headerWord checksumWord ancSize ancRecord headersOk rOk wordsOk checksumOk alignmentOk ancChecks readAnc readRun
 read i = (refl, refl, refl)
 
 -- "The nine-bit checksum sentence of 001 decides.": DID's word 161 has b8 set, so a sum of nine bits is 166 and one of eight, as 000 could be
@@ -56,7 +56,7 @@ nineOctets = 0x00 ∷ 0x90 ∷ 0x00 ∷ 0x58 ∷ 0x60 ∷ 0x58 ∷ 0x00 ∷ 0x59
 
 pub nine-bits : (i : ℕ) → (ancOctets draft2015 nine ≡ nineOctets) × (readAnc draft2015 i nineOctets ≡ accepted nine)
     × (readAnc draft2015 i (set nineOctets 7 0x99) ≡ refuse 11 i)
-unfolding toBits num bits octets fieldBits bitsAt rowAt headerWord checksumWord ancSize ancRecord headersOk rOk checksumOk alignmentOk ancChecks readAnc readRun
+unfolding toBits num bits octets fieldBits bitsAt rowAt headerWord checksumWord ancSize ancRecord headersOk rOk wordsOk checksumOk alignmentOk ancChecks readAnc readRun
 nine-bits i = (refl, refl, refl)
 
 -- An ANC packet refused: under 9 octets left; a header word malformed; cut under its own size, also with an R bit set; an R bit set, each of the
@@ -71,7 +71,7 @@ pub refusals : (i : ℕ) → (readAnc draft2015 i (take 8 aOctets) ≡ refuse 9 
     × (readAnc draft2015 i (set aOctets 7 0x90) ≡ refuse 11 i)
     × (readAnc draft2015 i (set aOctets 8 0x81) ≡ refuse 12 i)
     × (readRun draft2015 0 2 (aOctets ++ set plainBOctets 6 0x09) ≡ refuse 15 1)
-unfolding toBits num bits bitsAt rowAt headerWord checksumWord ancSize ancRecord headersOk rOk checksumOk alignmentOk ancChecks readAnc readRun
+unfolding toBits num bits bitsAt rowAt headerWord checksumWord ancSize ancRecord headersOk rOk wordsOk checksumOk alignmentOk ancChecks readAnc readRun
 refusals i = (refl, refl, refl, refl, refl, refl, refl, refl, refl, refl)
 
 -- a packet of these records, or of others: F is 0
@@ -92,7 +92,7 @@ pub packets : (writeContent draft2015 (saying 112 0 []) (listOf (a ∷ plainB �
     × (readContent draft2015 packetOf ≡ accepted (saying 112 0 (a ∷ plainB ∷ [])))
     × (writeContent draft2015 (saying 112 0 []) [] 17 ≡ accepted (front 0 0))
     × (readContent draft2015 (front 0 0) ≡ accepted (saying 112 0 []))
-unfolding toBits num bits octets bitsAt rowAt fieldBits headerWord checksumWord ancSize ancRecord headersOk rOk checksumOk alignmentOk ancChecks readAnc readRun packetOctets packetRead headerChecks paddingChecks payloadChecks readRecords readPacket readContent cellRecord headInRange cellChecks recordsFrom writeContent
+unfolding toBits num bits octets bitsAt rowAt fieldBits headerWord checksumWord ancSize ancRecord headersOk rOk wordsOk checksumOk alignmentOk ancChecks readAnc readRun packetOctets packetRead headerChecks paddingChecks payloadChecks readRecords readPacket readContent cellRecord headInRange cellChecks recordsFrom clearFrom writeContent
 packets = (refl, refl, refl, refl)
 
 -- A packet refused: 5, under 5 payload octets; 7, Length is not payload less 5; 8 and 13; 15 with the ANC packet's index. No octet is an F: 6 is not
@@ -103,7 +103,7 @@ pub refused-packets : (readContent draft2015 (take 16 (front 0 0)) ≡ refuse 5 
     × (readContent draft2015 (front 20 1 ++ (aOctets ++ plainBOctets)) ≡ refuse 13 0)
     × (readContent draft2015 (front 20 2 ++ (aOctets ++ set plainBOctets 6 0x0A)) ≡ refuse 15 1)
     × (readContent draft2015 (front 9 1 ++ set aOctets 0 0x40) ≡ accepted (saying 112 0 (record { c = 0; line = 0x409; offset = 0; s = 0; stream = 0; did = 0x41; sdid = 0x05; words = [] } ∷ [])))
-unfolding toBits num bits bitsAt rowAt headerWord checksumWord ancSize ancRecord headersOk rOk checksumOk alignmentOk ancChecks readAnc readRun packetRead headerChecks paddingChecks payloadChecks readRecords readPacket readContent
+unfolding toBits num bits bitsAt rowAt headerWord checksumWord ancSize ancRecord headersOk rOk wordsOk checksumOk alignmentOk ancChecks readAnc readRun packetRead headerChecks paddingChecks payloadChecks readRecords readPacket readContent
 refused-packets = (refl, refl, refl, refl, refl, refl)
 
 -- one layout told and the other's packet given
@@ -119,7 +119,7 @@ pub refused-writing : (writeContent draft2015 (saying 112 2 []) [] 17 ≡ refuse
     × (writeContent draft2015 (saying 112 1 []) [] 17 ≡ refuse 24 0)
     × (writeContent draft2015 (saying 112 2 []) (cellsOf b ++ (1 ∷ [])) 37 ≡ refuse 20 1)
     × (writeContent draft2015 (saying 112 0 []) [] 16 ≡ refuse 23 0)
-unfolding toBits num octets fieldBits headerWord checksumWord packetOctets cellRecord headInRange cellChecks recordsFrom writeContent
+unfolding toBits num octets fieldBits headerWord checksumWord packetOctets cellRecord headInRange cellChecks recordsFrom clearFrom writeContent
 refused-writing = (refl, refl, refl, refl, refl, refl)
 
 -- "25 .. after 21": over 21's limits, 21 is given whatever F, S and StreamNum are

@@ -8,8 +8,8 @@ use Rattle.wire.specs.Bits.{toBits, num, bits, octets, bitsAt, rowAt, fi
 use Rattle.wire.specs.Words.{headerWord, checksumWord}
 use Rattle.wire.specs.Layout.{rfc8331}
 use Rattle.wire.specs.Result.{accepted, refuse}
-use Rattle.wire.specs.Anc.{Record, checksum, bodyBits, padding, ancOctets, ancSize, ancRecord, headersOk, rOk, checksumOk, alignmentOk, ancChecks, readAnc, readRun}
-use Rattle.wire.specs.Cells.{cellsOf, listOf, cellRecord, headInRange, cellChecks, recordsFrom, readList}
+use Rattle.wire.specs.Anc.{Record, checksum, bodyBits, padding, ancOctets, ancSize, ancRecord, headersOk, rOk, wordsOk, checksumOk, alignmentOk, ancChecks, readAnc, readRun}
+use Rattle.wire.specs.Cells.{cellsOf, listOf, cellRecord, headInRange, cellChecks, recordsFrom, clearFrom, readList}
 
 -- header words
 pub words : (headerWord 0x00 ≡ 0x200) × (headerWord 0x41 ≡ 0x241) × (headerWord 0x61 ≡ 0x161) × (headerWord 0xFF ≡ 0x2FF)
@@ -42,14 +42,14 @@ written = (refl, refl, refl)
 -- A and B read, alone and as a run
 pub read : (i : ℕ) → (readAnc rfc8331 i aOctets ≡ accepted a) × (readAnc rfc8331 i bOctets ≡ accepted b)
     × (readRun rfc8331 0 2 (aOctets ++ (bOctets ++ (7 ∷ []))) ≡ accepted (a ∷ b ∷ [], 7 ∷ []))
-unfolding toBits num bits bitsAt rowAt headerWord checksumWord ancSize ancRecord headersOk rOk checksumOk alignmentOk ancChecks readAnc readRun
+unfolding toBits num bits bitsAt rowAt headerWord checksumWord ancSize ancRecord headersOk rOk wordsOk checksumOk alignmentOk ancChecks readAnc readRun
 read i = (refl, refl, refl)
 
 -- A and B as cells
 pub cells : (listOf (a ∷ b ∷ [])
     ≡ 0 ∷ 9 ∷ 0 ∷ 0 ∷ 0 ∷ 0x41 ∷ 0x05 ∷ 0 ∷ 1 ∷ 0x7FF ∷ 0xFFF ∷ 1 ∷ 3 ∷ 0x61 ∷ 0x02 ∷ 2 ∷ 0x2AA ∷ 0x155 ∷ [])
     × (readList (listOf (a ∷ b ∷ [])) ≡ accepted (a ∷ b ∷ []))
-unfolding cellRecord headInRange cellChecks recordsFrom
+unfolding cellRecord headInRange cellChecks recordsFrom clearFrom
 cells = (refl, refl)
 
 -- A and B have an even number of words with b8 set, so they do not tell a sum of nine bits from one of eight; this one does
@@ -71,7 +71,7 @@ pub refusals : (i : ℕ) → (readAnc rfc8331 i (take 11 aOctets) ≡ refuse 9 i
     × (readAnc rfc8331 i (take 15 (set (ancOctets rfc8331 three) 4 0x10)) ≡ refuse 10 i)
     × (readAnc rfc8331 i (set (set aOctets 8 0x47) 11 0x01) ≡ refuse 11 i)
     × (readRun rfc8331 0 2 (aOctets ++ take 11 bOctets) ≡ refuse 9 1)
-unfolding toBits num bits octets fieldBits bitsAt rowAt headerWord checksumWord ancSize ancRecord headersOk rOk checksumOk alignmentOk ancChecks readAnc readRun
+unfolding toBits num bits octets fieldBits bitsAt rowAt headerWord checksumWord ancSize ancRecord headersOk rOk wordsOk checksumOk alignmentOk ancChecks readAnc readRun
 refusals i = (refl, refl, refl, refl, refl, refl, refl, refl)
 
 -- a list refused: a record cut in its first eight cells and in its words, a cell too large, a word too large
@@ -79,5 +79,5 @@ pub list-refusals : (readList (cellsOf a ++ (1 ∷ [])) ≡ refuse 20 1)
     × (readList (cellsOf a ++ take 9 (cellsOf b)) ≡ refuse 20 1)
     × (readList (set (cellsOf a) 1 0x800) ≡ refuse 20 0)
     × (readList (set (cellsOf b) 9 0x400) ≡ refuse 20 0)
-unfolding cellRecord headInRange cellChecks recordsFrom
+unfolding cellRecord headInRange cellChecks recordsFrom clearFrom
 list-refusals = (refl, refl, refl, refl)

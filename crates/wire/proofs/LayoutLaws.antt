@@ -54,13 +54,20 @@ places layout.Draft2015 =
 draft-record : (r : Record) → (WellFormed rfc8331 r × (r .s ≡ 0) × (r .stream ≡ 0)) ↔ WellFormed draft2015 r
 draft-record r = (
   λ p.
-      let g = p .0 in
-      record { c = g .c; line = g .line; offset = g .offset; s = omega (arith, p .1); stream = omega (arith, p .2); did = g .did; sdid = g .sdid; count = g .count; words = g .words },
-  λ g. (
-    record { c = g .c; line = g .line; offset = g .offset; s = omega (arith, g .s); stream = omega (arith, g .stream); did = g .did; sdid = g .sdid; count = g .count; words = g .words },
-    omega (arith, g .s),
-    omega (arith, g .stream),
-  ),
+      let g = p .0 .fits in
+      record {
+        fits = record { c = g .c; line = g .line; offset = g .offset; s = omega (arith, p .1); stream = omega (arith, p .2); did = g .did; sdid = g .sdid; count = g .count; words = g .words };
+        clear = p .0 .clear;
+      },
+  λ w.
+      let g = w .fits in (
+        record {
+          fits = record { c = g .c; line = g .line; offset = g .offset; s = omega (arith, g .s); stream = omega (arith, g .stream); did = g .did; sdid = g .sdid; count = g .count; words = g .words };
+          clear = w .clear;
+        },
+        omega (arith, g .s),
+        omega (arith, g .stream),
+      ),
 )
 
 draft-each : (rs : List Record) → (Each (WellFormed rfc8331) rs × (noStream rs ≡ true)) ↔ Each (WellFormed draft2015) rs

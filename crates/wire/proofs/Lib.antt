@@ -19,3 +19,4 @@ pub mod WritingLaws
 pub mod Demand2
 pub mod PacketExamples
 pub mod DraftExamples
+pub mod ProtectedExamples

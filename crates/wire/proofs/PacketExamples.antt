@@ -8,8 +8,8 @@ use Rattle.wire.specs.Bits.{toBits, num, bits, octets, bitsAt, rowAt, fi
 use Rattle.wire.specs.Words.{headerWord, checksumWord}
 use Rattle.wire.specs.Layout.{rfc8331}
 use Rattle.wire.specs.Result.{accepted, refuse}
-use Rattle.wire.specs.Anc.{ancSize, ancRecord, headersOk, rOk, checksumOk, alignmentOk, ancChecks, readAnc, readRun}
-use Rattle.wire.specs.Cells.{cellsOf, listOf, cellRecord, headInRange, cellChecks, recordsFrom}
+use Rattle.wire.specs.Anc.{ancSize, ancRecord, headersOk, rOk, wordsOk, checksumOk, alignmentOk, ancChecks, readAnc, readRun}
+use Rattle.wire.specs.Cells.{cellsOf, listOf, cellRecord, headInRange, cellChecks, recordsFrom, clearFrom}
 use Rattle.wire.specs.Packet.{Packet, packetOctets, packetRead, headerChecks, paddingChecks, payloadChecks, readRecords, readPacket, Content, readContent, readInto}
 use Rattle.wire.specs.Writing.{writeContent}
 use Rattle.wire.proofs.Examples.{a, aOctets, b, bOctets}
@@ -25,7 +25,7 @@ emptyOctets =
 
 -- the empty packet written and read
 pub empty-packet : (writeContent rfc8331 empty [] 20 ≡ accepted emptyOctets) × (readContent rfc8331 emptyOctets ≡ accepted empty)
-unfolding toBits num bits octets bitsAt rowAt fieldBits readRun packetOctets packetRead headerChecks paddingChecks payloadChecks readRecords readPacket readContent recordsFrom writeContent
+unfolding toBits num bits octets bitsAt rowAt fieldBits readRun packetOctets packetRead headerChecks paddingChecks payloadChecks readRecords readPacket readContent recordsFrom clearFrom writeContent
 empty-packet = (refl, refl)
 
 -- A and B
@@ -72,7 +72,7 @@ fullOctets = fullFront ++ (aOctets ++ (bOctets ++ (7 ∷ 2 ∷ [])))
 pub full-packet : (packetOctets rfc8331 full ≡ fullOctets) × (readPacket rfc8331 fullOctets ≡ accepted full)
     × (readContent rfc8331 fullOctets ≡ accepted both)
     × (writeContent rfc8331 both (listOf (a ∷ b ∷ [])) 44 ≡ accepted bothOctets) × (readContent rfc8331 bothOctets ≡ accepted both)
-unfolding toBits num bits octets bitsAt rowAt fieldBits headerWord checksumWord ancSize ancRecord headersOk rOk checksumOk alignmentOk ancChecks readAnc readRun packetOctets packetRead headerChecks paddingChecks payloadChecks readRecords readPacket readContent cellRecord headInRange cellChecks recordsFrom writeContent
+unfolding toBits num bits octets bitsAt rowAt fieldBits headerWord checksumWord ancSize ancRecord headersOk rOk wordsOk checksumOk alignmentOk ancChecks readAnc readRun packetOctets packetRead headerChecks paddingChecks payloadChecks readRecords readPacket readContent cellRecord headInRange cellChecks recordsFrom clearFrom writeContent
 full-packet = (refl, refl, refl, refl, refl)
 
 -- 2: under 12 octets; a contributing source cut; the extension's first four octets cut; its words cut
@@ -107,19 +107,19 @@ pub refused-payload : (readContent rfc8331 (set emptyOctets 17 0x40) ≡ refuse 
     × (readContent rfc8331 (set emptyOctets 15 1) ≡ refuse 7 0)
     × (readContent rfc8331 (set emptyOctets 15 12 ++ aOctets) ≡ refuse 8 0)
     × (readContent rfc8331 (set fullFront 28 1 ++ (aOctets ++ (bOctets ++ (7 ∷ 2 ∷ [])))) ≡ refuse 13 0)
-unfolding toBits num bits bitsAt rowAt headerWord checksumWord ancSize ancRecord headersOk rOk checksumOk alignmentOk ancChecks readAnc readRun headerChecks paddingChecks payloadChecks readRecords readPacket readContent
+unfolding toBits num bits bitsAt rowAt headerWord checksumWord ancSize ancRecord headersOk rOk wordsOk checksumOk alignmentOk ancChecks readAnc readRun headerChecks paddingChecks payloadChecks readRecords readPacket readContent
 refused-payload = (refl, refl, refl, refl)
 
 -- 9 and 11 with the index of the ANC data packet: three said and two there; B's checksum wrong
 pub refused-anc : (readContent rfc8331 (set fullFront 28 3 ++ (aOctets ++ (bOctets ++ (7 ∷ 2 ∷ [])))) ≡ refuse 9 2)
     × (readContent rfc8331 (fullFront ++ (aOctets ++ (set bOctets 11 0x80 ++ (7 ∷ 2 ∷ [])))) ≡ refuse 11 1)
-unfolding toBits num bits bitsAt rowAt headerWord checksumWord ancSize ancRecord headersOk rOk checksumOk alignmentOk ancChecks readAnc readRun headerChecks paddingChecks payloadChecks readRecords readPacket readContent
+unfolding toBits num bits bitsAt rowAt headerWord checksumWord ancSize ancRecord headersOk rOk wordsOk checksumOk alignmentOk ancChecks readAnc readRun headerChecks paddingChecks payloadChecks readRecords readPacket readContent
 refused-anc = (refl, refl)
 
 -- 14: A and B take 18 cells; refused octets are not asked for their cells
 pub refused-14 : (readInto rfc8331 fullOctets 18 ≡ accepted both) × (readInto rfc8331 fullOctets 17 ≡ refuse 14 0)
     × (readInto rfc8331 (set emptyOctets 17 0x40) 0 ≡ refuse 6 0)
-unfolding toBits num bits bitsAt rowAt headerWord checksumWord ancSize ancRecord headersOk rOk checksumOk alignmentOk ancChecks readAnc readRun packetRead headerChecks paddingChecks payloadChecks readRecords readPacket readContent readInto
+unfolding toBits num bits bitsAt rowAt headerWord checksumWord ancSize ancRecord headersOk rOk wordsOk checksumOk alignmentOk ancChecks readAnc readRun packetRead headerChecks paddingChecks payloadChecks readRecords readPacket readContent readInto
 refused-14 = (refl, refl, refl)
 
 -- the empty content with another payload type and another F
@@ -134,7 +134,7 @@ pub refused-writing : (writeContent rfc8331 (other 128 2) [] 20 ≡ refuse 24 0)
     × (writeContent rfc8331 both (cellsOf a ++ (1 ∷ [])) 44 ≡ refuse 20 1)
     × (writeContent rfc8331 both (listOf (a ∷ b ∷ [])) 43 ≡ refuse 23 0)
     × (writeContent rfc8331 empty [] 19 ≡ refuse 23 0)
-unfolding toBits num octets fieldBits headerWord checksumWord packetOctets cellRecord headInRange cellChecks recordsFrom writeContent
+unfolding toBits num octets fieldBits headerWord checksumWord packetOctets cellRecord headInRange cellChecks recordsFrom clearFrom writeContent
 refused-writing = (refl, refl, refl, refl, refl, refl)
 
 -- "four marked frames of type 112, source 1 .. each carries record A"
@@ -174,10 +174,10 @@ framesOctets = frame7Octets ∷ frame8Octets ∷ frame8Octets ∷ frame10Octets 
 
 -- the frames written
 pub frames-written : map (λ (k : Content). writeContent rfc8331 k (listOf (k .records)) 32) frames ≡ map accepted framesOctets
-unfolding toBits num octets fieldBits headerWord checksumWord packetOctets cellRecord headInRange cellChecks recordsFrom writeContent
+unfolding toBits num octets fieldBits headerWord checksumWord packetOctets cellRecord headInRange cellChecks recordsFrom clearFrom writeContent
 frames-written = refl
 
 -- the frames read
 pub frames-read : map (readContent rfc8331) framesOctets ≡ map accepted frames
-unfolding toBits num bits bitsAt rowAt headerWord checksumWord ancSize ancRecord headersOk rOk checksumOk alignmentOk ancChecks readAnc readRun packetRead headerChecks paddingChecks payloadChecks readRecords readPacket readContent
+unfolding toBits num bits bitsAt rowAt headerWord checksumWord ancSize ancRecord headersOk rOk wordsOk checksumOk alignmentOk ancChecks readAnc readRun packetRead headerChecks paddingChecks payloadChecks readRecords readPacket readContent
 frames-read = refl

@@ -1,5 +1,6 @@
 -- An ANC data packet (RFC 8331, section 2.1; 01, "The packet"; in the drafts' layout document 001, section 2.1; 02, K3): its record, its
 -- octets, and how it is read.
+use mathlib.Core.Path.{_≡_}
 use mathlib.Core.Bool.{Bool, true, _&&_}
 use mathlib.Core.List.{List, [], _∷_, _++_}
 use Prim.Native.Nat.{ℕ, zero, suc, _+_, _-_, _*_, _/_, _%_, _^_, _<_}
@@ -7,7 +8,7 @@ use lib.Dec.{eqb, leb}
 use lib.ListN.{length, drop}
 use Rattle.wire.specs.Bits.{Fields, width, pack, bitsAt, row, rowAt, Below}
 use Rattle.wire.specs.Layout.{Layout, sAt, sBits, streamBits, rBits, alignment, leastSize}
-use Rattle.wire.specs.Words.{wordBits, headerNumbers, headerWord, isHeaderWord, sumLow, checksumWord}
+use Rattle.wire.specs.Words.{wordBits, headerNumbers, headerWord, isHeaderWord, sumLow, checksumWord, allClear}
 use Rattle.wire.specs.Result.{Result, accepted, Checks, judge, _then_}
 
 -- What an ANC data packet says: 01's record. `line` and `offset` are the fields' numbers; `record`'s specs/Location.antt tells
@@ -22,8 +23,8 @@ pub record Record : Type 0 where
   pub sdid : ℕ
   pub words : List ℕ
 
--- each number fits its field (01, "The packet"; 20: "a cell too large for its field"); "User data words may be any ten-bit number"
-pub record WellFormed (L : Layout) (r : Record) : Type 0 where
+-- each number fits its field (01, "The packet"; 20: "a cell too large for its field")
+pub record InRange (L : Layout) (r : Record) : Type 0 where
   pub c : r .c < 2 ^ 1
   pub line : r .line < 2 ^ 11
   pub offset : r .offset < 2 ^ 12
@@ -33,6 +34,11 @@ pub record WellFormed (L : Layout) (r : Record) : Type 0 where
   pub sdid : r .sdid < headerNumbers
   pub count : length (r .words) < headerNumbers
   pub words : Below (2 ^ wordBits) (r .words)
+
+-- and no user data word is a protected one (02, K5)
+pub record WellFormed (L : Layout) (r : Record) : Type 0 where
+  pub fits : InRange L r
+  pub clear : allClear (r .words) ≡ true
 
 -- every element of a list is such
 abbrev pub Each : {A : Type 0} → (A → Type 0) → List A → Type 0
@@ -151,6 +157,10 @@ headersOk L s = areHeaderWords (headerWords L s)
 unfoldable pub rOk : Layout → List ℕ → Bool
 rOk L s = eqb (bitsAt s (didAt L + wordBits + wordBits + wordBits) (rBits L)) 0
 
+-- 16: "Packets .. with them are refused", a protected word among the user data words (02, K5)
+unfoldable pub wordsOk : Layout → List ℕ → Bool
+wordsOk L s = allClear (rowAt wordBits s (wordsAt L) (dataCount L s))
+
 -- 11: "checksum word wrong"; "The nine-bit checksum sentence of 001 decides."
 unfoldable pub checksumOk : Layout → List ℕ → Bool
 checksumOk L s =
@@ -162,13 +172,14 @@ unfoldable pub alignmentOk : Layout → List ℕ → Bool
 alignmentOk L s = eqb (bitsAt s (bodyBits L (dataCount L s)) (padding (alignment L) (bodyBits L (dataCount L s)))) 0
 
 -- 01, "Order of reading": "each ANC packet in turn: 9 (under 12 octets left), 10, 9 (its size), 11, 12"; 02, K3: "15 .. after the second
--- 9 and before 11"
+-- 9 and before 11"; K5: "16 .. just before 11"
 unfoldable pub ancChecks : Layout → List ℕ → Checks
 ancChecks L s =
     (leb (leastSize L) (length s), 9)
     ∷ (headersOk L s, 10)
     ∷ (leb (ancSize L (dataCount L s)) (length s), 9)
     ∷ (rOk L s, 15)
+    ∷ (wordsOk L s, 16)
     ∷ (checksumOk L s, 11)
     ∷ (alignmentOk L s, 12)
     ∷ []

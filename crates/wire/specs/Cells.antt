@@ -4,7 +4,7 @@ use mathlib.Core.List.{List, [], _∷_, _++_}
 use Prim.Native.Nat.{ℕ, zero, suc, _+_, _^_}
 use lib.Dec.{leb, ltb}
 use lib.ListN.{length, take, drop, getD}
-use Rattle.wire.specs.Words.{wordBits, headerNumbers}
+use Rattle.wire.specs.Words.{wordBits, headerNumbers, allClear}
 use Rattle.wire.specs.Layout.{rfc8331, sBits, streamBits}
 use Rattle.wire.specs.Anc.{Record}
 use Rattle.wire.specs.Result.{Result, accepted, refuse, Checks, judge, _then_}
@@ -79,5 +79,15 @@ recordsFrom (suc bound) i (x ∷ l) =
     (recordsFrom bound (i + 1) (rest (x ∷ l)) then λ rs. accepted (cellRecord (x ∷ l) ∷ rs))
 
 -- a list has at most as many records as cells
+abbrev pub recordsIn : List ℕ → Result (List Record)
+recordsIn l = recordsFrom (length l) 0 l
+
+-- 16, of the records of a list, the first with index `i`
+unfoldable pub clearFrom : ℕ → List Record → Result (List Record)
+clearFrom i [] = accepted []
+clearFrom i (r ∷ rs) =
+    judge i ((allClear (r .words), 16) ∷ []) (clearFrom (i + 1) rs then λ qs. accepted (r ∷ qs))
+
+-- "in writing 16 with the record's index, after 20" (02, K5)
 abbrev pub readList : List ℕ → Result (List Record)
-readList l = recordsFrom (length l) 0 l
+readList l = recordsIn l then λ rs. clearFrom 0 rs

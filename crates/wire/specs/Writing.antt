@@ -1,4 +1,4 @@
--- Writing an RTP packet (01, "Writing": 24, 20, 21, 22, 23; "Written packets have P, X and CC zero"; 02, K3: 25 after 21).
+-- Writing an RTP packet (01, "Writing": 24, 20, 21, 22, 23; "Written packets have P, X and CC zero"; 02, K3: 25 after 21; K5: 16 after 20).
 use mathlib.Core.Bool.{Bool, true, not, _&&_}
 use mathlib.Core.List.{List, [], _∷_}
 use Prim.Native.Nat.{ℕ, _/_, _%_, _^_, _<_}
@@ -105,7 +105,7 @@ abbrev pub recordsToWrite : Checks → (List Record → Checks) → List ℕ →
 recordsToWrite head limits cells =
     judge 0 head (readList cells then λ rs. judge 0 (limits rs) (accepted rs))
 
--- "Writing: 24, 20, 21, 22, 23.", and 25 "after 21": the records of a packet that is written
+-- "Writing: 24, 20, 21, 22, 23.", 25 "after 21", and 16 "after 20": the records of a packet that is written
 abbrev pub packetRecords : Layout → Content → (cells : List ℕ) (room : ℕ) → Result (List Record)
 packetRecords L k cells room =
     recordsToWrite (headChecks k) (λ rs. limitChecks L (withRecords k rs) (length cells) room) cells

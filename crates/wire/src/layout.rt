@@ -74,3 +74,8 @@ pub const STREAM_NUMBERS: u16 = 128;
 pub const HEADER_NUMBERS: u16 = 256;
 
 pub const WORD_NUMBERS: u16 = 1024;
+
+// The user data words that are not protected: from the one to the other (ST 291-1; 02, K5).
+pub const LEAST_CLEAR: u16 = 0x004;
+
+pub const MOST_CLEAR: u16 = 0x3FB;

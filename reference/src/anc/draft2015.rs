@@ -40,7 +40,7 @@ fn tail_of(packet: &[u8], n: usize) -> u64 {
 impl Form for Draft2015 {
     const LAYOUT: Layout = Layout::Draft2015;
 
-    /// 9 (under 9 octets left), 10, 9 (its size), 15, 11, 12.
+    /// 9 (under 9 octets left), 10, 9 (its size), 15, 16, 11, 12.
     #[inline(always)]
     fn check(left: &[u8]) -> Result<usize, u8> {
         let Some(start) = left.first_chunk::<SMALLEST>() else {
@@ -112,7 +112,7 @@ impl Form for Draft2015 {
     }
 }
 
-/// 11 and 12 for a packet of the right size. The checksum is that of 001's
+/// 16, 11 and 12 for a packet of the right size. The checksum is that of 001's
 /// sentence: nine bits, where 000 says "lower 8 bits".
 #[inline(always)]
 fn check_words(packet: &[u8], header: [u16; 3], n: usize) -> Result<(), u8> {
@@ -120,7 +120,10 @@ fn check_words(packet: &[u8], header: [u16; 3], n: usize) -> Result<(), u8> {
     let alignment = alignment_bits(n);
     let tail = tail_of(packet, n);
     let mut sum = Sum::of_groups(&packet[WORDS..WORDS + grouped_octets(n)]);
-    sum.add(tail >> (alignment + 10) & ((1 << (10 * over)) - 1));
+    sum.add_over(tail >> (alignment + 10) & ((1 << (10 * over)) - 1), over);
+    if sum.met_protected() {
+        return Err(16);
+    }
     let [did, sdid, count] = header.map(u64::from);
     if checksum_word(did + sdid + count + sum.total()) as u64 != tail >> alignment & WORD {
         return Err(11);

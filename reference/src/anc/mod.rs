@@ -11,7 +11,7 @@ use crate::refusal::Refusal;
 use draft2015::Draft2015;
 use rfc8331::Rfc8331;
 
-pub use words::{checksum_word, HEADER_WORDS};
+pub use words::{checksum_word, is_protected, HEADER_WORDS};
 
 /// Cells of a record before its words.
 pub const RECORD_HEAD: usize = 8;
@@ -46,7 +46,7 @@ trait Form {
     const LAYOUT: Layout;
 
     /// The order for one ANC packet at the start of what is left: 9 (under
-    /// the smallest), 10, 9 (its size), 15 where there are R bits, 11, 12.
+    /// the smallest), 10, 9 (its size), 15 where there are R bits, 16, 11, 12.
     /// Returns n.
     fn check(left: &[u8]) -> Result<usize, u8>;
 
@@ -71,7 +71,7 @@ pub struct Run<'a> {
     cells: usize,
 }
 
-/// Checks `count` ANC packets at the start of `octets`: 9 to 12 and 15, with
+/// Checks `count` ANC packets at the start of `octets`: 9 to 12, 15 and 16, with
 /// the index of the ANC packet. What follows them is the caller's matter.
 #[inline]
 pub fn check_run(layout: Layout, octets: &[u8], count: usize) -> Result<Run<'_>, Refusal> {
@@ -156,20 +156,28 @@ pub struct List<'a> {
     streams: bool,
 }
 
-/// Checks a list of cells: 20, with the index of the record. The widths are
-/// RFC 8331's in both layouts.
+/// Checks a list of cells: 20 over the whole list, then 16 for a protected
+/// word, with the index of the record. The widths are RFC 8331's in both
+/// layouts.
 #[inline]
 pub fn check_list(layout: Layout, cells: &[u16]) -> Result<List<'_>, Refusal> {
     let mut left = cells;
     let (mut records, mut octets, mut streams) = (0, 0, 0);
+    let mut protected = None;
     while !left.is_empty() {
-        let Some(n) = check_record(left) else {
+        let Some((n, clear)) = check_record(left) else {
             return Err(Refusal::at(20, records));
         };
+        if !clear {
+            protected = protected.or(Some(records));
+        }
         records += 1;
         octets += layout.packet_octets(n);
         streams |= left[3] | left[4];
         left = &left[RECORD_HEAD + n..];
+    }
+    if let Some(index) = protected {
+        return Err(Refusal::at(16, index));
     }
     Ok(List {
         layout,
@@ -180,9 +188,10 @@ pub fn check_list(layout: Layout, cells: &[u16]) -> Result<List<'_>, Refusal> {
     })
 }
 
-/// No cell too large for its field, the record not cut. Returns n.
+/// No cell too large for its field, the record not cut. Returns n, and whether
+/// no word is protected.
 #[inline(always)]
-fn check_record(left: &[u16]) -> Option<usize> {
+fn check_record(left: &[u16]) -> Option<(usize, bool)> {
     let (head, rest) = left.split_first_chunk::<RECORD_HEAD>()?;
     let [c, line, offset, s, stream, did, sdid, n] = *head;
     let bits = (c | s) >> 1 | line >> 11 | offset >> 12 | stream >> 7;
@@ -192,7 +201,10 @@ fn check_record(left: &[u16]) -> Option<usize> {
     }
     let n = n as usize;
     let words = rest.get(..n)?;
-    (words.iter().fold(0, |all, word| all | word) <= 0x3FF).then_some(n)
+    // One test a word: over 0x3FF is protected here too.
+    let met = |met, &word| met | is_protected(word);
+    let clear = !words.iter().fold(false, met);
+    (clear || words.iter().all(|&word| word <= 0x3FF)).then_some((n, clear))
 }
 
 impl List<'_> {

@@ -26,7 +26,7 @@ const fn alignment_bits(n: usize) -> u32 {
 impl Form for Rfc8331 {
     const LAYOUT: Layout = Layout::Rfc8331;
 
-    /// 9 (under 12 octets left), 10, 9 (its size), 11, 12.
+    /// 9 (under 12 octets left), 10, 9 (its size), 16, 11, 12.
     #[inline(always)]
     fn check(left: &[u8]) -> Result<usize, u8> {
         let Some(start) = left.first_chunk::<SMALLEST>() else {
@@ -85,14 +85,17 @@ impl Form for Rfc8331 {
     }
 }
 
-/// 11 and 12 for a packet of the right size.
+/// 16, 11 and 12 for a packet of the right size.
 #[inline(always)]
 fn check_words(packet: &[u8], n: usize) -> Result<(), u8> {
     let (groups, over) = (n.div_ceil(4), (n + 3) as u32 % 4);
     let alignment = alignment_bits(n);
     let tail = load8(packet, packet.len() - 8);
     let mut sum = Sum::of_groups(&packet[4..4 + 5 * groups]);
-    sum.add(tail >> (alignment + 10) & ((1 << (10 * over)) - 1));
+    sum.add_over(tail >> (alignment + 10) & ((1 << (10 * over)) - 1), over);
+    if sum.met_protected() {
+        return Err(16);
+    }
     if checksum_word(sum.total()) as u64 != tail >> alignment & WORD {
         return Err(11);
     }

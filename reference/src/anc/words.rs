@@ -6,6 +6,8 @@ pub(super) const WORD: u64 = 0x3FF;
 const EVEN_WORDS: u64 = WORD << 20 | WORD;
 /// One word in each 32-bit half.
 const HALF_WORDS: u64 = WORD << 32 | WORD;
+/// The lowest bit of each word of a group.
+const LANES: u64 = 1 << 30 | 1 << 20 | 1 << 10 | 1;
 
 /// The header words of all 256 numbers.
 pub static HEADER_WORDS: [u16; 256] = header_words();
@@ -29,6 +31,12 @@ const fn header_word(number: u8) -> u16 {
 #[inline(always)]
 pub(super) fn is_header_word(word: u16) -> bool {
     HEADER_WORDS[(word & 0xFF) as usize] == word
+}
+
+/// ST 291-1 keeps 0x000 to 0x003 and 0x3FC to 0x3FF for timing (02, K5).
+#[inline(always)]
+pub const fn is_protected(word: u16) -> bool {
+    word <= 0x003 || word >= 0x3FC
 }
 
 /// The sum modulo 512 in b8..b0, b9 opposite of b8.
@@ -69,34 +77,61 @@ fn load_groups(o: &[u8; 20]) -> [u64; 4] {
 /// count: since 512 divides 1,024, b9 of each word falls out by itself.
 /// `even` gathers the second and fourth words, so that `all - even` is the
 /// first and third; 65 groups stay below a lane's twenty bits.
-#[derive(Default)]
+///
+/// `clear` keeps b8 of each lane as long as no word in it was protected. Of a
+/// protected word the upper eight bits are all zeros or all ones: with 0xFF
+/// added they do not reach b8, or with 1 added they do.
 pub(super) struct Sum {
     all: u64,
     even: u64,
+    clear: u64,
 }
 
 impl Sum {
     /// The words of whole groups.
     #[inline(always)]
     pub(super) fn of_groups(mut octets: &[u8]) -> Sum {
-        let mut sum = Sum::default();
+        let (all, even, clear) = (0, 0, 0x100 * LANES);
+        let mut sum = Sum { all, even, clear };
         while let Some((block, rest)) = octets.split_first_chunk::<20>() {
             for group in load_groups(block) {
                 sum.add(group);
+                sum.test(group);
             }
             octets = rest;
         }
         while let Some((group, rest)) = octets.split_first_chunk::<5>() {
             sum.add(load_group(group));
+            sum.test(load_group(group));
             octets = rest;
         }
         sum
     }
 
+    /// Up to three words more; in the other lanes a clear word is tested.
     #[inline(always)]
-    pub(super) fn add(&mut self, group: u64) {
+    pub(super) fn add_over(&mut self, words: u64, over: u32) {
+        self.add(words);
+        self.test(words | (0x200 * LANES) << (10 * over));
+    }
+
+    #[inline(always)]
+    fn add(&mut self, group: u64) {
         self.all += group;
         self.even += group & EVEN_WORDS;
+    }
+
+    #[inline(always)]
+    fn test(&mut self, group: u64) {
+        let upper = group >> 2 & (0xFF * LANES);
+        self.clear &= (upper + 0xFF * LANES) & !(upper + LANES);
+    }
+
+    /// Whether a word was protected. Well-formed header words are not: their
+    /// b9 and b8 differ.
+    #[inline(always)]
+    pub(super) fn met_protected(&self) -> bool {
+        self.clear != 0x100 * LANES
     }
 
     #[inline(always)]
@@ -250,6 +285,29 @@ mod tests {
         assert_eq!(checksum_word(sum), 0x164);
         assert_eq!(checksum_word(0), 0x200);
         assert_eq!(checksum_word(511), 0x1FF);
+    }
+
+    /// Every word in each lane of a group and of what is left over one.
+    #[test]
+    fn protected_in_every_lane() {
+        for word in 0..1024 {
+            let is = is_protected(word as u16);
+            assert_eq!(is, [0, 1, 2, 3, 1020, 1021, 1022, 1023].contains(&word));
+            for lane in 0..4 {
+                let others = (0x155 * LANES) & !(WORD << (10 * lane));
+                let group = others | word << (10 * lane);
+                let sum = Sum::of_groups(&group.to_be_bytes()[3..]);
+                assert_eq!(sum.met_protected(), is, "{word} {lane}");
+                for over in lane + 1..4 {
+                    let mut sum = Sum::of_groups(&[]);
+                    sum.add_over(group & ((1 << (10 * over)) - 1), over);
+                    assert_eq!(sum.met_protected(), is, "{word} {lane} {over}");
+                }
+            }
+        }
+        let header = |word: &u16| !is_protected(*word);
+        assert!(HEADER_WORDS.iter().all(header));
+        assert!((0..512).all(|sum| header(&checksum_word(sum))));
     }
 
     #[test]

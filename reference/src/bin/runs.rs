@@ -17,8 +17,9 @@
 //!   0 9 0 0 0 0x41 0x05 0) is written and, if it was, the packet is read.
 //! - `cells 32768`, `cells 32769`: the same for a list of 124 records of 255
 //!   words and one of 148 words, or of 149. Their first seven cells are those
-//!   of record A. The words count on through the whole list from 0, modulo
-//!   1,024: the first record's are 0 to 254, the second's begin with 255.
+//!   of record A. The words count on through the whole list from 4 to
+//!   1,019 and again: the first record's are 4 to 258, the second's begin
+//!   with 259.
 //! - `padding 0`: the packet of one record A, with 0x20 added to its first
 //!   octet (P), is read. Its last octet is 0.
 //! - `bit 0` to `bit 95`: the packet of one record A, with that bit of the

@@ -94,11 +94,16 @@ pub(super) fn run_octets(layout: Layout, anc: &[Anc]) -> Vec<u8> {
     anc.iter().flat_map(|anc| anc.octets(layout)).collect()
 }
 
-/// Damages an ANC packet so that 10, 11, 12 or, in the drafts, 15 is likely.
+/// Damages an ANC packet so that 10, 11, 12, 16 or, in the drafts, 15 is
+/// likely.
 pub(super) fn damage_anc(r: &mut Random, layout: Layout, anc: &mut Anc) {
     let last = anc.words.len() - 1;
     if layout == Layout::Draft2015 && r.one_in(4) {
         anc.r = 1 + r.below(3) as u32;
+        return;
+    }
+    if last > 3 && r.one_in(4) {
+        protect_anc(r, anc);
         return;
     }
     match r.below(6) {
@@ -107,5 +112,15 @@ pub(super) fn damage_anc(r: &mut Random, layout: Layout, anc: &mut Anc) {
         3 => anc.words[last] ^= 1 << r.below(10),
         4 => anc.words[3 + r.below(last - 2)] ^= 1 + r.below(1023) as u16,
         _ => anc.alignment = 1 << r.below(anc.alignment_width(layout) as usize),
+    }
+}
+
+/// A protected word among the user data words; the checksum is that of the
+/// words, as a sender makes it, or as it was.
+fn protect_anc(r: &mut Random, anc: &mut Anc) {
+    let last = anc.words.len() - 1;
+    anc.words[3 + r.below(last - 3)] = protected_word(r);
+    if !r.one_in(3) {
+        anc.words[last] = checksum(&anc.words[..last]);
     }
 }

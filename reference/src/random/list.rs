@@ -13,6 +13,19 @@ pub fn word_count(r: &mut Random) -> usize {
     }
 }
 
+/// A word that is not protected: 4 to 0x3FB, these two more often.
+pub fn clear_word(r: &mut Random) -> u16 {
+    4 + match r.below(1024) {
+        word @ 0..1016 => word as u16,
+        word @ 1016..1020 => (word % 2) as u16 * 0x3F7,
+        word => (word % 4) as u16,
+    }
+}
+
+pub fn protected_word(r: &mut Random) -> u16 {
+    r.pick(&[0, 1, 2, 3, 0x3FC, 0x3FD, 0x3FE, 0x3FF])
+}
+
 /// A record of n words, in cells.
 pub fn record(r: &mut Random, n: usize) -> Vec<u16> {
     let line = r.below(2048) as u16;
@@ -27,7 +40,7 @@ pub fn record(r: &mut Random, n: usize) -> Vec<u16> {
         r.below(256) as u16,
         n as u16,
     ];
-    cells.extend((0..n).map(|_| r.below(1024) as u16));
+    cells.extend((0..n).map(|_| clear_word(r)));
     cells
 }
 
@@ -82,12 +95,30 @@ pub fn split_records(mut cells: &[u16]) -> Vec<&[u16]> {
     records
 }
 
-/// A list damaged in a record: a cell too large, a record cut, or cells of
-/// no meaning.
+/// Protected words in some records.
+pub(super) fn protect_list(r: &mut Random, cells: &mut [u16]) {
+    let starts = record_starts(cells);
+    for _ in 0..1 + r.below(3) {
+        let start = r.pick(&starts);
+        let n = cells[start + 7] as usize;
+        if n > 0 {
+            cells[start + RECORD_HEAD + r.below(n)] = protected_word(r);
+        }
+    }
+}
+
+/// A list damaged in a record: a cell too large, a record cut, a protected
+/// word, or cells of no meaning.
 pub fn damaged_list(r: &mut Random) -> Vec<u16> {
     let records = 1 + record_count(r);
     let mut cells = list(r, records);
     let starts = record_starts(&cells);
+    if r.one_in(3) {
+        protect_list(r, &mut cells);
+        if r.one_in(2) {
+            return cells;
+        }
+    }
     match r.below(6) {
         0 => cells.truncate(r.below(cells.len())),
         1 => cells.extend((0..1 + r.below(7)).map(|_| 0)),

@@ -60,6 +60,9 @@ fn naive_run(layout: Layout, octets: &[u8], count: usize) -> Refused<(Vec<u16>, 
         if bits(octets, 8 * at + did + 30, r) != 0 {
             return Err((15, index));
         }
+        if (3..n + 3).any(|k| word(k) / 4 == 0 || word(k) / 4 == 255) {
+            return Err((16, index));
+        }
         let sum: u64 = (0..n + 3).map(|k| word(k) % 512).sum();
         let sum = sum % 512;
         let b8 = sum / 256;
@@ -192,9 +195,17 @@ fn naive_list(cells: &[u16]) -> Refused<Vec<&[u16]>> {
     Ok(records)
 }
 
-/// Records of a list in writing: 20, 21.
+/// Records of a list in writing: 20, 16, 21.
 fn naive_records(cells: &[u16], most: usize) -> Refused<Vec<&[u16]>> {
     let records = naive_list(cells)?;
+    for (index, record) in records.iter().enumerate() {
+        if record[8..]
+            .iter()
+            .any(|word| [0, 255].contains(&(word / 4)))
+        {
+            return Err((16, index));
+        }
+    }
     if records.len() > most || cells.len() > 32_768 {
         return Err((21, 0));
     }

@@ -74,7 +74,7 @@ unfolding readAnc ancChecks
 returns-3 c = rw (c .refuse3 .ensures, long (c .before .before .before .before .before .before .before .before), headed (c .before .before .before .before .before), size-is (c .before .before .before), lt-leb _ _ (c .before .if3 .taken))
 
 check-content-requires : tie.Need-check-content-requires
-check-content-requires c κs = (sym (count-is (c .before .before .before)), c .before .before .packet-size .ensures, c .if3 .left)
+check-content-requires c κs = (headed (c .before .before .before .before), (sym (count-is (c .before .before .before)), c .before .before .packet-size .ensures, c .if3 .left))
 
 returns-4 : tie.Need-returns-4
 unfolding readAnc ancChecks

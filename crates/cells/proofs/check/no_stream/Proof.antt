@@ -9,7 +9,7 @@ use lib.Dec.{eqb}
 use lib.ListN.{getD, length, length-drop}
 use Rattle.wire.specs.Result.{IsAccepted}
 use Rattle.wire.specs.Anc.{Record}
-use Rattle.wire.specs.Cells.{headCells, cellCount, cellRecord, recordsFrom, rest, readList}
+use Rattle.wire.specs.Cells.{headCells, cellCount, cellRecord, recordsFrom, clearFrom, rest, readList}
 use Rattle.wire.specs.Writing.{noStream}
 use Rattle.wire.proofs.ListLaws.{part-all}
 use Rattle.record.proofs.FrontLaws.{rest-is}
@@ -80,7 +80,7 @@ loop-again c =
 
 -- no cells are no record
 ended : (none : Bool) (l : List ℕ) → length l ≤ 0 → none ≡ none && noStream (listRecords (readList l))
-unfolding recordsFrom
+unfolding recordsFrom clearFrom
 ended none [] h = sym (and-true none)
 ended none (x ∷ l) h = absurd (omega arith)
 

@@ -22,7 +22,7 @@ small : (c : tie.Start)
     (getD l 5 0 < headerNumbers) × (getD l 6 0 < headerNumbers) × (cellCount l < headerNumbers)
 unfolding cellRecord
 small c =
-    let f = c .pre .0 .1 in
+    let f = c .pre .0 .1 .fits in
     (f .did, f .sdid, omega (arith, length-words (c .args .cells .now) (c .pre .1 .0), f .count))
 
 cast-did : tie.Need-cast-did
@@ -60,7 +60,7 @@ head-is c =
 write-few-requires : tie.Need-write-few-requires
 write-few-requires c κs =
     let s = c .before .before .before .before .before .before .before .before .before .before in
-    let f = s .pre .0 .1 in
+    let f = s .pre .0 .1 .fits in
     (omega arith, subst (Below (2 ^ wordBits)) (sym (head-is s)) (header-lt _ (f .did), (header-lt _ (f .sdid), (header-lt _ (f .count), tt))), omega arith)
 
 returns : tie.Need-returns

@@ -36,7 +36,7 @@ user-is c =
     ap (λ (k : ℕ). take k (drop headCells l)) e
 
 cast-t11 : tie.Need-cast-t11
-cast-t11 c = omega (arith, count-is (c .before .before .before), c .before .before .before .pre .0 .1 .count)
+cast-t11 c = omega (arith, count-is (c .before .before .before), c .before .before .before .pre .0 .1 .fits .count)
 
 -- the packet's size: it is in the octets
 room : (c : tie.Start) → ancSize (c .args .layout) (length (given c .words)) ≤ length (c .args .octets .now)
@@ -63,7 +63,7 @@ write-user-words-requires c κs =
     let n = length (r .words) in
     let o = c .before .before .before .before .write-head .last .1 .1 .0 in
     let kept : length o ≡ length (c .before .before .before .before .before .before .before .before .before .before .before .before .before .before .before .args .octets .now) = c .before .before .before .before .write-head .kept .1 .1 .0 ∙ c .before .before .before .before .before .before .before .before .clear-end .kept .0 in
-    let f = c .before .before .before .before .before .before .before .before .before .before .before .before .before .before .before .pre .0 .1 in
+    let f = c .before .before .before .before .before .before .before .before .before .before .before .before .before .before .before .pre .0 .1 .fits in
     let e = sym (user-is (c .before .before .before .before .before .before .before .before .before .before .before .before .before .before .before)) in
     let p = places L in
     let fit : WordsFit o (wordsAt L) (n + 1) = record { even = p .words-even; inside = omega (arith, kept, room (c .before .before .before .before .before .before .before .before .before .before .before .before .before .before .before), size-bits L n); near = omega (arith, p .did-near, p .r-few, f .count) } in (

@@ -1,4 +1,4 @@
--- `measure` gives 53, 20, 21 or 23, or the records and octets of a field that fits.
+-- `measure` gives 53, 20, 16, 21 or 23, or the records and octets of a field that fits.
 -- Each return knows the checks before it, in the order of the definition.
 use borrow.Author.Needs.{needs}
 use mathlib.Core.Path.{_≡_, ap, sym, _∙_}

@@ -1,4 +1,4 @@
--- `measure` gives 24, 20, 21, 25, 22 or 23, or the records and octets of a packet that fits.
+-- `measure` gives 24, 20, 16, 21, 25, 22 or 23, or the records and octets of a packet that fits.
 -- Each return knows the checks before it, in the order of the definition.
 use borrow.Author.Needs.{needs}
 use mathlib.Core.Path.{_≡_, ap, sym, _∙_}

@@ -2,16 +2,17 @@
 -- Each return knows the checks so far, which are those of the definition, and each refusal is the same answer.
 use borrow.Author.Needs.{needs}
 use borrow.Author.Tests.{le-leb, lt-leb, not-true, not-false}
-use mathlib.Core.Path.{_≡_, sym, _∙_}
-use mathlib.Core.Bool.{true}
-use Prim.Native.Nat.{_+_, _-_, _^_}
+use mathlib.Core.Path.{_≡_, ap, sym, _∙_}
+use mathlib.Core.Bool.{true, false}
+use mathlib.Core.List.{List}
+use Prim.Native.Nat.{ℕ, _+_, _-_, _^_}
 use native.Mathlib.Omega.{arith}
 use lib.Dec.{leb}
 use lib.ListN.{length, take, drop}
-use Rattle.wire.specs.Words.{wordBits}
-use Rattle.wire.specs.Cells.{headCells, cellCount, allBelow, headInRange, cellChecks}
+use Rattle.wire.specs.Words.{wordBits, allClear}
+use Rattle.wire.specs.Cells.{headCells, cellCount, cellRecord, allBelow, headInRange, cellChecks}
 use Rattle.wire.proofs.ResultLaws.{Passed}
-use Rattle.record.proofs.FrontLaws.{lies, front-taken}
+use Rattle.record.proofs.FrontLaws.{count-small, front-taken, clear-below}
 use Rattle.record.proofs.check.check_record.Statement.{statement}
 use Rattle.record.proofs.check.check_record.Tie as tie
 
@@ -34,9 +35,6 @@ long c = le-leb _ _ (c .before .before .if1 .left)
 in-range : (c : tie.Else2) → headInRange (c .before .before .before .before .args .cells .now) ≡ true
 in-range c = sym (c .before .head-in-range .ensures) ∙ not-false _ (c .if2 .left)
 
-shared-slice-read-n : tie.Need-shared-slice-read-n
-shared-slice-read-n c = omega arith
-
 cast-n : tie.Need-cast-n
 cast-n c = omega (arith, c .shared-slice-known2 .given 7)
 
@@ -47,48 +45,51 @@ returns-3 : tie.Need-returns-3
 unfolding cellChecks
 returns-3 c = rw (long (c .before .before), in-range (c .before .before), lt-leb _ _ (c .if3 .taken))
 
-sub-words-in-range : tie.Need-sub-words-in-range
-sub-words-in-range c = omega arith
+cast-t10 : tie.Need-cast-t10
+cast-t10 c = omega (arith, count-small _ (in-range (c .before .before)))
 
-part-words-in-range-start : tie.Need-part-words-in-range-start
-part-words-in-range-start c = omega arith
+-- what is tested are the words of the record
+words-are : (l : List ℕ) → take (headCells + cellCount l - headCells) (drop headCells l) ≡ take (cellCount l) (drop headCells l)
+words-are l = let e : headCells + cellCount l - headCells ≡ cellCount l = omega arith in ap (λ (n : ℕ). take n (drop headCells l)) e
 
-part-words-in-range-end : tie.Need-part-words-in-range-end
-part-words-in-range-end c = omega arith
-
-words-are : (c : tie.After-words-in-range)
-    → let l = c .before .before .before .before .before .before .before .before .args .cells .now in
-    c .words-in-range .result ≡ allBelow (2 ^ wordBits) (take (cellCount l) (drop headCells l))
-words-are c =
-    let n = cellCount (c .before .before .before .before .before .before .before .before .args .cells .now) in
-    let e : headCells + n - headCells ≡ n = omega arith in
-    rw e at (c .words-in-range .ensures)
+-- the record passes where its words fit
+passes : (c : tie.Else3)
+    → let l = c .before .before .before .before .before .before .args .cells .now in
+    allBelow (2 ^ wordBits) (take (cellCount l) (drop headCells l)) ≡ true → Passed (cellChecks l)
+unfolding cellChecks
+passes c fit = (long (c .before .before), (in-range (c .before .before), (le-leb _ _ (c .if3 .left), (fit, tt))))
 
 returns-4 : tie.Need-returns-4
-unfolding cellChecks
+unfolding cellRecord
 returns-4 c =
-    let before = c .before .before .before .before .before in
-    rw (
-      long before,
-      in-range before,
-      le-leb _ _ (c .before .before .before .if3 .left),
-      sym (words-are (c .before)) ∙ not-true _ (c .if4 .taken),
-    )
-
-passed : (c : tie.Else4) → Passed (cellChecks (c .before .before .before .before .before .before .before .before .before .args .cells .now))
-unfolding cellChecks
-passed c =
-    let before = c .before .before .before .before .before in
-    (long before, (in-range before, (le-leb _ _ (c .before .before .before .if3 .left), (sym (words-are (c .before)) ∙ not-false _ (c .if4 .left), tt))))
-
-cast-t12 : tie.Need-cast-t12
-cast-t12 c = omega (arith, lies _ (passed c) .small)
+    let b = c .before .before .before in
+    let l = b .before .before .before .before .before .before .args .cells .now in
+    let clear = sym (ap allClear (words-are l)) ∙ sym (c .before .words-clear .ensures) ∙ c .if4 .taken in
+    front-taken l true (passes b (clear-below (take (cellCount l) (drop headCells l)) clear)) clear
 
 returns-5 : tie.Need-returns-5
-returns-5 c = front-taken _ (passed c)
+unfolding cellRecord
+returns-5 c =
+    let b = c .before .before .before .before .before .before in
+    let l = b .before .before .before .before .before .before .args .cells .now in
+    let clear = sym (ap allClear (words-are l)) ∙ sym (c .before .before .before .before .words-clear .ensures) ∙ c .before .before .before .if4 .left in
+    let fit = sym (ap (allBelow (2 ^ wordBits)) (words-are l)) ∙ sym (c .before .words-in-range .ensures) ∙ c .if5 .taken in
+    front-taken l false (passes b fit) clear
+
+returns-6 : tie.Need-returns-6
+unfolding cellChecks
+returns-6 c =
+    let b = c .before .before .before .before .before .before in
+    let l = b .before .before .before .before .before .before .args .cells .now in
+    rw (
+      long (b .before .before),
+      in-range (b .before .before),
+      le-leb _ _ (b .if3 .left),
+      sym (ap (allBelow (2 ^ wordBits)) (words-are l)) ∙ sym (c .before .words-in-range .ensures) ∙ c .if5 .left,
+    )
 
 pub check-record-spec : {M : Type 1} → statement M
 check-record-spec =
     tie.close
-    (tie.spec returns (λ c κs. search needs) returns-2 shared-slice-read-n cast-n add-end returns-3 sub-words-in-range part-words-in-range-start
-    part-words-in-range-end (λ c κs. search needs) returns-4 cast-t12 returns-5)
+    (tie.spec returns (λ c κs. search needs) returns-2 (λ c. search needs) cast-n add-end returns-3 cast-t10 (λ c. search needs) (λ c. search needs)
+    (λ c. search needs) (λ c κs. search needs) returns-4 (λ c. search needs) (λ c. search needs) (λ c. search needs) (λ c κs. search needs) returns-5 returns-6)

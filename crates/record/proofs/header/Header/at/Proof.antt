@@ -31,7 +31,7 @@ returns c =
 passes : (c : tie.After-enum-told2)
     → let a = c .before .before .before .before .before .before .args in
     Passed (cellChecks (take (length (a .cells .now) - a .at) (drop (a .at) (a .cells .now))))
-passes c = taken _ _ (sym (c .before .before .check-record .ensures) ∙ c .enum-told2 .given .1) .0
+passes c = taken _ _ _ (sym (c .before .before .check-record .ensures) ∙ c .enum-told2 .given .1) .passed
 
 header-of-requires : tie.Need-header-of-requires
 header-of-requires c κs =

@@ -8,9 +8,9 @@ use native.Mathlib.Numerals.{add-one}
 use native.Mathlib.Omega.{arith}
 use lib.ListN.{length, drop, getD}
 use lib.Seq.{drop-cons, drop-length}
-use Rattle.rows.specs.Total.{total}
-use Rattle.rows.proofs.scan.total_of.Statement.{statement}
-use Rattle.rows.proofs.scan.total_of.Tie as tie
+use Rattle.row_scan.specs.Total.{total}
+use Rattle.row_scan.proofs.scan.total_of.Statement.{statement}
+use Rattle.row_scan.proofs.scan.total_of.Tie as tie
 
 abbrev Inv-loop : tie.InvT-loop
 Inv-loop sums sum₀ j₀ sum j = (j ≤ length sums) × (sum < 65536) × ((sum + total (drop j sums)) % 65536 ≡ total sums % 65536)

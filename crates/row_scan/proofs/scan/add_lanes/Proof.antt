@@ -9,10 +9,10 @@ use native.Mathlib.Omega.{arith}
 use lib.ListN.{length, drop, getD, length-set}
 use lib.Seq.{drop-cons, drop-length}
 use Rattle.wire.specs.Words.{sumLow}
-use Rattle.rows.specs.Total.{total}
-use Rattle.rows.proofs.TotalLaws.{total-set}
-use Rattle.rows.proofs.scan.add_lanes.Statement.{statement}
-use Rattle.rows.proofs.scan.add_lanes.Tie as tie
+use Rattle.row_scan.specs.Total.{total}
+use Rattle.row_scan.proofs.TotalLaws.{total-set}
+use Rattle.row_scan.proofs.scan.add_lanes.Statement.{statement}
+use Rattle.row_scan.proofs.scan.add_lanes.Tie as tie
 
 abbrev Inv-loop : tie.InvT-loop
 Inv-loop words sums₀ j₀ sums j =

@@ -5,7 +5,7 @@ use mathlib.Core.List.{List, [], _∷_}
 use Prim.Native.Nat.{ℕ, zero, suc, _+_, _<_}
 use native.Mathlib.Omega.{arith}
 use lib.ListN.{length, getD, set}
-use Rattle.rows.specs.Total.{total}
+use Rattle.row_scan.specs.Total.{total}
 
 pub total-set : (l : List ℕ) (j y : ℕ) → j < length l → total (set l j y) + getD l j 0 ≡ total l + y
 total-set [] j y h = absurd (omega arith)
