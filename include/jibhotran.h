@@ -1,5 +1,6 @@
 /*
- * Jibhotran: RTP packets with ANC payload (RFC 8331 and its drafts of 2015), fields, SDP format parameters and field files.
+ * Jibhotran: RTP packets with ANC payload (RFC 8331 and its drafts of 2015), fields, SDP format parameters, field files and lines of the
+ * serial interface.
  *
  * Written by hand; `differential/` tests it against the archive. Nothing here allocates, and nothing is kept between calls.
  *
@@ -94,6 +95,20 @@ uint8_t jibhotran_file_write(uint32_t timestamp, uint8_t f, const uint16_t *cell
 /* Reads the field at an offset of a file of version 1 or 2, its records into cells. answer: timestamp, F, records, cells, the offset after the field. */
 uint8_t jibhotran_file_read(const uint8_t *file, size_t file_len, size_t at, uint16_t *cells, size_t cells_len, uint64_t *answer,
                             size_t answer_len);
+
+/*
+ * Puts the records of the cells into a line of ten-bit words, from the word `start` on: each an ancillary data flag 0x000 0x3FF 0x3FF and then DID to
+ * checksum, one behind the other. The words outside the written stretch stay. answer: the word behind the stretch.
+ */
+uint8_t jibhotran_line_write(uint16_t *line, size_t line_len, size_t start, const uint16_t *cells, size_t cells_len, uint64_t *answer,
+                             size_t answer_len);
+
+/*
+ * Finds the packets of a line from the word `start` on, as long as a flag follows directly, their records into cells; C, line number, offset, S and
+ * StreamNum are what the caller says. answer: records, cells, the word behind the last packet.
+ */
+uint8_t jibhotran_line_read(const uint16_t *line, size_t line_len, size_t start, uint16_t c, uint16_t line_number, uint16_t offset,
+                            uint16_t s, uint16_t stream, uint16_t *cells, size_t cells_len, uint64_t *answer, size_t answer_len);
 
 /* 1 where a record of these numbers is wanted, and 0 where not. pairs: DID then SDID; a last octet without an SDID is no entry. Of a DID of 0x80
  * or above (Type 1) the second number is a data block number and matters on neither side. */

@@ -19,6 +19,8 @@ extern "C" {
     fn jibhotran_file_begin(out: *mut u8, out_len: usize, answer: *mut u64, answer_len: usize) -> u8;
     fn jibhotran_file_write(timestamp: u32, f: u8, cells: *const u16, cells_len: usize, out: *mut u8, out_len: usize, answer: *mut u64, answer_len: usize) -> u8;
     fn jibhotran_file_read(file: *const u8, file_len: usize, at: usize, cells: *mut u16, cells_len: usize, answer: *mut u64, answer_len: usize) -> u8;
+    fn jibhotran_line_write(line: *mut u16, line_len: usize, start: usize, cells: *const u16, cells_len: usize, answer: *mut u64, answer_len: usize) -> u8;
+    fn jibhotran_line_read(line: *const u16, line_len: usize, start: usize, c: u16, line_number: u16, offset: u16, s: u16, stream: u16, cells: *mut u16, cells_len: usize, answer: *mut u64, answer_len: usize) -> u8;
     fn jibhotran_wanted(did: u8, sdid: u8, pairs: *const u8, pairs_len: usize) -> u8;
     fn jibhotran_wanted_of(did: u8, sdid: u8, pairs: *const Pair, pairs_len: usize) -> u8;
 }
@@ -93,6 +95,23 @@ impl Side for Archive {
 
     fn file_read(file: &[u8], at: usize, cells: &mut [u16], answer: &mut [u64]) -> u8 {
         call!(jibhotran_file_read(in file, at, mut cells, mut answer))
+    }
+
+    fn line_write(line: &mut [u16], start: usize, cells: &[u16], answer: &mut [u64]) -> u8 {
+        call!(jibhotran_line_write(mut line, start, in cells, mut answer))
+    }
+
+    fn line_read(
+        line: &[u16],
+        start: usize,
+        place: &[u16; 5],
+        cells: &mut [u16],
+        answer: &mut [u64],
+    ) -> u8 {
+        let [c, line_number, offset, s, stream] = *place;
+        call!(jibhotran_line_read(
+            in line, start, c, line_number, offset, s, stream, mut cells, mut answer
+        ))
     }
 
     fn wanted(did: u8, sdid: u8, pairs: &[u8]) -> u8 {

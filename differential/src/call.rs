@@ -44,6 +44,16 @@ pub enum Call {
         file: Vec<u8>,
         at: usize,
     },
+    /// The line is the cells lent for writing.
+    LineWrite {
+        start: usize,
+        cells: Vec<u16>,
+    },
+    LineRead {
+        line: Vec<u16>,
+        start: usize,
+        place: [u16; 5],
+    },
     Wanted {
         did: u8,
         sdid: u8,
@@ -136,6 +146,10 @@ impl Call {
                 cells,
             } => S::file_write(*timestamp, *f, cells, out, answer),
             Call::FileRead { file, at } => S::file_read(file, *at, room, answer),
+            Call::LineWrite { start, cells } => S::line_write(room, *start, cells, answer),
+            Call::LineRead { line, start, place } => {
+                S::line_read(line, *start, place, room, answer)
+            }
             Call::Wanted { did, sdid, pairs } => S::wanted(*did, *sdid, pairs),
             Call::WantedOf { did, sdid, pairs } => S::wanted_of(*did, *sdid, pairs),
         }

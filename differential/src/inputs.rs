@@ -170,6 +170,25 @@ pub fn file_read(r: &mut Random) -> Case {
     (call, lent(r, case.room, 0))
 }
 
+pub fn line_write(r: &mut Random) -> Case {
+    let case = random::line_write_case(r);
+    let mut memory = lent(r, case.line.len(), 0);
+    memory.cells.get_mut().copy_from_slice(&case.line);
+    let (start, cells) = (case.start, case.cells);
+    (Call::LineWrite { start, cells }, memory)
+}
+
+pub fn line_read(r: &mut Random) -> Case {
+    let case = random::line_read_case(r);
+    let place = case.place;
+    let call = Call::LineRead {
+        line: case.line,
+        start: case.start,
+        place: [place.c, place.line, place.offset, place.s, place.stream],
+    };
+    (call, lent(r, case.room, 0))
+}
+
 /// How many different numbers, and the least: few, so that entries match, and
 /// some on both sides of the DIDs of Type 1.
 fn numbers(r: &mut Random) -> (usize, usize) {

@@ -54,7 +54,7 @@ pub struct Pair {
     pub sdid: u8,
 }
 
-/// The boundary's eleven functions over slices.
+/// The boundary's thirteen functions over slices.
 pub trait Side {
     fn read(layout: u8, octets: &[u8], cells: &mut [u16], answer: &mut [u64]) -> u8;
     fn write(layout: u8, head: &Head, cells: &[u16], out: &mut [u8], answer: &mut [u64]) -> u8;
@@ -71,6 +71,15 @@ pub trait Side {
     fn file_begin(out: &mut [u8], answer: &mut [u64]) -> u8;
     fn file_write(timestamp: u32, f: u8, cells: &[u16], out: &mut [u8], answer: &mut [u64]) -> u8;
     fn file_read(file: &[u8], at: usize, cells: &mut [u16], answer: &mut [u64]) -> u8;
+    fn line_write(line: &mut [u16], start: usize, cells: &[u16], answer: &mut [u64]) -> u8;
+    /// The place is C, line number, offset, S and StreamNum.
+    fn line_read(
+        line: &[u16],
+        start: usize,
+        place: &[u16; 5],
+        cells: &mut [u16],
+        answer: &mut [u64],
+    ) -> u8;
     fn wanted(did: u8, sdid: u8, pairs: &[u8]) -> u8;
     fn wanted_of(did: u8, sdid: u8, pairs: &[Pair]) -> u8;
 }

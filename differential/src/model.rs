@@ -1,6 +1,7 @@
 //! The boundary over the reference: its rows, and nothing else of its own.
 
 use reference::depacketizer::{arrive, open, Answer, State, FILLING};
+use reference::sdi::{self, Place};
 use reference::{file, packet, sdp, Layout, Refusal};
 
 use crate::{Head, Pair, Side, ANSWER, DRAFTS, HELD, LAYOUT, MIXED, OVERFULL, RFC8331, ROW};
@@ -218,6 +219,37 @@ impl Side for Model {
                 field.next as u64,
             ]
         });
+        settle(values, answer)
+    }
+
+    fn line_write(line: &mut [u16], start: usize, cells: &[u16], answer: &mut [u64]) -> u8 {
+        if answer.len() < ANSWER {
+            return ROW;
+        }
+        let end = sdi::write(line, start, cells);
+        settle(end.map(|end| [end as u64]), answer)
+    }
+
+    fn line_read(
+        line: &[u16],
+        start: usize,
+        place: &[u16; 5],
+        cells: &mut [u16],
+        answer: &mut [u64],
+    ) -> u8 {
+        if answer.len() < ANSWER {
+            return ROW;
+        }
+        let [c, line_number, offset, s, stream] = *place;
+        let place = Place {
+            c,
+            line: line_number,
+            offset,
+            s,
+            stream,
+        };
+        let values = sdi::read(line, start, place, cells)
+            .map(|found| [found.records, found.cells, found.end].map(|value| value as u64));
         settle(values, answer)
     }
 

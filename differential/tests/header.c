@@ -19,6 +19,9 @@ static octet (*const sdp_write)(const octet *, size_t, uint16_t, octet *, size_t
 static octet (*const file_begin)(octet *, size_t, number *, size_t) = jibhotran_file_begin;
 static octet (*const file_write)(uint32_t, octet, const cell *, size_t, octet *, size_t, number *, size_t) = jibhotran_file_write;
 static octet (*const file_read)(const octet *, size_t, size_t, cell *, size_t, number *, size_t) = jibhotran_file_read;
+static octet (*const line_write)(cell *, size_t, size_t, const cell *, size_t, number *, size_t) = jibhotran_line_write;
+static octet (*const line_read)(const cell *, size_t, size_t, cell, cell, cell, cell, cell, cell *, size_t, number *,
+                                size_t) = jibhotran_line_read;
 static octet (*const wanted)(octet, octet, const octet *, size_t) = jibhotran_wanted;
 static octet (*const wanted_of)(octet, octet, const struct jibhotran_pair *, size_t) = jibhotran_wanted_of;
 
@@ -119,6 +122,16 @@ static void file(void) {
     result("file read", file_read(out, 24, 24, back, 8, answer, 8), 2);
 }
 
+static void lines(void) {
+    cell line[10] = {1, 2, 3, 4, 5, 6, 7, 8, 9, 10}, back[8];
+    result("line write", line_write(line, 10, 4, record_a, 8, answer, 8), 2);
+    result("line write", line_write(line, 10, 2, record_a, 8, answer, 8), 2);
+    cells("line", line, 10);
+    result("line read", line_read(line, 10, 2, 1, 0x7FF, 0xFFF, 1, 127, back, 8, answer, 8), 4);
+    cells("cells", back, 8);
+    result("line read", line_read(line, 10, 2, 2, 0, 0, 0, 0, back, 8, answer, 8), 2);
+}
+
 int main(void) {
     octet packet[2][32], old[26];
     printf("%d %d %d %d\n", JIBHOTRAN_ANSWER, JIBHOTRAN_STATE, JIBHOTRAN_ROW, JIBHOTRAN_NO_VPID);
@@ -130,5 +143,6 @@ int main(void) {
     depacketizer(packet, old);
     parameters();
     file();
+    lines();
     return 0;
 }

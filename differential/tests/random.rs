@@ -12,7 +12,7 @@ use reference::random::Random;
 
 /// What each entry gives: 0 for an answer, the papers' numbers, 255 for short
 /// rows, 254 where it is told no layout.
-const GIVEN: [(&str, &[u8]); 15] = [
+const GIVEN: [(&str, &[u8]); 17] = [
     (
         "read",
         &[0, 1, 2, 3, 4, 5, 6, 7, 8, 9, 10, 11, 12, 13, 14, 16, ROW],
@@ -47,9 +47,12 @@ const GIVEN: [(&str, &[u8]); 15] = [
         "file_read",
         &[0, 9, 10, 11, 12, 14, 16, 21, 50, 51, 52, 53, 54, 55, ROW],
     ),
+    ("line_write", &[0, 16, 20, 70, 71, 72, ROW]),
+    ("line_read", &[0, 9, 10, 11, 14, 16, 20, 70, 71, 73, ROW]),
 ];
 
-/// Numbers whose index says where; the SDP writer's index is always 0.
+/// Numbers whose index says where; the SDP writer's index is always 0, and so
+/// is that of 20 where a line is read.
 const INDEXED: [u8; 10] = [9, 10, 11, 12, 15, 16, 20, 41, 42, 43];
 
 /// The entry with the layout told: that of the drafts is the old one.
@@ -89,7 +92,8 @@ fn check(entry: &str, met: &Coverage) {
     for number in numbers {
         let (times, indices) = met.of(entry, number);
         println!("{entry:<12}{number:>4}{times:>8} times{indices:>5} indices");
-        let several = INDEXED.contains(&number) && entry != "sdp_write";
+        let always_0 = entry == "sdp_write" || (entry, number) == ("line_read", 20);
+        let several = INDEXED.contains(&number) && !always_0;
         assert_eq!(several, indices > 1, "{entry} {number}: {indices} indices");
     }
 }
@@ -106,7 +110,8 @@ fn every_number_is_some_entrys() {
     let of_the_papers = (1..=16)
         .chain([20, 21, 23, 24, 25, 30, 31, 32, 35])
         .chain(40..=44)
-        .chain(50..=55);
+        .chain(50..=55)
+        .chain(70..=73);
     assert_eq!(given, of_the_papers.chain([0, LAYOUT, ROW]).collect());
 }
 
@@ -156,6 +161,16 @@ fn fields_written() {
 #[test]
 fn fields_read() {
     differ(&["file_read"], 109, 100_000, inputs::file_read);
+}
+
+#[test]
+fn lines_written() {
+    differ(&["line_write"], 112, 100_000, inputs::line_write);
+}
+
+#[test]
+fn lines_read() {
+    differ(&["line_read"], 113, 150_000, inputs::line_read);
 }
 
 /// Both answers, and no other.

@@ -555,6 +555,85 @@ fn parts_of_cells(count: usize) -> Vec<Anc> {
     reference::random::anc_of(&cells(count))
 }
 
+/// A line of so many words is lent: 70, 71, 20, 16, 72.
+// A case a line.
+#[rustfmt::skip]
+fn of_lines_written() -> Vec<Refused> {
+    let of = |number, what, start, cells, lent, index| {
+        refused(number, what, Call::LineWrite { start, cells }, lent, index)
+    };
+    let protected = [&A[..7], &[1, 0x3FC]].concat();
+    let mut table = vec![
+        of(70, "4,097 words, nothing to write", 0, Vec::new(), 4_097, 0),
+        of(70, "before 71 and 20", 5_000, vec![9], 4_097, 0),
+        of(71, "one past the end, nothing to write", 10, Vec::new(), 9, 0),
+        of(71, "before 20", usize::MAX, vec![9], 9, 0),
+        of(20, "at the end", 9, [records(2), vec![9]].concat(), 9, 2),
+        of(16, "before 72", 9, [records(3), protected].concat(), 9, 3),
+        of(72, "one word short", 3, A.to_vec(), 9, 0),
+        of(72, "at the end", 9, A.to_vec(), 9, 0),
+        of(72, "no 21 before it", 0, records(586), 4_096, 0),
+    ];
+    for (number, what, list, index) in protected_lists() {
+        table.push(of(number, what, 0, list, 0, index));
+    }
+    table
+}
+
+/// The words of records in a line.
+fn stretch(cells: &[u16]) -> Vec<u16> {
+    let mut line = vec![0; cells.len()];
+    let end = reference::sdi::write(&mut line, 0, cells).unwrap();
+    line.truncate(end);
+    line
+}
+
+/// 70, 71, 20, 73; 9, 10, 9, 16, 11 with the packet's index; 14.
+// A case a line.
+#[rustfmt::skip]
+fn of_lines_read() -> Vec<Refused> {
+    let here = [1, 0x7FF, 0xFFF, 1, 127];
+    let of = |number, what, line: Vec<u16>, start, place, index| {
+        refused(number, what, Call::LineRead { line, start, place }, 50, index)
+    };
+    // A, and a packet of three words from word 7 on.
+    let line = stretch(&[&A[..], &cells(8 + 3)].concat());
+    let with = |changes: &[(usize, u16)]| {
+        let mut line = line.clone();
+        changes.iter().for_each(|&(at, word)| line[at] = word);
+        line
+    };
+    let cut = |words: usize, changes: &[(usize, u16)]| with(changes)[..words].to_vec();
+    let mut table = vec![
+        of(70, "4,097 words, before 71 and 20", vec![0x400; 4_097], 5_000, [2; 5], 0),
+        of(71, "before 20 and 73", with(&[(0, 0x400)]), 18, [2; 5], 0),
+        of(20, "before 73", with(&[(0, 0x400)]), 17, [2, 0, 0, 0, 0], 0),
+        of(20, "line 0x800", line.clone(), 0, [0, 0x800, 0, 0, 0], 0),
+        of(20, "offset 0x1000", line.clone(), 0, [0, 0, 0x1000, 0, 0], 0),
+        of(20, "S 2", line.clone(), 0, [0, 0, 0, 2, 0], 0),
+        of(20, "StreamNum 128", line.clone(), 0, [0, 0, 0, 0, 128], 0),
+        of(73, "before 9, 10 and 11", with(&[(16, 0x400), (3, 0)]), 0, here, 0),
+        of(73, "before the start", with(&[(0, 0xFFFF)]), 7, here, 0),
+        of(73, "behind the packets", [&line[..], &[0x155, 0x400]].concat(), 0, here, 0),
+        of(9, "three words after the flag, before 10", cut(13, &[(10, 0)]), 0, here, 1),
+        of(9, "no words after the flag", cut(10, &[]), 0, here, 1),
+        of(10, "before the words' 9", cut(16, &[(10, 0x041)]), 0, here, 1),
+        of(10, "SDID", with(&[(4, 0x005)]), 0, here, 0),
+        of(10, "Data_Count 0x3FC", with(&[(12, 0x3FC)]), 0, here, 1),
+        of(9, "its words, before 16", cut(16, &[(13, 0)]), 0, here, 1),
+        of(16, "0x003, before 11", with(&[(14, 0x003)]), 0, here, 1),
+        of(16, "0x3FC", with(&[(15, 0x3FC)]), 0, here, 1),
+        of(16, "0x000, from its packet on", with(&[(13, 0x000)]), 7, here, 0),
+        of(11, "0x004", with(&[(14, 0x004)]), 0, here, 1),
+        of(11, "0x3FB", with(&[(15, 0x3FB)]), 0, here, 1),
+        of(11, "the checksum", with(&[(6, 0x247)]), 0, here, 0),
+        of(11, "before 14", with(&[(16, 0x200)]), 0, here, 1),
+    ];
+    let (start, place) = (0, here);
+    table.push(refused(14, "18 of 19 cells", Call::LineRead { line, start, place }, 18, 0));
+    table
+}
+
 fn table() -> Vec<Refused> {
     [
         of_packets(Rfc8331),
@@ -569,6 +648,8 @@ fn table() -> Vec<Refused> {
         of_parameters(),
         of_files(Version::One),
         of_files(Version::Two),
+        of_lines_written(),
+        of_lines_read(),
     ]
     .into_iter()
     .flatten()
@@ -602,7 +683,8 @@ fn the_table_has_every_number() {
     let of_the_papers = (1..=16)
         .chain([20, 21, 23, 24, 25, 30, 31, 32, 35])
         .chain(40..=44)
-        .chain(50..=55);
+        .chain(50..=55)
+        .chain(70..=73);
     assert_eq!(numbers, of_the_papers.collect());
 }
 

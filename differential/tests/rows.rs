@@ -48,6 +48,8 @@ fn calls() -> Vec<(Call, u8)> {
         both(field, [2, 1], 53),
         both(|at| Call::FileRead { file: file(), at }, [5, 4], 55),
         vec![(Call::FileBegin, 0)],
+        both(|start| line_write(start), [0, 41], 71),
+        both(|start| line_read(start), [0, 8], 71),
     ]
     .concat();
     for made in Layout::ALL {
@@ -106,6 +108,18 @@ fn opened(payload_type: u8) -> Call {
         source,
         payload_type,
     }
+}
+
+fn line_write(start: usize) -> Call {
+    let cells = A.to_vec();
+    Call::LineWrite { start, cells }
+}
+
+fn line_read(start: usize) -> Call {
+    let mut line = vec![0; 7];
+    reference::sdi::write(&mut line, 0, &A).unwrap();
+    let place = [0, 9, 0, 0, 0];
+    Call::LineRead { line, start, place }
 }
 
 fn text(text: &str) -> Call {

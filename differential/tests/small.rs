@@ -306,6 +306,51 @@ fn every_layout_number() {
     }
 }
 
+/// Every ten-bit number in each place of a line with two packets, and numbers
+/// of more bits; read from the start and from the second packet.
+#[test]
+fn every_word_of_a_line() {
+    let list = [&A[..], &with_word(2, 0, 0x2AA)].concat();
+    let mut line = vec![0x155; 20];
+    assert_eq!(reference::sdi::write(&mut line, 2, &list), Ok(18));
+    let (memory, place) = (lent(18, 0), [1, 2, 3, 1, 5]);
+    for at in 0..line.len() {
+        for word in (0..1024).chain([0x400, 0x7FF, 0x8000, 0xFFFF]) {
+            let mut line = line.clone();
+            line[at] = word;
+            for start in [2, 9] {
+                let line = line.clone();
+                compare(&Call::LineRead { line, start, place }, &memory);
+            }
+        }
+    }
+}
+
+/// A record of every count of words at every start of a line that it just
+/// fits, and in one word less.
+#[test]
+fn every_count_in_a_line() {
+    let mut r = Random::new(705);
+    for n in 0..256 {
+        let cells = record(&mut r, n);
+        for start in [0, 1, 2, 3, 8, 4_089 - n] {
+            let call = Call::LineWrite {
+                start,
+                cells: cells.clone(),
+            };
+            let (number, after) = compare(&call, &lent(start + 7 + n, 0));
+            assert_eq!((number, after.answer.get()[0] as usize), (0, start + 7 + n));
+            let line = after.cells.get()[start..].to_vec();
+            let (start, place) = (0, [1, 0x7FF, 0xFFF, 1, 127]);
+            let call_read = Call::LineRead { line, start, place };
+            assert_eq!(compare(&call_read, &lent(8 + n, 0)).0, 0);
+            assert_eq!(compare(&call_read, &lent(7 + n, 0)).0, 14);
+        }
+        let call = Call::LineWrite { start: 5, cells };
+        assert_eq!(compare(&call, &lent(5 + 6 + n, 0)).0, 72);
+    }
+}
+
 fn read_text(text: &[u8], memory: &Memory) -> u8 {
     let text = text.to_vec();
     compare(&Call::SdpRead { text }, memory).0

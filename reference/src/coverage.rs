@@ -6,7 +6,7 @@ use crate::depacketizer::{arrive, open, Answer};
 use crate::packet::{self, check};
 use crate::random::*;
 use crate::refusal::Refusal;
-use crate::{file, frames, sdp};
+use crate::{file, frames, sdi, sdp};
 
 /// How often each entry point gave each refusal (number, index) or, under
 /// number 0, an answer.
@@ -63,6 +63,7 @@ pub fn cover(seed: u64, rounds: usize) -> Coverage {
         cover_packets(&mut r, &mut c);
         cover_parameters(&mut r, &mut c);
         cover_files(&mut r, &mut c);
+        cover_lines(&mut r, &mut c);
         let mut case = arrive_case(&mut r);
         c.add_answer(
             "arrive",
@@ -117,6 +118,20 @@ fn cover_files(r: &mut Random, c: &mut Coverage) {
         file::write(case.timestamp, case.f, &case.cells, &mut out),
     );
     c.add("file begin", file::begin(&mut vec![0; r.below(10)]));
+}
+
+fn cover_lines(r: &mut Random, c: &mut Coverage) {
+    let mut case = line_write_case(r);
+    c.add(
+        "line write",
+        sdi::write(&mut case.line, case.start, &case.cells),
+    );
+    let case = line_read_case(r);
+    let mut cells = vec![0; case.room];
+    c.add(
+        "line read",
+        sdi::read(&case.line, case.start, case.place, &mut cells),
+    );
 }
 
 /// The frames of a `fieldlist` input, given to a depacketizer as it does.

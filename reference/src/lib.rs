@@ -19,6 +19,7 @@ pub mod random;
 pub mod realistic;
 pub mod refusal;
 pub mod runs;
+pub mod sdi;
 pub mod sdp;
 
 pub use fieldlist::fieldlist;

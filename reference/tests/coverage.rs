@@ -11,7 +11,7 @@ fn every_number_is_reached() {
     let reads: Vec<u8> = (0..=16).collect();
     let arrivals: Vec<u8> = (0..=13).chain([15, 16, 30, 31, 32, 35]).collect();
     let frames: Vec<u8> = (2..=13).chain([0, 15, 16, 30, 31, 32]).collect();
-    let expected: [(&str, &[u8]); 10] = [
+    let expected: [(&str, &[u8]); 12] = [
         ("read", &reads),
         ("write", &[0, 16, 20, 21, 23, 24, 25]),
         ("arrive", &arrivals),
@@ -25,12 +25,15 @@ fn every_number_is_reached() {
         ),
         ("file write", &[0, 16, 20, 21, 23, 53]),
         ("file begin", &[0, 23]),
+        ("line write", &[0, 16, 20, 70, 71, 72]),
+        ("line read", &[0, 9, 10, 11, 14, 16, 20, 70, 71, 73]),
     ];
     for (entry, numbers) in expected {
         for &number in numbers {
             let (times, indices) = coverage.of(entry, number);
             assert!(times > 0, "{entry} {number}");
-            let several = INDEXED.contains(&number) && entry != "sdp write";
+            let alone = entry == "sdp write" || (entry, number) == ("line read", 20);
+            let several = INDEXED.contains(&number) && !alone;
             assert!(!several || indices > 2, "{entry} {number}: {indices}");
         }
         let others = coverage

@@ -22,6 +22,10 @@ use Rattle.fmtp.specs.declared.Reading.the-variants as reading
 use Rattle.fieldfile.specs.declared.field.Summary.{Summary as FieldSummary}
 use Rattle.fieldfile.specs.declared.field.FieldRead.{FieldRead}
 use Rattle.fieldfile.specs.declared.field.FieldRead.the-variants as fieldRead
+use Rattle.sdi_line.specs.declared.answer.WrittenLine.{WrittenLine}
+use Rattle.sdi_line.specs.declared.answer.WrittenLine.the-variants as writtenLine
+use Rattle.sdi_line.specs.declared.answer.ReadLine.{ReadLine}
+use Rattle.sdi_line.specs.declared.answer.ReadLine.the-variants as readLine
 
 -- numbers that an answer needs
 abbrev pub answerSize : ℕ
@@ -119,6 +123,16 @@ fieldRow s = s .timestamp .0 ∷ s .f ∷ s .records ∷ s .cells ∷ s .next .0
 abbrev pub fieldReply : FieldRead → Reply
 fieldReply (fieldRead.Refused x) = refusedReply x
 fieldReply (fieldRead.Field s) = acceptedReply (fieldRow s)
+
+-- a line written: the word behind the stretch
+abbrev pub lineWrittenReply : WrittenLine → Reply
+lineWrittenReply (writtenLine.Refused x) = refusedReply x
+lineWrittenReply (writtenLine.End end) = sizeReply end
+
+-- a line read: records, cells, the word behind the last packet
+abbrev pub lineReadReply : ReadLine → Reply
+lineReadReply (readLine.Refused x) = refusedReply x
+lineReadReply (readLine.Records count cells end) = acceptedReply (count ∷ cells ∷ end ∷ [])
 
 -- what a call gives where the answer is long enough, and otherwise
 abbrev pub given : {A : Type 0} → List ℕ → A → A → A

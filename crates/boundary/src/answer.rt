@@ -3,7 +3,7 @@ ghost use mathlib.Core.Path.{_≡_};
 ghost use Prim.Native.Nat.{_≤_};
 ghost use lib.ListN.{length};
 ghost use Rattle.wire.specs.Bits.{overwrite};
-ghost use Rattle.boundary.specs.Rows.{answerSize, arrivalReply, codeOr0, fieldReply, fieldRow, hasCode, kindReply, packetReply, parametersReply, parametersRow, sizeReply, summaryRow, wholeRow, writtenReply};
+ghost use Rattle.boundary.specs.Rows.{answerSize, arrivalReply, codeOr0, fieldReply, fieldRow, hasCode, kindReply, lineReadReply, lineWrittenReply, packetReply, parametersReply, parametersRow, sizeReply, summaryRow, wholeRow, writtenReply};
 use crate::row::ACCEPTED;
 use crate::row::refuse;
 use fieldfile::field::FieldRead;
@@ -11,6 +11,8 @@ use fieldfile::field::Summary as FieldSummary;
 use fmtp::Reading;
 use rtp::packet::Read;
 use rtp::packet::Summary;
+use sdi_line::answer::ReadLine;
+use sdi_line::answer::WrittenLine;
 use sdp::parameters::Parameters;
 use sdp::parameters::Vpid;
 use state_row::row::flag;
@@ -207,6 +209,34 @@ pub fn reply_field(read: FieldRead, answer: &mut [u64]) -> u8
         FieldRead::Refused(refusal) => refuse(refusal, answer),
         FieldRead::Field(field) => {
             put_field(field, answer);
+            ACCEPTED
+        }
+    }
+}
+
+// What the writer of lines answers: the word behind the written stretch.
+pub fn reply_line_written(written: WrittenLine, answer: &mut [u64]) -> u8
+    requires { ⌜ answerSize ≤ length (now answer) ⌝ }
+    ensures { λ r. ⌜ r ≡ lineWrittenReply written .number ⌝ }
+    ensures { λ r. ⌜ now (answer .exit) ≡ overwrite (lineWrittenReply written .row) (now (answer .entry)) ⌝ }
+{
+    match written {
+        WrittenLine::Refused(refusal) => refuse(refusal, answer),
+        WrittenLine::End(end) => accept_size(end, answer),
+    }
+}
+
+// A line read: records, cells, the word behind the last packet.
+pub fn reply_line_read(read: ReadLine, answer: &mut [u64]) -> u8
+    requires { ⌜ answerSize ≤ length (now answer) ⌝ }
+    ensures { λ r. ⌜ r ≡ lineReadReply read .number ⌝ }
+    ensures { λ r. ⌜ now (answer .exit) ≡ overwrite (lineReadReply read .row) (now (answer .entry)) ⌝ }
+{
+    match read {
+        ReadLine::Refused(refusal) => refuse(refusal, answer),
+        ReadLine::Records { count, cells, end } => {
+            let values = [count as u64, cells as u64, end as u64];
+            put(&values, answer);
             ACCEPTED
         }
     }

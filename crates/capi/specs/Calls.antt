@@ -24,9 +24,12 @@ use Rattle.sdp.specs.Writing.{writeText}
 use Rattle.fmtp.specs.Answers as fmtp
 use Rattle.anf.specs.File as file
 use Rattle.fieldfile.specs.Answers as field
+use Rattle.sdi_line.specs.declared.position.Position.{Position}
+use Rattle.sdi_line.specs.Answers as sdi
 use Rattle.state_row.specs.declared.state.Restored.{Restored}
 use Rattle.state_row.specs.declared.state.Restored.the-variants as restored
 use Rattle.boundary.specs.Rows.{Reply, refusedReply, acceptedReply, rowReply, packetReply, writtenReply, arrivalReply, parametersReply, fieldReply, given, answerSize}
+use Rattle.boundary.specs.Rows as rows
 use Rattle.state_row.specs.State.{stateSize}
 use Rattle.state_row.specs.State.{numbersOf, stateIn}
 
@@ -191,3 +194,23 @@ fileReadReply octets at cells answer = given answer (fieldReply (field.readOf (f
 -- the cells then
 abbrev pub fileCells : (octets : List ℕ) → (at : ℕ) → (cells answer : List ℕ) → List ℕ
 fileCells octets at cells answer = given answer (field.cellsAfter (file.readInto octets at (length cells)) cells) cells
+
+-- `jibhotran_line_write`: its reply
+abbrev pub lineWriteReply : (line : List ℕ) → (start : ℕ) → (cells answer : List ℕ) → Reply
+lineWriteReply line start cells answer = given answer (rows.lineWrittenReply (sdi.writeReturns line start cells)) rowReply
+
+-- the line then
+abbrev pub lineWords : (line : List ℕ) → (start : ℕ) → (cells answer : List ℕ) → List ℕ
+lineWords line start cells answer = given answer (sdi.writeLeaves line start cells) line
+
+-- "C, place, S and StreamNum come from the caller" (02, K6)
+abbrev pub positionOf : (c line offset s stream : ℕ) → Position
+positionOf c line offset s stream = record { c = c; line = line; offset = offset; s = s; stream = stream }
+
+-- `jibhotran_line_read`: its reply
+abbrev pub lineReadReply : (line : List ℕ) → (start : ℕ) → Position → (cells answer : List ℕ) → Reply
+lineReadReply line start P cells answer = given answer (rows.lineReadReply (sdi.readReturns line start P cells)) rowReply
+
+-- the cells then
+abbrev pub lineCells : (line : List ℕ) → (start : ℕ) → Position → (cells answer : List ℕ) → List ℕ
+lineCells line start P cells answer = given answer (sdi.readLeaves line start P cells) cells

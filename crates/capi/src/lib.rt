@@ -6,5 +6,6 @@ pub mod arrival;
 pub mod file;
 mod layout;
 mod length;
+pub mod line;
 pub mod packet;
 pub mod parameters;

@@ -38,7 +38,7 @@ fn head_in_range(cells: &[u16]) -> bool
 }
 
 // Each word fits ten bits. It looks at all of them, so that the compiler looks at eight at once.
-fn words_in_range(words: &[u16]) -> bool
+pub fn words_in_range(words: &[u16]) -> bool
     ensures { λ r. ⌜ r ≡ allBelow (2 ^ wordBits) (now (words .entry)) ⌝ }
 {
     let mut fit = true;
@@ -51,7 +51,7 @@ fn words_in_range(words: &[u16]) -> bool
 }
 
 // No word is a protected one.
-fn words_clear(words: &[u16]) -> bool
+pub fn words_clear(words: &[u16]) -> bool
     ensures { λ r. ⌜ r ≡ allClear (now (words .entry)) ⌝ }
 {
     let mut clear = true;

@@ -5,6 +5,7 @@
 mod anc;
 mod arrival;
 mod field;
+mod line;
 mod list;
 mod packet;
 mod text;
@@ -12,6 +13,7 @@ mod text;
 pub use anc::*;
 pub use arrival::*;
 pub use field::*;
+pub use line::*;
 pub use list::*;
 pub use packet::*;
 pub use text::*;

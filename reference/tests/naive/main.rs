@@ -6,6 +6,7 @@ use reference::packet::{self, Head, Summary};
 use reference::random::*;
 use reference::{file, Layout, Refusal};
 
+mod sdi;
 mod sdp;
 
 type Refused<T> = Result<T, (u8, usize)>;
@@ -195,8 +196,8 @@ fn naive_list(cells: &[u16]) -> Refused<Vec<&[u16]>> {
     Ok(records)
 }
 
-/// Records of a list in writing: 20, 16, 21.
-fn naive_records(cells: &[u16], most: usize) -> Refused<Vec<&[u16]>> {
+/// Records of a list in writing: 20, 16.
+fn naive_clear(cells: &[u16]) -> Refused<Vec<&[u16]>> {
     let records = naive_list(cells)?;
     for (index, record) in records.iter().enumerate() {
         if record[8..]
@@ -206,6 +207,12 @@ fn naive_records(cells: &[u16], most: usize) -> Refused<Vec<&[u16]>> {
             return Err((16, index));
         }
     }
+    Ok(records)
+}
+
+/// The same, and then 21.
+fn naive_records(cells: &[u16], most: usize) -> Refused<Vec<&[u16]>> {
+    let records = naive_clear(cells)?;
     if records.len() > most || cells.len() > 32_768 {
         return Err((21, 0));
     }

@@ -1,0 +1,87 @@
+// Lines of the serial interface (02, K6): ANC data packets in a line of ten-bit words.
+//
+// `write` and `read` are the entry points: they take any line, start and list. They check all before they write anything.
+ghost use mathlib.Core.Path.{_≡_};
+ghost use Rattle.sdi_line.specs.Answers.{readLeaves, readReturns, writeLeaves, writeReturns};
+
+mod answer;
+
+use crate::answer::refuse_read;
+use crate::answer::refuse_write;
+use cells::check::Listed;
+use cells::check::check_list;
+use record::check::words_in_range;
+use sdi_check::check::check_packets;
+use sdi_check::check::position_fits;
+use sdi_line::answer::Found;
+use sdi_line::answer::ReadLine;
+use sdi_line::answer::WrittenLine;
+use sdi_line::position::Position;
+use sdi_packets::reading::read_packets;
+use sdi_packets::writing::write_packets;
+use wire::layout::Layout;
+use wire::refusal::Refusal;
+
+// "Lines hold at most 4,096 words".
+pub const MAX_LINE: usize = 4096;
+
+// Puts the records of the list into the line, from the word `start` on. A record takes a cell more than its packet has words.
+pub fn write(line: &mut [u16], start: usize, cells: &[u16]) -> WrittenLine
+    ensures { λ r. ⌜ r ≡ writeReturns (now (line .entry)) start (now (cells .entry)) ⌝ }
+    ensures { λ r. ⌜ now (line .exit) ≡ writeLeaves (now (line .entry)) start (now (cells .entry)) ⌝ }
+{
+    if line.len() > MAX_LINE {
+        return refuse_write(Refusal::LINE_TOO_LONG);
+    }
+    if start > line.len() {
+        return refuse_write(Refusal::START_PAST_END);
+    }
+    let listed = check_list(Layout::Rfc8331, cells);
+    match listed {
+        Listed::Refused(refusal) => WrittenLine::Refused(refusal),
+        Listed::Records { count, octets: _ } => {
+            let words = cells.len() - count;
+            if line.len() - start < words {
+                return refuse_write(Refusal::LINE_FULL);
+            }
+            write_packets(cells, &mut line[start..]);
+            WrittenLine::End(start + words)
+        }
+    }
+}
+
+// Finds the records in the line, from the word `start` on, and lists them at the caller's position.
+pub fn read(line: &[u16], start: usize, position: Position, cells: &mut [u16]) -> ReadLine
+    ensures { λ r. ⌜ r ≡ readReturns (now (line .entry)) start position (now (cells .entry)) ⌝ }
+    ensures { λ r. ⌜ now (cells .exit) ≡ readLeaves (now (line .entry)) start position (now (cells .entry)) ⌝ }
+{
+    if line.len() > MAX_LINE {
+        return refuse_read(Refusal::LINE_TOO_LONG);
+    }
+    if start > line.len() {
+        return refuse_read(Refusal::START_PAST_END);
+    }
+    if !position_fits(position) {
+        return refuse_read(Refusal::LIST_MALFORMED);
+    }
+    if !words_in_range(line) {
+        return refuse_read(Refusal::LINE_WORD_TOO_LARGE);
+    }
+    let words = &line[start..];
+    let found = check_packets(words);
+    match found {
+        Found::Refused(refusal) => ReadLine::Refused(refusal),
+        Found::Packets { count, words: used } => {
+            let need = used + count;
+            if cells.len() < need {
+                return refuse_read(Refusal::LIST_TOO_SHORT);
+            }
+            read_packets(words, position, cells);
+            ReadLine::Records {
+                count,
+                cells: need,
+                end: start + used,
+            }
+        }
+    }
+}

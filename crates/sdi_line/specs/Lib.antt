@@ -1,0 +1,4 @@
+pub mod Packets
+pub mod Line
+pub mod Answers
+pub mod Passes
