@@ -8,7 +8,8 @@
  * "Refusals").
  * `answer` takes what a call returns beside that: on acceptance the numbers that are named at the function, on a refusal the refusal's
  * index in answer[0]; the rest of the row stays. A row of fewer than JIBHOTRAN_ANSWER numbers is refused by JIBHOTRAN_ROW, and nothing is
- * written at all. On a refusal the other lent memory is unchanged, but for the late count (refusal 32).
+ * written at all. On a refusal the other lent memory is unchanged, but for the late count (refusal 32). Number 22 is reserved: no call
+ * gives it.
  *
  * `layout` is the packets' layout, JIBHOTRAN_RFC8331 or JIBHOTRAN_DRAFTS, which the octets do not tell. Another number is refused by
  * JIBHOTRAN_LAYOUT, after JIBHOTRAN_ROW and before all else, and nothing is written at all.

@@ -98,8 +98,7 @@ fn check(entry: &str, met: &Coverage) {
     }
 }
 
-/// The table above has every number of 01 and 02 but 22, which cannot be
-/// given.
+/// The table above has every number of 01 and 02 but 22, which is reserved.
 #[test]
 fn every_number_is_some_entrys() {
     let given: BTreeSet<u8> = GIVEN

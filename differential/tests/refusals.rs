@@ -7,6 +7,7 @@ use std::collections::BTreeSet;
 use differential::call::{compare, Call, Lengths, Memory};
 use differential::model::{number_of, row_of};
 use differential::{Head, ANSWER, NO_VPID, STATE};
+use reference::anc::Limits;
 use reference::depacketizer::{open, State, FILLING, LOST, READY};
 use reference::file::Version;
 use reference::packet;
@@ -688,11 +689,31 @@ fn the_table_has_every_number() {
     assert_eq!(numbers, of_the_papers.collect());
 }
 
-/// 22 cannot be given: no record has more than three octets to two cells in
-/// either layout, so 32,768 cells take at most 49,172 octets.
+/// 22 is reserved (02, K7): for each count of words as many records as the
+/// limits allow are written in either layout, in under 65,535 octets.
 #[test]
-fn no_list_gives_22() {
-    let least = |layout: Layout| (0..256).all(|n| 2 * layout.packet_octets(n) <= 3 * (8 + n));
-    assert!(Layout::ALL.into_iter().all(least));
-    const { assert!(20 + 3 * 32_768 / 2 < packet::MAX_PACKET) };
+fn the_longest_packets_are_written() {
+    let mut r = Random::new(404);
+    let Limits { records, cells } = Limits::PACKET;
+    let mut longest = 0;
+    for (n, layout) in (0..256).flat_map(|n| Layout::ALL.map(|layout| (n, layout))) {
+        let records = records.min(cells / (8 + n));
+        let last = (n + cells - records * (8 + n)).min(255);
+        let record = |n: usize| {
+            let mut cells = vec![0, 9, 0, 0, 0, 0x61, 0x02, n as u16];
+            cells.resize(8 + n, 0x155);
+            cells
+        };
+        let list = [record(n).repeat(records - 1), record(last)].concat();
+        let call = write(layout, 96, 0, list);
+        let lengths = Lengths {
+            answer: ANSWER,
+            octets: packet::MAX_PACKET,
+            ..Lengths::default()
+        };
+        let (number, after) = compare(&call, &Memory::new(lengths, &mut r));
+        assert_eq!(number, 0, "{n} words, {layout:?}");
+        longest = longest.max(after.answer.get()[0]);
+    }
+    assert!((40_000..=49_172).contains(&longest), "{longest}");
 }

@@ -154,7 +154,8 @@ pub fn read(layout: Layout, octets: &[u8], cells: &mut [u16]) -> Result<Summary,
 }
 
 /// Writes a packet into lent octets and returns its size: 24, 20, 16, 21, 25,
-/// 22, 23. P, X and CC are zero, the reserved and R bits too.
+/// 23. What 21 lets pass is never over 65,535 octets, so there is no 22 (02,
+/// K7). P, X and CC are zero, the reserved and R bits too.
 #[inline]
 pub fn write(layout: Layout, head: &Head, cells: &[u16], out: &mut [u8]) -> Result<usize, Refusal> {
     if head.payload_type > 127 || head.f == 1 || head.f > 3 {
@@ -165,17 +166,13 @@ pub fn write(layout: Layout, head: &Head, cells: &[u16], out: &mut [u8]) -> Resu
         return Err(Refusal::plain(25));
     }
     let before = RTP_HEADER + layout.payload_header();
-    let octets = before + list.octets();
-    if octets > MAX_PACKET {
-        return Err(Refusal::plain(22));
-    }
     let Some((start, packets)) = out.split_at_mut_checked(before) else {
         return Err(Refusal::plain(23));
     };
     list.write(packets)?;
     let written = written_head(head, list.records(), list.octets());
     start.copy_from_slice(&written[..before]);
-    Ok(octets)
+    Ok(before + list.octets())
 }
 
 /// The drafts have the first 17 of these octets.

@@ -227,13 +227,6 @@ fn writing_24_20_21_23() {
     assert_eq!(write(&HEAD, &[], 20), None);
 }
 
-/// 22 cannot be given: the list of most octets by its cells is far below.
-#[test]
-fn most_octets_of_a_list() {
-    let most = (0..256).map(|n| LAYOUT.packet_octets(n) as f64 / (8 + n) as f64);
-    assert!(most.fold(0.0, f64::max) * 32_768.0 + 20.0 < 65_535.0);
-}
-
 fn sound() -> State {
     State {
         phase: FILLING,

@@ -118,12 +118,10 @@ module _ (L : Layout) where
   empty-list h out ok held l =
       let k = withRecords (contentOf h) [] in
       let size : length (contentOctets L k) ≡ frontSize L = length-whole L h [] ∙ add-zero (frontSize L) in
-      let short : leb (length (contentOctets L k)) maxPacket ≡ true =
-      ap (λ (x : ℕ). leb x maxPacket) size ∙ le-leb (frontSize L) maxPacket (omega (arith, places L .payload-near)) in
       let room : leb (length (contentOctets L k)) (length out) ≡ true = ap (λ (x : ℕ). leb x (length out)) size ∙ le-leb (frontSize L) (length out) l in
       let records : packetRecords L (contentOf h) [] (length out) ≡ accepted [] =
       all-pass (headChecks (contentOf h)) (λ rs. limitChecks L (withRecords (contentOf h) rs) 0 (length out)) [] (ok, tt) [] (list-iff [] [] .1 (tt, refl))
-      (refl, (held, (short, (room, tt)))) in
+      (refl, (held, (room, tt))) in
       ap (λ r. writtenOf (r then λ rs. accepted (contentOctets L (withRecords (contentOf h) rs)))) records
       ∙ ap (λ (x : ℕ). written.Octets (record { 0 = x })) size
 

@@ -14,13 +14,15 @@ use Rattle.wire.specs.Bits.{pack, overwrite, splice}
 use Rattle.wire.specs.Layout.{Layout}
 use Rattle.wire.specs.Result.{Result, refused, accepted, refuse, Checks, _then_, IsAccepted}
 use Rattle.wire.specs.Anc.{Record, runOctets, runSize}
-use Rattle.wire.specs.Cells.{readList}
+use Rattle.wire.specs.Cells.{readList, listOf}
 use Rattle.wire.specs.Packet.{maxPacket, packetOctets}
 use Rattle.wire.specs.Writing.{maxRecords, maxCells, maxType, plain, contentOctets, withRecords, headOk, headChecks, layoutOk, limitChecks, packetRecords, writeContent}
 use Rattle.wire.proofs.ListLaws.{splice-append, part-written}
 use Rattle.wire.proofs.ResultLaws.{Passed, and-true}
 use Rattle.wire.proofs.AncLaws.{length-run}
+use Rattle.wire.proofs.CellLaws.{list-iff}
 use Rattle.wire.proofs.PacketLaws.{length-packet}
+use Rattle.wire.proofs.Demand2.{fits-packet}
 use Rattle.wire.proofs.WritingLaws.{head-fails, list-fails, limit-fails, all-pass, passes}
 use Rattle.wire.specs.Written.{octetsAfter, writtenOf}
 use Rattle.cells.specs.Answers.{listedOf, listRecords, listOctets}
@@ -55,12 +57,11 @@ module _ (L : Layout) where
     abbrev limits : List Record → Checks
     limits rs = limitChecks L (withRecords (contentOf h) rs) (length cells) room
 
-    -- 21, 25, 22 and 23 as the code tests them: by the number of records, and by the octets of their ANC data packets
+    -- 21, 25 and 23 as the code tests them: by the number of records, and by the octets of their ANC data packets
     abbrev pub tests : (count octets : ℕ) → Checks
     tests count octets =
         (leb count maxRecords && leb (length cells) maxCells, 21)
         ∷ (layoutOk L (h .f) (listRecords (readList cells)), 25)
-        ∷ (leb (frontSize L + octets) maxPacket, 22)
         ∷ (leb (frontSize L + octets) room, 23)
         ∷ []
 
@@ -81,7 +82,6 @@ module _ (L : Layout) where
             λ i.
             (leb (list .count i) maxRecords && leb (length cells) maxCells, 21)
             ∷ (layoutOk L (h .f) (listRecords (sym (list .reads) i)), 25)
-            ∷ (leb (size i) maxPacket, 22)
             ∷ (leb (size i) room, 23)
             ∷ []
 
@@ -130,6 +130,8 @@ module _ (L : Layout) where
           let c = p .limits-passed in
           let z = length-whole h rs in
           let few = leb-true (length rs) maxRecords (and-true _ _ (c .0) .0) in
+          let cells-few = leb-true (length cells) maxCells (and-true (leb (length rs) maxRecords) (leb (length cells) maxCells) (c .0) .1) in
+          let list : cells ≡ listOf rs = list-iff cells rs .0 (p .reads) .1 in
           record {
             rs = rs;
             reads = p .reads;
@@ -139,8 +141,8 @@ module _ (L : Layout) where
             type = leb-true (h .«payload_type») maxType (a .0);
             f = leb-true (h .f) 3 (b .0);
             few = omega (arith, t .count);
-            enough = omega (arith, t .size, leb-true (length (whole h rs)) room (c .1 .1 .1 .0));
-            short = omega (arith, t .size, leb-true (length (whole h rs)) maxPacket (c .1 .1 .0));
+            enough = omega (arith, t .size, leb-true (length (whole h rs)) room (c .1 .1 .0));
+            short = omega (arith, t .size, fits-packet L (withRecords (contentOf h) rs) (subst (λ (x : List ℕ). length x ≤ maxCells) list cells-few));
           }
 
       -- its headers written, and its run behind them from octet `at` on, it is written whole

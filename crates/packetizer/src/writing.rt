@@ -24,7 +24,6 @@ use wire::layout::F_AT;
 use wire::layout::Layout;
 use wire::layout::RTP_HEADER_SIZE;
 use wire::limit::MAX_CELLS;
-use wire::limit::MAX_PACKET;
 use wire::limit::MAX_RECORDS;
 use wire::limit::MAX_TYPE;
 use wire::refusal::Refusal;
@@ -63,7 +62,7 @@ fn layout_ok(layout: Layout, f: u8, cells: &[u16]) -> bool
     }
 }
 
-// 24, 20, 16, 21, 25, 22, 23: the records, and the octets of their ANC data packets.
+// 24, 20, 16, 21, 25, 23: the records, and the octets of their ANC data packets.
 pub(crate) fn measure(layout: Layout, head: Head, cells: &[u16], room: usize) -> Listed
     ensures { λ r. ⌜ r ≡ listedOf layout (packetRecords layout (contentOf head) (now (cells .entry)) room) ⌝ }
 {
@@ -77,16 +76,12 @@ pub(crate) fn measure(layout: Layout, head: Head, cells: &[u16], room: usize) ->
     let front = front_size(layout);
     let within = within_limits(count, cells.len());
     let held = layout_ok(layout, head.f, cells);
-    let short = fits_behind(front, octets, MAX_PACKET);
     let enough = fits_behind(front, octets, room);
     if !within {
         return Listed::refuse(Refusal::OVER_LIMIT);
     }
     if !held {
         return Listed::refuse(Refusal::NOT_IN_LAYOUT);
-    }
-    if !short {
-        return Listed::refuse(Refusal::PACKET_TOO_LONG);
     }
     if !enough {
         return Listed::refuse(Refusal::ROOM_TOO_SMALL);

@@ -1,4 +1,4 @@
--- Demand 2: which packets are accepted, that what is written reads back, and when rewriting gives the same octets; also that 22 is never given.
+-- Demand 2: which packets are accepted, that what is written reads back, and when rewriting gives the same octets; also that no packet within the limits is too long.
 -- From `packet-iff` and `list-iff`: a packet that is accepted, and a list that is taken, are what they are written as.
 use mathlib.Core.Path.{_≡_, refl, ap, sym, _∙_, subst}
 use mathlib.Core.Bool.{true, not, _&&_}
@@ -75,6 +75,16 @@ plain-formed L k h t f nf r ok n l =
       short = l;
     }
 
+-- a run takes at most one and a half octets for each cell of its list
+pub run-cells : (L : Layout) (rs : List Record) → 2 * length (runOctets L rs) ≤ 3 * length (listOf rs)
+run-cells L [] = le-refl 0
+run-cells L (r ∷ rs) =
+    omega (arith, run-cells L rs, length-append (ancOctets L r) (runOctets L rs), length-anc L r, size-cells L (length (r .words)), length-append (r .words) (listOf rs))
+
+-- WHAT FITS A PACKET'S CELLS FITS A PACKET (02, K7)
+pub fits-packet : (L : Layout) (k : Content) → length (listOf (k .records)) ≤ maxCells → length (contentOctets L k) ≤ maxPacket
+fits-packet L k l = omega (arith, run-cells L (k .records), places L .payload-near, length-packet L (plain k))
+
 -- "Writing records and reading them gives the same records."
 pub written-read : (L : Layout) (k : Content) (cells : List ℕ) (room : ℕ) (o : List ℕ) → HeadFits k → writeContent L k cells room ≡ accepted o
     → (rs : List Record) × (cells ≡ listOf rs) × Each (WellFormed rfc8331) rs × (o ≡ contentOctets L (withRecords k rs)) × (length o ≤ room)
@@ -91,9 +101,9 @@ written-read L k cells room o h e =
     let within : leb (length rs) maxRecords && leb (length cells) maxCells ≡ true = search in
     let held : layoutOk L (k .f) rs ≡ true = search in
     let n = leb-true (length rs) maxRecords (and-true _ _ within .0) in
-    let l = leb-true (length (contentOctets L q)) maxPacket search in
     let m = leb-true (length (contentOctets L q)) room search in
     let r = list-iff cells rs .0 (p .reads) in
+    let l = fits-packet L q (subst (λ (x : List ℕ). length x ≤ maxCells) (r .1) (leb-true (length cells) maxCells (and-true (leb (length rs) maxRecords) (leb (length cells) maxCells) within .1))) in
     let hq : HeadFits q = record { marker = h .marker; number = h .number; timestamp = h .timestamp; source = h .source } in
     let g = plain-formed L q hq (leb-true (k .type) maxType (a1 .0)) (leb-true (k .f) 3 (a2 .0)) (not-eqb (k .f) 1 (a2 .1)) (r .0) held n l in
     let same : contentOctets L q ≡ o = accepted-inj (b .2) in
@@ -114,7 +124,6 @@ writes L k rs room h l m =
     ) in
     let within : leb (length rs) maxRecords && leb n maxCells ≡ true = and-both (le-leb (length rs) maxRecords (omega (arith, h .fit))) (le-leb n maxCells l) in
     let held : layoutOk L (k .f) rs ≡ true = y .2 in
-    let short : leb (length (contentOctets L q)) maxPacket ≡ true = le-leb (length (contentOctets L q)) maxPacket (h .short) in
     let enough : leb (length (contentOctets L q)) room ≡ true = le-leb (length (contentOctets L q)) room m in
     let limits : Passed (limitChecks L q n room) = search in
     ap (λ x. x then λ rs. accepted (contentOctets L (withRecords k rs)))
@@ -245,13 +254,3 @@ module _ (L : Layout) (s : List ℕ) (below : Below 256 s) (k : Content) (e : re
 -- "Demand 2 holds for each by itself, without reserved bits in the old one": there the fourth condition always holds
 pub bare-draft : (s : List ℕ) → BareOctets draft2015 s ↔ ((paddingFlag s ≡ 0) × (hasExtension s ≡ 0) × (sourceCount s ≡ 0))
 bare-draft s = (λ b. (b .padding, b .extension, b .sources), λ p. record { padding = p .0; extension = p .1; sources = p .2; reserved = no-bits s _ })
-
--- a run takes at most one and a half octets for each cell of its list
-pub run-cells : (L : Layout) (rs : List Record) → 2 * length (runOctets L rs) ≤ 3 * length (listOf rs)
-run-cells L [] = le-refl 0
-run-cells L (r ∷ rs) =
-    omega (arith, run-cells L rs, length-append (ancOctets L r) (runOctets L rs), length-anc L r, size-cells L (length (r .words)), length-append (r .words) (listOf rs))
-
--- what fits a packet's cells fits a packet, so 22 is never given
-pub never-22 : (L : Layout) (k : Content) → length (listOf (k .records)) ≤ maxCells → length (contentOctets L k) ≤ maxPacket
-never-22 L k l = omega (arith, run-cells L (k .records), places L .payload-near, length-packet L (plain k))

@@ -17,6 +17,7 @@ pub mod PacketLaws
 pub mod PacketIff
 pub mod WritingLaws
 pub mod Demand2
+pub mod Never22
 pub mod PacketExamples
 pub mod DraftExamples
 pub mod ProtectedExamples

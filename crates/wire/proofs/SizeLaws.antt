@@ -12,6 +12,7 @@ use Rattle.wire.specs.Bits.{width, row}
 use Rattle.wire.specs.Words.{wordBits}
 use Rattle.wire.specs.Layout.{Layout, rfc8331, draft2015, alignment, leastSize}
 use Rattle.wire.specs.Anc.{Record, checksum, bodyFields, padding, ancFields, ancOctets, bodyBits, ancSize}
+use Rattle.wire.specs.Writing.{OctetBound}
 use Rattle.wire.specs.Cells.{headCells}
 use Rattle.wire.proofs.BitLaws.{width-append, width-row, length-pack}
 
@@ -55,7 +56,7 @@ pub least-size : (L : Layout) (n : ℕ) → leastSize L ≤ ancSize L n
 least-size layout.Rfc8331 n = rw (size-rfc8331 n) (omega arith)
 least-size layout.Draft2015 n = rw (size-draft2015 n) (omega arith)
 
--- a record of n words takes headCells + n cells, and at most one and a half octets for each
+-- "never more than 12 + 1.5n octets" (02, K7)
 half-more : (n : ℕ) → 2 * (4 * ((72 + 10 * n + 31) / 32)) ≤ 24 + 3 * n
 half-more zero = omega arith
 half-more (suc zero) = omega arith
@@ -63,9 +64,13 @@ half-more (suc (suc zero)) = omega arith
 half-more (suc (suc (suc zero))) = omega arith
 half-more (suc (suc (suc (suc n)))) = omega arith
 
+pub octet-bound : OctetBound
+octet-bound layout.Rfc8331 n = rw (size-rfc8331 n) (half-more n)
+octet-bound layout.Draft2015 n = rw (size-draft2015 n) (omega arith)
+
+-- a record of n words takes headCells + n cells, and at most one and a half octets for each
 pub size-cells : (L : Layout) (n : ℕ) → 2 * ancSize L n ≤ 3 * (headCells + n)
-size-cells layout.Rfc8331 n = rw (size-rfc8331 n) (omega (arith, half-more n))
-size-cells layout.Draft2015 n = rw (size-draft2015 n) (omega arith)
+size-cells L n = omega (arith, octet-bound L n)
 
 -- and at least one octet for each
 pub cells-octets : (L : Layout) (n : ℕ) → headCells + n ≤ ancSize L n

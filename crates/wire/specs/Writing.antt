@@ -1,13 +1,13 @@
 -- Writing an RTP packet (01, "Writing": 24, 20, 21, 22, 23; "Written packets have P, X and CC zero"; 02, K3: 25 after 21; K5: 16 after 20).
 use mathlib.Core.Bool.{Bool, true, not, _&&_}
 use mathlib.Core.List.{List, [], _∷_}
-use Prim.Native.Nat.{ℕ, _/_, _%_, _^_, _<_}
+use Prim.Native.Nat.{ℕ, _+_, _*_, _/_, _%_, _^_, _<_, _≤_}
 use lib.Dec.{eqb, leb}
 use lib.ListN.{length}
 use Rattle.wire.specs.declared.layout.Layout.the-variants as layout
 use Rattle.wire.specs.Layout.{Layout}
 use Rattle.wire.specs.Result.{Result, accepted, Checks, judge, _then_}
-use Rattle.wire.specs.Anc.{Record}
+use Rattle.wire.specs.Anc.{Record, ancSize}
 use Rattle.wire.specs.Cells.{readList}
 use Rattle.wire.specs.Packet.{maxPacket, Packet, packetOctets, Content}
 
@@ -91,21 +91,23 @@ abbrev pub layoutOk : Layout → (f : ℕ) → List Record → Bool
 layoutOk layout.Rfc8331 f rs = true
 layoutOk layout.Draft2015 f rs = eqb f 0 && noStream rs
 
--- 21, 25, 22, 23, for a list of so many cells and lent room for so many octets
-abbrev pub limitChecks : Layout → Content → (cells room : ℕ) → Checks
-limitChecks L k cells room =
+-- 21, 25, for a list of so many cells, and what is checked behind them
+abbrev pub listLimits : Layout → Content → (cells : ℕ) → Checks → Checks
+listLimits L k cells behind =
     (leb (length (k .records)) maxRecords && leb cells maxCells, 21)
     ∷ (layoutOk L (k .f) (k .records), 25)
-    ∷ (leb (length (contentOctets L k)) maxPacket, 22)
-    ∷ (leb (length (contentOctets L k)) room, 23)
-    ∷ []
+    ∷ behind
+
+-- 21, 25, 23, with lent room for so many octets
+abbrev pub limitChecks : Layout → Content → (cells room : ℕ) → Checks
+limitChecks L k cells room = listLimits L k cells ((leb (length (contentOctets L k)) room, 23) ∷ [])
 
 -- What a writer takes of a list: its checks of what is given beside the list, then 20, then its limits for the list's records.
 abbrev pub recordsToWrite : Checks → (List Record → Checks) → List ℕ → Result (List Record)
 recordsToWrite head limits cells =
     judge 0 head (readList cells then λ rs. judge 0 (limits rs) (accepted rs))
 
--- "Writing: 24, 20, 21, 22, 23.", 25 "after 21", and 16 "after 20": the records of a packet that is written
+-- "Writing: 24, 20, 21, 22, 23.", 25 "after 21", 16 "after 20", and without 22 (02, K7): the records of a packet that is written
 abbrev pub packetRecords : Layout → Content → (cells : List ℕ) (room : ℕ) → Result (List Record)
 packetRecords L k cells room =
     recordsToWrite (headChecks k) (λ rs. limitChecks L (withRecords k rs) (length cells) room) cells
@@ -113,3 +115,17 @@ packetRecords L k cells room =
 -- its octets
 unfoldable pub writeContent : Layout → Content → List ℕ → ℕ → Result (List ℕ)
 writeContent L k cells room = packetRecords L k cells room then λ rs. accepted (contentOctets L (withRecords k rs))
+
+-- "In the RFC layout a record of n words takes .. never more than 12 + 1.5n octets, the old layout no more" (02, K7), twice as many
+abbrev pub OctetBound : Type 0
+OctetBound = (L : Layout) (n : ℕ) → 2 * ancSize L n ≤ 24 + 3 * n
+
+-- the writer with 22, "packet over 65,535 octets", in its place: 21, 25, 22, 23
+abbrev pub limitChecks22 : Layout → Content → (cells room : ℕ) → Checks
+limitChecks22 L k cells room =
+    listLimits L k cells ((leb (length (contentOctets L k)) maxPacket, 22) ∷ (leb (length (contentOctets L k)) room, 23) ∷ [])
+
+abbrev pub writeContent22 : Layout → Content → List ℕ → ℕ → Result (List ℕ)
+writeContent22 L k cells room =
+    recordsToWrite (headChecks k) (λ rs. limitChecks22 L (withRecords k rs) (length cells) room) cells then
+    λ rs. accepted (contentOctets L (withRecords k rs))

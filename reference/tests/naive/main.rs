@@ -229,6 +229,7 @@ fn naive_write(layout: Layout, head: &Head, cells: &[u16]) -> Refused<Vec<u8>> {
         return Err((25, 0));
     }
     let octets = Parts::of(layout, *head, cells).assemble();
+    // The writer has no such test, and its answers are the same.
     if octets.len() > 65_535 {
         return Err((22, 0));
     }

@@ -1,4 +1,4 @@
--- `measure` gives 24, 20, 16, 21, 25, 22 or 23, or the records and octets of a packet that fits.
+-- `measure` gives 24, 20, 16, 21, 25 or 23, or the records and octets of a packet that fits.
 -- Each return knows the checks before it, in the order of the definition.
 use borrow.Author.Needs.{needs}
 use mathlib.Core.Path.{_≡_, ap, sym, _∙_}
@@ -9,7 +9,6 @@ use borrow.Author.Tests.{not-true, not-false}
 use lib.Dec.{leb}
 use lib.ListN.{take, getD}
 use Rattle.wire.specs.Cells.{readList}
-use Rattle.wire.specs.Packet.{maxPacket}
 use Rattle.wire.specs.Result.{Checks}
 use Rattle.wire.specs.Writing.{headOk, packetRecords}
 use Rattle.wire.proofs.ResultLaws.{Passed}
@@ -21,11 +20,10 @@ use Rattle.packetizer.proofs.WriteLaws.{tests, refused-head, refused-li
 use Rattle.packetizer.proofs.writing.measure.Statement.{statement}
 use Rattle.packetizer.proofs.writing.measure.Tie as tie
 
--- 21, 25, 22 and 23, with their outcomes
-abbrev outcomes : tie.After-fits-behind2 → Checks
+-- 21, 25 and 23, with their outcomes
+abbrev outcomes : tie.After-fits-behind → Checks
 outcomes s =
-    (s .before .before .before .within-limits .result, 21) ∷ (s .before .before .layout-ok .result, 25) ∷ (s .before .fits-behind .result, 22)
-    ∷ (s .fits-behind2 .result, 23) ∷ []
+    (s .before .before .within-limits .result, 21) ∷ (s .before .layout-ok .result, 25) ∷ (s .fits-behind .result, 23) ∷ []
 
 -- 24 was passed
 head-passed : (c : tie.Else1) → headOk (c .before .before .before .args .head .«payload_type») (c .before .before .before .args .head .f) ≡ true
@@ -49,25 +47,24 @@ returns-2 c =
 layout-ok-requires : tie.Need-layout-ok-requires
 layout-ok-requires c κs = accepts (c .before .before .before .before .before .before .before .before .before .args .layout) (c .before .before .before .before .before .before .before .before .before .args .head) (c .before .before .before .before .before .before .before .before .before .args .cells .now) (c .before .before .before .before .before .before .before .before .before .args .room) (head-passed (c .before .before .before .before .before .before)) _ _ (list-passed (c .before .before))
 
-outcomes-are : (c : tie.After-fits-behind2)
-    → outcomes c ≡ tests (c .before .before .before .before .before .before .before .before .before .before .before .before .args .layout) (c .before .before .before .before .before .before .before .before .before .before .before .before .args .head) (c .before .before .before .before .before .before .before .before .before .before .before .before .args .cells .now) (c .before .before .before .before .before .before .before .before .before .before .before .before .args .room) (c .before .before .before .before .before .before .listed .given .0 .0) (c .before .before .before .before .before .before .listed .given .0 .1 .0 .0)
+outcomes-are : (c : tie.After-fits-behind)
+    → outcomes c ≡ tests (c .before .before .before .before .before .before .before .before .before .before .before .args .layout) (c .before .before .before .before .before .before .before .before .before .before .before .args .head) (c .before .before .before .before .before .before .before .before .before .before .before .args .cells .now) (c .before .before .before .before .before .before .before .before .before .before .before .args .room) (c .before .before .before .before .before .listed .given .0 .0) (c .before .before .before .before .before .listed .given .0 .1 .0 .0)
 outcomes-are c =
-    let behind : (most : ℕ) → leb (c .before .before .before .before .front-size .result + c .before .before .before .before .before .before .listed .given .0 .1 .0 .0) most ≡ leb (frontSize (c .before .before .before .before .before .before .before .before .before .before .before .before .args .layout) + c .before .before .before .before .before .before .listed .given .0 .1 .0 .0) most =
-    λ most. ap (λ (x : ℕ). leb (x + c .before .before .before .before .before .before .listed .given .0 .1 .0 .0) most) (c .before .before .before .before .front-size .ensures) in
+    let behind : (most : ℕ) → leb (c .before .before .before .front-size .result + c .before .before .before .before .before .listed .given .0 .1 .0 .0) most ≡ leb (frontSize (c .before .before .before .before .before .before .before .before .before .before .before .args .layout) + c .before .before .before .before .before .listed .given .0 .1 .0 .0) most =
+    λ most. ap (λ (x : ℕ). leb (x + c .before .before .before .before .before .listed .given .0 .1 .0 .0) most) (c .before .before .before .front-size .ensures) in
     λ i.
-    (c .before .before .before .within-limits .ensures i, 21)
-    ∷ (c .before .before .layout-ok .ensures i, 25)
-    ∷ ((c .before .fits-behind .ensures ∙ behind maxPacket) i, 22)
-    ∷ ((c .fits-behind2 .ensures ∙ behind (c .before .before .before .before .before .before .before .before .before .before .before .before .args .room)) i, 23)
+    (c .before .before .within-limits .ensures i, 21)
+    ∷ (c .before .layout-ok .ensures i, 25)
+    ∷ ((c .fits-behind .ensures ∙ behind (c .before .before .before .before .before .before .before .before .before .before .before .args .room)) i, 23)
     ∷ []
 
 -- the test with the index k is the first that failed
-failed : (c : tie.After-fits-behind2) (k : ℕ) → Passed (take k (outcomes c)) → getD (outcomes c) k (true, 0) .0 ≡ false
+failed : (c : tie.After-fits-behind) (k : ℕ) → Passed (take k (outcomes c)) → getD (outcomes c) k (true, 0) .0 ≡ false
     → listed.Refused (record { number = getD (outcomes c) k (true, 0) .1; index = 0 })
-    ≡ listedOf (c .before .before .before .before .before .before .before .before .before .before .before .before .args .layout) (packetRecords (c .before .before .before .before .before .before .before .before .before .before .before .before .args .layout) (contentOf (c .before .before .before .before .before .before .before .before .before .before .before .before .args .head)) (c .before .before .before .before .before .before .before .before .before .before .before .before .args .cells .now) (c .before .before .before .before .before .before .before .before .before .before .before .before .args .room))
+    ≡ listedOf (c .before .before .before .before .before .before .before .before .before .before .before .args .layout) (packetRecords (c .before .before .before .before .before .before .before .before .before .before .before .args .layout) (contentOf (c .before .before .before .before .before .before .before .before .before .before .before .args .head)) (c .before .before .before .before .before .before .before .before .before .before .before .args .cells .now) (c .before .before .before .before .before .before .before .before .before .before .before .args .room))
 failed c k p e =
-    let a = c .before .before .before .before .before .before .before .before .before .before .before .before .args in
-    sym (ap (listedOf (a .layout)) (limit (a .layout) (a .head) (a .cells .now) (a .room) (head-passed (c .before .before .before .before .before .before .before .before .before)) _ _ (list-passed (c .before .before .before .before .before)) (outcomes c) (outcomes-are c) k p e))
+    let a = c .before .before .before .before .before .before .before .before .before .before .before .args in
+    sym (ap (listedOf (a .layout)) (limit (a .layout) (a .head) (a .cells .now) (a .room) (head-passed (c .before .before .before .before .before .before .before .before)) _ _ (list-passed (c .before .before .before .before)) (outcomes c) (outcomes-are c) k p e))
 
 returns-3 : tie.Need-returns-3
 returns-3 c = c .refuse2 .ensures ∙ failed (c .before .before) 0 tt (not-true _ (c .before .if2 .taken))
@@ -80,18 +77,13 @@ returns-5 c = c .refuse4 .ensures ∙ failed (c .before .before .before .before)
 
 returns-6 : tie.Need-returns-6
 returns-6 c =
-    c .refuse5 .ensures
-    ∙ failed (c .before .before .before .before .before) 3 (not-false _ (c .before .before .before .before .if2 .left), (not-false _ (c .before .before .before .if3 .left), (not-false _ (c .before .before .if4 .left), tt))) (not-true _ (c .before .if5 .taken))
-
-returns-7 : tie.Need-returns-7
-returns-7 c =
-    let a = c .before .before .before .before .before .before .before .before .before .before .before .before .before .before .before .before .args in
-    sym (all-fit (a .layout) (a .head) (a .cells .now) (a .room) (head-passed (c .before .before .before .before .before .before .before .before .before .before .before .before .before)) _ _ (list-passed (c .before .before .before .before .before .before .before .before .before)) _ (outcomes-are (c .before .before .before .before))
-    (not-false _ (c .before .before .before .if2 .left), (not-false _ (c .before .before .if3 .left), (not-false _ (c .before .if4 .left), (not-false _ (c .if5 .left), tt)))))
+    let a = c .before .before .before .before .before .before .before .before .before .before .before .before .before .before .args in
+    sym (all-fit (a .layout) (a .head) (a .cells .now) (a .room) (head-passed (c .before .before .before .before .before .before .before .before .before .before .before)) _ _ (list-passed (c .before .before .before .before .before .before .before)) _ (outcomes-are (c .before .before .before))
+    (not-false _ (c .before .before .if2 .left), (not-false _ (c .before .if3 .left), (not-false _ (c .if4 .left), tt))))
 
 pub measure-spec : {M : Type 1} → statement M
 measure-spec =
     tie.close
     (tie.spec (λ c κs. search needs) (λ c κs. search needs) returns (λ c κs. search needs) (λ c. search needs) (λ c. search needs) returns-2
-    (λ c κs. search needs) (λ c κs. search needs) layout-ok-requires (λ c κs. search needs) (λ c κs. search needs) (λ c κs. search needs) returns-3
-    (λ c κs. search needs) returns-4 (λ c κs. search needs) returns-5 (λ c κs. search needs) returns-6 returns-7)
+    (λ c κs. search needs) (λ c κs. search needs) layout-ok-requires (λ c κs. search needs) (λ c κs. search needs) returns-3
+    (λ c κs. search needs) returns-4 (λ c κs. search needs) returns-5 returns-6)
