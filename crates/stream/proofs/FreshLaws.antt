@@ -139,7 +139,7 @@ leb-and-more a b k h = go (leb b k) refl
     go false e = refl
 
 -- a state built of what is gathered has that gathered
-gathered-after : (g : Gathered) → gatheredIn (phaseOf g) (timestampOf g) (fOf g) (gatheredRecords g) (gatheredCells g) ≡ g
+pub gathered-after : (g : Gathered) → gatheredIn (phaseOf g) (timestampOf g) (fOf g) (gatheredRecords g) (gatheredCells g) ≡ g
 gathered-after lost = refl
 gathered-after ready = refl
 gathered-after (filling t f r c) = refl

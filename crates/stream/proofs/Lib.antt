@@ -15,3 +15,5 @@ pub mod StepLaws
 pub mod StreamExamples
 pub mod WalkLaws
 pub mod DraftRun
+pub mod DeliveryLaws
+pub mod DeliveryExamples

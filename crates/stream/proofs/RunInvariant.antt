@@ -170,7 +170,7 @@ phase-gathered phase.Lost t f r c = refl
 phase-gathered phase.Ready t f r c = refl
 phase-gathered phase.Filling t f r c = refl
 
-sound-gathered : (st : State) (room : ℕ) → st .records ≡ gatheredRecords (gathered st) → st .cells ≡ gatheredCells (gathered st)
+pub sound-gathered : (st : State) (room : ℕ) → st .records ≡ gatheredRecords (gathered st) → st .cells ≡ gatheredCells (gathered st)
     → sound st room ≡ soundIn (gathered st) (st .heard) room
 sound-gathered st room r c =
     let g : Gathered = gathered st in

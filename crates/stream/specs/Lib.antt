@@ -1,3 +1,4 @@
 pub mod Laws
 pub mod Step
 pub mod Stream
+pub mod Delivery
