@@ -16,12 +16,14 @@ use Rattle.wire.specs.Anc.{Record, ancSize, runSize}
 use Rattle.wire.specs.Cells.{headCells, cellCount, cellRecord, cellChecks, rest, recordsFrom, clearFrom}
 use Rattle.wire.proofs.ResultLaws.{Passed, judge-passes}
 use Rattle.wire.proofs.CellLaws.{records-bound}
+use Rattle.record.specs.declared.check.Front.{Front}
 use Rattle.record.specs.declared.check.Front.the-variants as front
-use Rattle.record.specs.Answers.{frontOf}
-use Rattle.record.proofs.FrontLaws.{lies, malformed}
+use Rattle.record.specs.Answers.{frontOf, isClearFront}
+use Rattle.record.proofs.FrontLaws.{Taken, lies, malformed, taken, clear-taken}
 use Rattle.cells.specs.declared.check.Listed.{Listed}
 use Rattle.cells.specs.declared.check.Listed.the-variants as listed
-use Rattle.cells.specs.Answers.{listedOf}
+use Rattle.cells.specs.declared.check.Measured.the-variants as measured
+use Rattle.cells.specs.Answers.{listedOf, measuredOf}
 use Rattle.cells.specs.Clear.{clearBefore}
 
 -- what 16 says of `count` records, the first `first` of them clear, and of those behind them
@@ -121,3 +123,34 @@ module _ (L : Layout) where
   unfolding verdict clearFrom
   ends-clear first count octets h k =
       rw (eq-eqb first count (omega arith)) (tallied _ _ _ _ (sym (add-zero count)) (sym (add-zero octets)))
+
+  -- in a list that is measured every record so far is clear: one more that is
+  pub tally-clear : (count octets : ℕ) (l : List ℕ) → 0 < length l → isClearFront (frontOf l) ≡ true
+      → tally count octets (recordsFrom (length l) count l then verdict count count)
+      ≡ tally (count + 1) (octets + ancSize L (cellCount l)) (recordsFrom (length (rest l)) (count + 1) (rest l) then verdict (count + 1) (count + 1))
+  tally-clear count octets l h e =
+      let t = clear-taken l e in
+      let b : clearBefore count count (allClear (cellRecord l .words)) ≡ count + 1 = rw (t .1, eq-eqb count count refl) refl in
+      tally-next count count octets l (omega arith) h (t .0)
+      ∙ ap (λ (k : ℕ). tally (count + 1) (octets + ancSize L (cellCount l)) (recordsFrom (length (rest l)) (count + 1) (rest l) then verdict k (count + 1))) b
+
+  -- one protected word before them refuses all that follow
+  refused-behind : (count octets : ℕ) (y : Result (List Record)) → measuredOf (tally (count + 1) octets (y then verdict count (count + 1))) ≡ measured.Refused
+  unfolding verdict
+  refused-behind count octets (refused x) = refl
+  refused-behind count octets (accepted rs) = rw (ne-eqb count (count + 1) (λ e. omega arith)) refl
+
+  -- and one that is not clear refuses the list
+  pub tally-unclear : (count octets : ℕ) (l : List ℕ) → 0 < length l → isClearFront (frontOf l) ≡ false
+      → measuredOf (tally count octets (recordsFrom (length l) count l then verdict count count)) ≡ measured.Refused
+  tally-unclear count octets l h e = go (frontOf l) refl e
+    where
+      go : (f : Front) → frontOf l ≡ f → isClearFront f ≡ false
+          → measuredOf (tally count octets (recordsFrom (length l) count l then verdict count count)) ≡ measured.Refused
+      go front.Malformed m e = ap measuredOf (tally-stops count count octets l h m)
+      go (front.Record w clear) m e =
+          let t : Taken l w clear = taken l w clear m in
+          let b : clearBefore count count (allClear (cellRecord l .words)) ≡ count = rw (sym (t .told) ∙ e) refl in
+          ap measuredOf (tally-next count count octets l (omega arith) h (t .passed)
+          ∙ ap (λ (k : ℕ). tally (count + 1) (octets + ancSize L (cellCount l)) (recordsFrom (length (rest l)) (count + 1) (rest l) then verdict k (count + 1))) b)
+          ∙ refused-behind count (octets + ancSize L (cellCount l)) (recordsFrom (length (rest l)) (count + 1) (rest l))

@@ -1,6 +1,6 @@
 -- What an answer about a list says of it: the refusal, or its records, their number and their octets.
 -- By the cases of the answer.
-use mathlib.Core.Path.{_≡_, refl, ap}
+use mathlib.Core.Path.{_≡_, refl, ap, ap₂}
 use mathlib.Core.List.{List}
 use Prim.Native.Nat.{ℕ}
 use native.Mathlib.Omega.{arith}
@@ -10,8 +10,23 @@ use Rattle.wire.specs.declared.count.OctetCount.{OctetCount}
 use Rattle.wire.specs.Layout.{Layout}
 use Rattle.wire.specs.Result.{Result, refused, accepted}
 use Rattle.wire.specs.Anc.{Record, runSize}
-use Rattle.cells.specs.Answers.{listedOf}
+use Rattle.cells.specs.Answers.{listedOf, measuredOf}
+use Rattle.cells.specs.declared.check.Listed.{Listed}
 use Rattle.cells.specs.declared.check.Listed.the-variants as listed
+use Rattle.cells.specs.declared.check.Measured.the-variants as measured
+
+-- a list that was measured, and one that was not
+pub measured-is : (x : Listed) (n : ℕ) (o : OctetCount) → measuredOf x ≡ measured.Records n o → x ≡ listed.Records n o
+measured-is (listed.Refused y) n o e = let z : _≡_ {A = ℕ} 0 1 = cc in absurd (omega arith)
+measured-is (listed.Records m p) n o e = let a : m ≡ n = cc in let b : p ≡ o = cc in ap₂ listed.Records a b
+
+pub record Unmeasured (x : Listed) : Type 0 where
+  pub why : Refusal
+  pub is : x ≡ listed.Refused why
+
+pub unmeasured : (x : Listed) → measuredOf x ≡ measured.Refused → Unmeasured x
+unmeasured (listed.Refused y) e = record { why = y; is = refl }
+unmeasured (listed.Records m p) e = let z : _≡_ {A = ℕ} 0 1 = cc in absurd (omega arith)
 
 module _ (L : Layout) where
   pub record Taken (r : Result (List Record)) (n : ℕ) (o : OctetCount) : Type 0 where

@@ -8,11 +8,18 @@ use Rattle.wire.specs.Layout.{Layout}
 use Rattle.wire.specs.Anc.{Record, runSize, runOctets}
 use Rattle.cells.specs.declared.check.Listed.{Listed}
 use Rattle.cells.specs.declared.check.Listed.the-variants as listed
+use Rattle.cells.specs.declared.check.Measured.{Measured}
+use Rattle.cells.specs.declared.check.Measured.the-variants as measured
 
 -- a list: how many records, for 21, and the octets of their packets, for 22 and 23
 abbrev pub listedOf : Layout → Result (List Record) → Listed
 listedOf L (refused x) = listed.Refused x
 listedOf L (accepted rs) = listed.Records (length rs) (record { 0 = runSize L rs })
+
+-- the same, without saying why a list is refused
+abbrev pub measuredOf : Listed → Measured
+measuredOf (listed.Refused x) = measured.Refused
+measuredOf (listed.Records n o) = measured.Records n o
 
 -- the refusal of a list: "its number and an index from 0: .. the record for 20", and for 16 (02, K5)
 abbrev pub listRefusal : Listed → Refusal

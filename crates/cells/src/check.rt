@@ -5,14 +5,16 @@ ghost use lib.Dec.{leb};
 ghost use Rattle.wire.specs.Cells.{readList};
 ghost use Rattle.wire.specs.Result.{IsAccepted};
 ghost use Rattle.wire.specs.Writing.{noStream};
-ghost use Rattle.cells.specs.Answers.{listRecords, listRefusal, listedOf};
+ghost use Rattle.cells.specs.Answers.{listRecords, listRefusal, listedOf, measuredOf};
 ghost use Rattle.cells.specs.Clear.{clearBefore};
 use places::packet_size;
 use places::plus;
 use record::check::Front;
 use record::check::check_record;
+use record::check::is_clear_record;
 use record::header::Header;
 use wire::count::OctetCount;
+use wire::count::WordCount;
 use wire::layout::Layout;
 use wire::refusal::Refusal;
 
@@ -45,6 +47,12 @@ impl Listed {
             },
         }
     }
+}
+
+// The same, without saying why a list is refused.
+pub enum Measured {
+    Records { count: usize, octets: OctetCount },
+    Refused,
 }
 
 // How many records stand before the first that has a protected word: `first` of `count`, and one record more.
@@ -92,6 +100,27 @@ pub fn check_list(layout: Layout, cells: &[u16]) -> Listed
         });
     }
     Listed::Records { count, octets }
+}
+
+// A list that is written, measured in one short pass. Only where it is refused does `check_list` go through it again, to say why.
+pub fn measure_list(layout: Layout, cells: &[u16]) -> Measured
+    ensures { λ r. ⌜ r ≡ measuredOf (listedOf layout (readList (now (cells .entry)))) ⌝ }
+{
+    let mut rest = cells;
+    let mut octets = OctetCount(0);
+    let mut count: usize = 0;
+    while rest.len() > 0 {
+        if !is_clear_record(rest) {
+            return Measured::Refused;
+        }
+        let n = rest[Header::COUNT_CELL];
+        let size = packet_size(layout, WordCount(n as u8));
+        let step = Header::CELLS + (n as usize);
+        rest = &rest[step..];
+        octets = plus(octets, size);
+        count += 1;
+    }
+    Measured::Records { count, octets }
 }
 
 // No record of the list has S or StreamNum. It asks for a list that was checked.

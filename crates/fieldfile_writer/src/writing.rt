@@ -8,8 +8,10 @@ ghost use Rattle.wire.specs.Bits.{overwrite, pack};
 ghost use Rattle.anf.specs.File.{fieldHeaderFields, fieldHeaderSize, fieldRecords, writtenVersion};
 use anf::format::HEADER_SIZE_2;
 use cells::check::Listed;
+use cells::check::Measured;
 use cells::check::check_list;
 use cells::check::fits_behind;
+use cells::check::measure_list;
 use fieldfile::rules::f_ok;
 use fieldfile::rules::within_limits;
 use wire::layout::Layout;
@@ -24,9 +26,9 @@ pub(crate) fn measure(f: u8, cells: &[u16], room: usize) -> Listed
     if !f_ok(f) {
         return Listed::refuse(Refusal::FILE_F_INVALID);
     }
-    let listed = check_list(Layout::Rfc8331, cells);
-    let Listed::Records { count, octets } = listed else {
-        return listed;
+    let measured = measure_list(Layout::Rfc8331, cells);
+    let Measured::Records { count, octets } = measured else {
+        return check_list(Layout::Rfc8331, cells);
     };
     let within = within_limits(count, cells.len());
     let enough = fits_behind(HEADER_SIZE_2, octets, room);
@@ -36,7 +38,7 @@ pub(crate) fn measure(f: u8, cells: &[u16], room: usize) -> Listed
     if !enough {
         return Listed::refuse(Refusal::ROOM_TOO_SMALL);
     }
-    listed
+    Listed::Records { count, octets }
 }
 
 // The octets before a field's ANC data packets.

@@ -13,8 +13,10 @@ ghost use Rattle.cells.specs.Answers.{listRecords, listedOf};
 ghost use Rattle.packetizer.specs.Answers.{contentOf};
 ghost use Rattle.packetizer.specs.Front.{fFields, frontFields, frontSize};
 use cells::check::Listed;
+use cells::check::Measured;
 use cells::check::check_list;
 use cells::check::fits_behind;
+use cells::check::measure_list;
 use cells::check::no_stream;
 use places::payload_header_size;
 use rtp::packet::Head;
@@ -69,9 +71,9 @@ pub(crate) fn measure(layout: Layout, head: Head, cells: &[u16], room: usize) ->
     if !head_ok(head) {
         return Listed::refuse(Refusal::HEAD_INVALID);
     }
-    let listed = check_list(layout, cells);
-    let Listed::Records { count, octets } = listed else {
-        return listed;
+    let measured = measure_list(layout, cells);
+    let Measured::Records { count, octets } = measured else {
+        return check_list(layout, cells);
     };
     let front = front_size(layout);
     let within = within_limits(count, cells.len());
@@ -86,7 +88,7 @@ pub(crate) fn measure(layout: Layout, head: Head, cells: &[u16], room: usize) ->
     if !enough {
         return Listed::refuse(Refusal::ROOM_TOO_SMALL);
     }
-    listed
+    Listed::Records { count, octets }
 }
 
 // The RTP header, and the payload header up to ANC_Count, with which the drafts' ends.

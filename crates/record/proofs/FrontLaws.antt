@@ -1,7 +1,7 @@
 -- The record at the front of cells: what its checks say of where it lies, and what `check_record` answers.
 -- By the checks in their order, which all give one number.
 use mathlib.Core.Path.{_≡_, refl, ap, ap₂, sym, _∙_}
-use mathlib.Core.Bool.{Bool, true, false}
+use mathlib.Core.Bool.{Bool, true, false, _&&_, true≢false}
 use mathlib.Core.List.{List, [], _∷_}
 use Prim.Native.Nat.{ℕ, _+_, _-_, _^_, _<_, _≤_}
 use native.Mathlib.Omega.{arith}
@@ -17,8 +17,9 @@ use Rattle.wire.specs.declared.count.WordCount.{WordCount}
 use Rattle.wire.proofs.ResultLaws.{Passed, judge-passes, and-true, and-both}
 use Rattle.wire.proofs.CellLaws.{front-passed}
 use Rattle.wire.proofs.ListLaws.{part-all}
+use Rattle.record.specs.declared.check.Front.{Front}
 use Rattle.record.specs.declared.check.Front.the-variants as front
-use Rattle.record.specs.Answers.{frontFrom, frontOf}
+use Rattle.record.specs.Answers.{frontFrom, frontOf, hasWords, isClearFront}
 
 -- a record whose checks pass lies in the cells, and has as many words as its count says
 pub record Lies (l : List ℕ) : Type 0 where
@@ -59,6 +60,71 @@ pub front-taken : (l : List ℕ) (clear : Bool) → Passed (cellChecks l) → al
 front-taken l clear p c =
     sym (ap frontFrom (judge-passes 0 (cellChecks l) (accepted (cellRecord l)) p) ∙ ap₂ (λ (n : ℕ) (x : Bool). front.Record (record { 0 = n }) x) (lies l p .words) c)
 
+-- clear words fit ten bits
+pub clear-below : (ws : List ℕ) → allClear ws ≡ true → allBelow (2 ^ wordBits) ws ≡ true
+clear-below [] e = refl
+clear-below (w ∷ ws) e =
+    let a = and-true (isClear w) (allClear ws) e in
+    let m = leb-true w mostClear (and-true (leb leastClear w) (leb w mostClear) (a .0) .1) in
+    and-both (lt-ltb w (2 ^ wordBits) (omega arith)) (clear-below ws (a .1))
+
+-- the first three checks as one test, and the fourth: where one fails the record is malformed, and where all hold it passes
+module _ (l : List ℕ) where
+  abbrev pub wordCells : List ℕ
+  wordCells = take (cellCount l) (drop headCells l)
+
+  -- the part that the code takes
+  pub words-are : take (headCells + cellCount l - headCells) (drop headCells l) ≡ wordCells
+  words-are = let e : headCells + cellCount l - headCells ≡ cellCount l = omega arith in ap (λ (n : ℕ). take n (drop headCells l)) e
+
+  pub no-words : hasWords l ≡ false → frontOf l ≡ front.Malformed
+  unfolding cellChecks
+  no-words e = go (leb headCells (length l)) (headInRange l) (leb (headCells + cellCount l) (length l)) e
+    where
+      go : (a b c : Bool) → (a && (b && c)) ≡ false
+          → frontFrom (judge 0 ((a, 20) ∷ (b, 20) ∷ (c, 20) ∷ (allBelow (2 ^ wordBits) wordCells, 20) ∷ []) (accepted (cellRecord l))) ≡ front.Malformed
+      go false b c e = refl
+      go true false c e = refl
+      go true true false e = refl
+      go true true true e = absurd (true≢false e)
+
+  module _ (h : hasWords l ≡ true) where
+    abbrev three : (leb headCells (length l) ≡ true) × (headInRange l ≡ true) × (leb (headCells + cellCount l) (length l) ≡ true)
+    three =
+        let a = and-true (leb headCells (length l)) (headInRange l && leb (headCells + cellCount l) (length l)) h in
+        let b = and-true (headInRange l) (leb (headCells + cellCount l) (length l)) (a .1) in
+        (a .0, b .0, b .1)
+
+    pub whole-count : cellCount l < headerNumbers
+    whole-count = count-small l (three .1)
+
+    pub whole-inside : headCells + cellCount l ≤ length l
+    whole-inside = leb-true (headCells + cellCount l) (length l) (three .2)
+
+    whole-passes : allBelow (2 ^ wordBits) wordCells ≡ true → Passed (cellChecks l)
+    unfolding cellChecks
+    whole-passes fit = (three .0, (three .1, (three .2, (fit, tt))))
+
+    pub words-large : allBelow (2 ^ wordBits) wordCells ≡ false → frontOf l ≡ front.Malformed
+    unfolding cellChecks
+    words-large e = rw (three .0, three .1, three .2, e) refl
+
+    pub words-fit : (clear : Bool) → allBelow (2 ^ wordBits) wordCells ≡ true → allClear wordCells ≡ clear → front.Record (record { 0 = cellCount l }) clear ≡ frontOf l
+    unfolding cellRecord
+    words-fit clear fit e = front-taken l clear (whole-passes fit) e
+
+    pub words-clear : allClear wordCells ≡ true → front.Record (record { 0 = cellCount l }) true ≡ frontOf l
+    words-clear e = words-fit true (clear-below wordCells e) e
+
+    -- its words tell whether it is clear
+    pub clear-is : isClearFront (frontOf l) ≡ allClear wordCells
+    clear-is = go (allBelow (2 ^ wordBits) wordCells) (allClear wordCells) refl refl
+      where
+        go : (b c : Bool) → allBelow (2 ^ wordBits) wordCells ≡ b → allClear wordCells ≡ c → isClearFront (frontOf l) ≡ allClear wordCells
+        go b true f e = ap isClearFront (sym (words-clear e)) ∙ sym e
+        go true false f e = ap isClearFront (sym (words-fit false f e)) ∙ sym e
+        go false false f e = ap isClearFront (words-large f) ∙ sym e
+
 front-record : (ts : Checks) (r : Record) (w : WordCount) (clear : Bool) → frontFrom (judge 0 ts (accepted r)) ≡ front.Record w clear
     → Passed ts × (w .0 ≡ length (r .words)) × (clear ≡ allClear (r .words))
 front-record [] r w clear e =
@@ -79,13 +145,13 @@ taken l w clear e =
     let p = front-record (cellChecks l) (cellRecord l) w clear e in
     record { passed = p .0; count = p .1 ∙ lies l (p .0) .words; told = p .2 }
 
--- clear words fit ten bits
-pub clear-below : (ws : List ℕ) → allClear ws ≡ true → allBelow (2 ^ wordBits) ws ≡ true
-clear-below [] e = refl
-clear-below (w ∷ ws) e =
-    let a = and-true (isClear w) (allClear ws) e in
-    let m = leb-true w mostClear (and-true (leb leastClear w) (leb w mostClear) (a .0) .1) in
-    and-both (lt-ltb w (2 ^ wordBits) (omega arith)) (clear-below ws (a .1))
+-- a clear record passes its checks, and its words are clear
+pub clear-taken : (l : List ℕ) → isClearFront (frontOf l) ≡ true → Passed (cellChecks l) × (allClear (cellRecord l .words) ≡ true)
+clear-taken l h = go (frontOf l) refl h
+  where
+    go : (f : Front) → frontOf l ≡ f → isClearFront f ≡ true → Passed (cellChecks l) × (allClear (cellRecord l .words) ≡ true)
+    go front.Malformed e h = absurd (true≢false (sym h))
+    go (front.Record w clear) e h = let t = taken l w clear e in (t .passed, sym (t .told) ∙ h)
 
 -- checks that all give one number give it, whatever the index
 all-one-number : {A : Type 0} (i m : ℕ) (ts : Checks) (r : Record) (x : Result A) → Each (λ (t : Bool × ℕ). t .1 ≡ m) ts

@@ -1,11 +1,13 @@
 -- What the answers say in the papers' terms: the refusal, or what was found.
+use mathlib.Core.Bool.{Bool, false, _&&_}
 use mathlib.Core.List.{List}
-use Prim.Native.Nat.{ℕ}
+use Prim.Native.Nat.{ℕ, _+_}
+use lib.Dec.{leb}
 use lib.ListN.{length}
 use Rattle.wire.specs.Result.{Result, refused, accepted, judge}
 use Rattle.wire.specs.Anc.{Record}
 use Rattle.wire.specs.Words.{allClear}
-use Rattle.wire.specs.Cells.{cellChecks, cellRecord}
+use Rattle.wire.specs.Cells.{headCells, cellCount, headInRange, cellChecks, cellRecord}
 use Rattle.record.specs.declared.check.Front.{Front}
 use Rattle.record.specs.declared.check.Front.the-variants as front
 use Rattle.record.specs.declared.header.Header.{Header}
@@ -20,6 +22,15 @@ frontFrom (accepted r) = front.Record (record { 0 = length (r .words) }) (allCle
 -- the record at the front of the cells
 abbrev pub frontOf : List ℕ → Front
 frontOf l = frontFrom (judge 0 (cellChecks l) (accepted (cellRecord l)))
+
+-- the first three of its checks: the cells before the words are there and fit their fields, and as many words stand behind them as n says
+abbrev pub hasWords : List ℕ → Bool
+hasWords l = leb headCells (length l) && (headInRange l && leb (headCells + cellCount l) (length l))
+
+-- a record without a protected word
+abbrev pub isClearFront : Front → Bool
+isClearFront front.Malformed = false
+isClearFront (front.Record n clear) = clear
 
 -- a header, or the refusal
 abbrev pub foundOf : Result Header → Found

@@ -4,7 +4,7 @@ ghost use Prim.Native.Nat.{_^_, _≤_};
 ghost use lib.ListN.{length};
 ghost use Rattle.wire.specs.Cells.{allBelow, headCells, headInRange};
 ghost use Rattle.wire.specs.Words.{allClear, wordBits};
-ghost use Rattle.record.specs.Answers.{frontOf};
+ghost use Rattle.record.specs.Answers.{frontOf, hasWords, isClearFront};
 use crate::header::Header;
 use wire::count::WordCount;
 use wire::layout::FLAG_NUMBERS;
@@ -63,21 +63,37 @@ pub fn words_clear(words: &[u16]) -> bool
     clear
 }
 
-// The record at the front of the cells. Words that are clear fit ten bits, so others are looked at twice only where one is protected or too large.
+// The cells before the words fit their fields, and as many words stand behind them as n says.
+fn has_words(cells: &[u16]) -> bool
+    ensures { λ r. ⌜ r ≡ hasWords (now (cells .entry)) ⌝ }
+{
+    if cells.len() < Header::CELLS {
+        return false;
+    }
+    let end = Header::CELLS + (cells[Header::COUNT_CELL] as usize);
+    head_in_range(cells) & (end <= cells.len())
+}
+
+// A record without a protected word stands at the front of the cells. Words that are clear fit ten bits.
+pub fn is_clear_record(cells: &[u16]) -> bool
+    ensures { λ r. ⌜ r ≡ isClearFront (frontOf (now (cells .entry))) ⌝ }
+{
+    if !has_words(cells) {
+        return false;
+    }
+    let end = Header::CELLS + (cells[Header::COUNT_CELL] as usize);
+    words_clear(&cells[Header::CELLS..end])
+}
+
+// The record at the front of the cells. Words are looked at twice only where one is protected or too large.
 pub fn check_record(cells: &[u16]) -> Front
     ensures { λ r. ⌜ r ≡ frontOf (now (cells .entry)) ⌝ }
 {
-    if cells.len() < Header::CELLS {
-        return Front::Malformed;
-    }
-    if !head_in_range(cells) {
+    if !has_words(cells) {
         return Front::Malformed;
     }
     let n = cells[Header::COUNT_CELL] as usize;
     let end = Header::CELLS + n;
-    if cells.len() < end {
-        return Front::Malformed;
-    }
     let words = WordCount(n as u8);
     if words_clear(&cells[Header::CELLS..end]) {
         return Front::Record { words, clear: true };

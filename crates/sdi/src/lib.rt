@@ -8,8 +8,9 @@ mod answer;
 
 use crate::answer::refuse_read;
 use crate::answer::refuse_write;
-use cells::check::Listed;
+use cells::check::Measured;
 use cells::check::check_list;
+use cells::check::measure_list;
 use record::check::words_in_range;
 use sdi_check::check::check_packets;
 use sdi_check::check::position_fits;
@@ -36,10 +37,12 @@ pub fn write(line: &mut [u16], start: usize, cells: &[u16]) -> WrittenLine
     if start > line.len() {
         return refuse_write(Refusal::START_PAST_END);
     }
-    let listed = check_list(Layout::Rfc8331, cells);
-    match listed {
-        Listed::Refused(refusal) => WrittenLine::Refused(refusal),
-        Listed::Records { count, octets: _ } => {
+    match measure_list(Layout::Rfc8331, cells) {
+        Measured::Refused => {
+            let listed = check_list(Layout::Rfc8331, cells);
+            WrittenLine::Refused(listed.refusal())
+        }
+        Measured::Records { count, octets: _ } => {
             let words = cells.len() - count;
             if line.len() - start < words {
                 return refuse_write(Refusal::LINE_FULL);

@@ -10,6 +10,8 @@ use Rattle.wire.specs.Bits.{overwrite}
 use Rattle.wire.specs.Result.{refused, accepted, refuse, IsAccepted}
 use Rattle.wire.specs.Cells.{readList}
 use Rattle.wire.proofs.ListLaws.{part-all, part-written}
+use Rattle.cells.specs.Answers.{listRefusal}
+use Rattle.cells.proofs.ListedLaws.{measured-is, unmeasured}
 use Rattle.sdi_line.specs.declared.answer.WrittenLine.the-variants as writtenLine
 use Rattle.sdi_line.specs.Packets.{stretch}
 use Rattle.sdi_line.specs.Passes.{listStretch}
@@ -28,15 +30,15 @@ returns-2 c =
     written-is (a .line .now) (a .start) (a .cells .now) (refuse 71 0) (write-71 _ _ _ (c .before .before .if1 .left) (c .before .if2 .taken)) _ _ (c .refuse-write2 .ensures) refl
 
 -- the list was counted: its records, and the words that they take
-here : (c : tie.After-listed2) → Counted (c .before .before .before .before .before .before .before .args .cells .now) (c .listed2 .given .0 .0)
-here c = counted _ _ _ (sym (c .before .before .check-list .ensures) ∙ c .listed2 .given .1)
+here : (c : tie.After-count) → Counted (c .before .before .before .before .before .before .before .args .cells .now) (c .count .given .0 .0)
+here c = counted _ _ _ (measured-is _ _ _ (sym (c .before .before .measure-list .ensures) ∙ c .count .given .1))
 
 sub-words : tie.Need-sub-words
 sub-words c = omega (arith, here (c .before) .words)
 
 -- the words are those of the stretch
-words-are : (c : tie.After-listed2)
-    → length (c .before .before .before .before .before .before .before .args .cells .now) - c .listed2 .given .0 .0 ≡ length (stretch (here c .records))
+words-are : (c : tie.After-count)
+    → length (c .before .before .before .before .before .before .before .args .cells .now) - c .count .given .0 .0 ≡ length (stretch (here c .records))
 words-are c = omega (arith, here c .words)
 
 returns-3 : tie.Need-returns-3
@@ -52,7 +54,7 @@ returns-3 c =
 fits : (c : tie.Else3) → let a = c .before .before .before .before .before .before .before .before .before .args in length (stretch (here (c .before .before) .records)) ≤ length (a .line .now) - a .start
 fits c = let e = words-are (c .before .before) in omega (arith, c .if3 .left)
 
-listed-stretch : (c : tie.After-listed2) → listStretch (readList (c .before .before .before .before .before .before .before .args .cells .now)) ≡ stretch (here c .records)
+listed-stretch : (c : tie.After-count) → listStretch (readList (c .before .before .before .before .before .before .before .args .cells .now)) ≡ stretch (here c .records)
 listed-stretch c = ap listStretch (here c .listed)
 
 write-packets-requires : tie.Need-write-packets-requires
@@ -65,10 +67,13 @@ write-packets-requires c κs =
 
 returns-4 : tie.Need-returns-4
 returns-4 c =
-    let i = c .before .before .before .before in
+    let t = c .before .before in
+    let i = t .before .before .before in
     let a = i .before .before .before .before .args in
-    written-is (a .line .now) (a .start) (a .cells .now) (refused (c .before .listed .given .0 .0))
-    (write-list _ _ _ (i .before .if1 .left) (i .if2 .left) _ (sym (c .before .before .before .check-list .ensures) ∙ c .before .listed .given .1)) _ _ refl refl
+    let u = unmeasured _ (sym (t .before .before .measure-list .ensures) ∙ t .enum-told .given .1) in
+    written-is (a .line .now) (a .start) (a .cells .now) (refused (u .why))
+    (write-list _ _ _ (i .before .if1 .left) (i .if2 .left) _ (u .is)) _ _
+    (ap writtenLine.Refused (c .refusal .ensures ∙ ap listRefusal (c .before .check-list .ensures ∙ u .is))) refl
 
 returns-5 : tie.Need-returns-5
 returns-5 c =
@@ -87,6 +92,6 @@ returns-5 c =
 pub write-spec : {M : Type 1} → statement M
 write-spec =
     tie.close
-    (tie.spec (λ c κs. search needs) returns (λ c κs. search needs) returns-2 (λ c κs. search needs) (λ c. search needs) (λ c. search needs)
-    sub-words (λ c. search needs) (λ c κs. search needs) returns-3 (λ c. search needs) (λ c. search needs) (λ c. search needs) (λ c. search needs)
-    write-packets-requires (λ c. search needs) returns-4 (λ c. search needs) returns-5)
+    (tie.spec (λ c κs. search needs) returns (λ c κs. search needs) returns-2 (λ c κs. search needs) (λ c. search needs) (λ c κs. search needs)
+    (λ c κs. search needs) (λ c. search needs) sub-words (λ c. search needs) (λ c κs. search needs) returns-3 (λ c. search needs) (λ c. search needs)
+    (λ c. search needs) (λ c. search needs) write-packets-requires (λ c. search needs) returns-4 (λ c. search needs) returns-5)

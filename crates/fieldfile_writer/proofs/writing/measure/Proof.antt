@@ -9,6 +9,7 @@ use Rattle.anf.specs.File.{fileFOk}
 use Rattle.wire.specs.Layout.{rfc8331}
 use Rattle.cells.specs.Answers.{listedOf}
 use Rattle.cells.specs.declared.check.Listed.the-variants as listed
+use Rattle.cells.proofs.ListedLaws.{measured-is, unmeasured}
 use Rattle.fieldfile_writer.proofs.WriteLaws.{refused-f, refused-list, over-limit, no-room, all-fit}
 use Rattle.fieldfile_writer.proofs.writing.measure.Statement.{statement}
 use Rattle.fieldfile_writer.proofs.writing.measure.Tie as tie
@@ -18,16 +19,17 @@ f-passed : (c : tie.Else1) → fileFOk (c .before .before .before .args .f) ≡ 
 f-passed c = sym (c .before .f-ok .ensures) ∙ not-false _ (c .if1 .left)
 
 -- 20 was passed
-list-passed : (c : tie.After-known-told) → listedOf rfc8331 (readList (c .before .before .before .before .before .before .before .args .cells .now)) ≡ listed.Records (c .before .listed .given .0 .0) (c .before .listed .given .0 .1 .0)
-list-passed c = sym (c .before .before .before .check-list .ensures) ∙ c .before .listed .given .1
+list-passed : (c : tie.After-known-told) → listedOf rfc8331 (readList (c .before .before .before .before .before .before .before .args .cells .now)) ≡ listed.Records (c .before .measured .given .0 .0) (c .before .measured .given .0 .1 .0)
+list-passed c = measured-is _ _ _ (sym (c .before .before .before .measure-list .ensures) ∙ c .before .measured .given .1)
 
 returns : tie.Need-returns
 returns c = c .refuse .ensures ∙ sym (ap (listedOf rfc8331) (refused-f (c .before .before .before .before .args .f) (c .before .before .before .before .args .cells .now) (c .before .before .before .before .args .room) (sym (c .before .before .f-ok .ensures) ∙ not-true _ (c .before .if1 .taken))))
 
 returns-2 : tie.Need-returns-2
 returns-2 c =
-    let t = c .enum-told .given in
-    t .1 ∙ sym (ap (listedOf rfc8331) (refused-list (c .before .before .before .before .before .before .args .f) (c .before .before .before .before .before .before .args .cells .now) (c .before .before .before .before .before .before .args .room) (f-passed (c .before .before .before)) _ (sym (c .before .before .check-list .ensures) ∙ t .1)))
+    let a = c .before .before .before .before .before .before .before .args in
+    let u = unmeasured _ (sym (c .before .before .before .measure-list .ensures) ∙ c .before .enum-told .given .1) in
+    c .check-list .ensures ∙ u .is ∙ sym (ap (listedOf rfc8331) (refused-list (a .f) (a .cells .now) (a .room) (f-passed (c .before .before .before .before)) _ (u .is)))
 
 returns-3 : tie.Need-returns-3
 returns-3 c =
@@ -49,5 +51,6 @@ returns-5 c =
 pub measure-spec : {M : Type 1} → statement M
 measure-spec =
     tie.close
-    (tie.spec (λ c κs. search needs) (λ c κs. search needs) returns (λ c κs. search needs) (λ c. search needs) (λ c. search needs) returns-2
+    (tie.spec (λ c κs. search needs) (λ c κs. search needs) returns (λ c κs. search needs) (λ c. search needs) (λ c. search needs)
+    (λ c κs. search needs) returns-2
     (λ c κs. search needs) (λ c κs. search needs) (λ c κs. search needs) returns-3 (λ c κs. search needs) returns-4 returns-5)

@@ -14,6 +14,7 @@ use Rattle.wire.specs.Writing.{headOk, packetRecords}
 use Rattle.wire.proofs.ResultLaws.{Passed}
 use Rattle.cells.specs.Answers.{listedOf}
 use Rattle.cells.specs.declared.check.Listed.the-variants as listed
+use Rattle.cells.proofs.ListedLaws.{measured-is, unmeasured}
 use Rattle.packetizer.specs.Answers.{contentOf}
 use Rattle.packetizer.specs.Front.{frontSize}
 use Rattle.packetizer.proofs.WriteLaws.{tests, refused-head, refused-list, accepts, limit, all-fit}
@@ -30,8 +31,8 @@ head-passed : (c : tie.Else1) → headOk (c .before .before .before .args .head 
 head-passed c = sym (c .before .head-ok .ensures) ∙ not-false _ (c .if1 .left)
 
 -- 20 was passed
-list-passed : (c : tie.After-known-told) → listedOf (c .before .before .before .before .before .before .before .args .layout) (readList (c .before .before .before .before .before .before .before .args .cells .now)) ≡ listed.Records (c .before .listed .given .0 .0) (c .before .listed .given .0 .1 .0)
-list-passed c = sym (c .before .before .before .check-list .ensures) ∙ c .before .listed .given .1
+list-passed : (c : tie.After-known-told) → listedOf (c .before .before .before .before .before .before .before .args .layout) (readList (c .before .before .before .before .before .before .before .args .cells .now)) ≡ listed.Records (c .before .measured .given .0 .0) (c .before .measured .given .0 .1 .0)
+list-passed c = measured-is _ _ _ (sym (c .before .before .before .measure-list .ensures) ∙ c .before .measured .given .1)
 
 returns : tie.Need-returns
 returns c =
@@ -40,18 +41,18 @@ returns c =
 
 returns-2 : tie.Need-returns-2
 returns-2 c =
-    let a = c .before .before .before .before .before .before .args in
-    let t = c .enum-told .given in
-    t .1 ∙ sym (ap (listedOf (a .layout)) (refused-list (a .layout) (a .head) (a .cells .now) (a .room) (head-passed (c .before .before .before)) _ (sym (c .before .before .check-list .ensures) ∙ t .1)))
+    let a = c .before .before .before .before .before .before .before .args in
+    let u = unmeasured _ (sym (c .before .before .before .measure-list .ensures) ∙ c .before .enum-told .given .1) in
+    c .check-list .ensures ∙ u .is ∙ sym (ap (listedOf (a .layout)) (refused-list (a .layout) (a .head) (a .cells .now) (a .room) (head-passed (c .before .before .before .before)) _ (u .is)))
 
 layout-ok-requires : tie.Need-layout-ok-requires
 layout-ok-requires c κs = accepts (c .before .before .before .before .before .before .before .before .before .args .layout) (c .before .before .before .before .before .before .before .before .before .args .head) (c .before .before .before .before .before .before .before .before .before .args .cells .now) (c .before .before .before .before .before .before .before .before .before .args .room) (head-passed (c .before .before .before .before .before .before)) _ _ (list-passed (c .before .before))
 
 outcomes-are : (c : tie.After-fits-behind)
-    → outcomes c ≡ tests (c .before .before .before .before .before .before .before .before .before .before .before .args .layout) (c .before .before .before .before .before .before .before .before .before .before .before .args .head) (c .before .before .before .before .before .before .before .before .before .before .before .args .cells .now) (c .before .before .before .before .before .before .before .before .before .before .before .args .room) (c .before .before .before .before .before .listed .given .0 .0) (c .before .before .before .before .before .listed .given .0 .1 .0 .0)
+    → outcomes c ≡ tests (c .before .before .before .before .before .before .before .before .before .before .before .args .layout) (c .before .before .before .before .before .before .before .before .before .before .before .args .head) (c .before .before .before .before .before .before .before .before .before .before .before .args .cells .now) (c .before .before .before .before .before .before .before .before .before .before .before .args .room) (c .before .before .before .before .before .measured .given .0 .0) (c .before .before .before .before .before .measured .given .0 .1 .0 .0)
 outcomes-are c =
-    let behind : (most : ℕ) → leb (c .before .before .before .front-size .result + c .before .before .before .before .before .listed .given .0 .1 .0 .0) most ≡ leb (frontSize (c .before .before .before .before .before .before .before .before .before .before .before .args .layout) + c .before .before .before .before .before .listed .given .0 .1 .0 .0) most =
-    λ most. ap (λ (x : ℕ). leb (x + c .before .before .before .before .before .listed .given .0 .1 .0 .0) most) (c .before .before .before .front-size .ensures) in
+    let behind : (most : ℕ) → leb (c .before .before .before .front-size .result + c .before .before .before .before .before .measured .given .0 .1 .0 .0) most ≡ leb (frontSize (c .before .before .before .before .before .before .before .before .before .before .before .args .layout) + c .before .before .before .before .before .measured .given .0 .1 .0 .0) most =
+    λ most. ap (λ (x : ℕ). leb (x + c .before .before .before .before .before .measured .given .0 .1 .0 .0) most) (c .before .before .before .front-size .ensures) in
     λ i.
     (c .before .before .within-limits .ensures i, 21)
     ∷ (c .before .layout-ok .ensures i, 25)
@@ -84,6 +85,7 @@ returns-6 c =
 pub measure-spec : {M : Type 1} → statement M
 measure-spec =
     tie.close
-    (tie.spec (λ c κs. search needs) (λ c κs. search needs) returns (λ c κs. search needs) (λ c. search needs) (λ c. search needs) returns-2
+    (tie.spec (λ c κs. search needs) (λ c κs. search needs) returns (λ c κs. search needs) (λ c. search needs) (λ c. search needs)
+    (λ c κs. search needs) returns-2
     (λ c κs. search needs) (λ c κs. search needs) layout-ok-requires (λ c κs. search needs) (λ c κs. search needs) returns-3
     (λ c κs. search needs) returns-4 (λ c κs. search needs) returns-5 returns-6)

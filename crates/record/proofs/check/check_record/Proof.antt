@@ -1,95 +1,73 @@
 -- `check_record` answers what the record at the front of the cells is.
 -- Each return knows the checks so far, which are those of the definition, and each refusal is the same answer.
 use borrow.Author.Needs.{needs}
-use borrow.Author.Tests.{le-leb, lt-leb, not-true, not-false}
+use borrow.Author.Tests.{not-true, not-false}
 use mathlib.Core.Path.{_≡_, ap, sym, _∙_}
-use mathlib.Core.Bool.{true, false}
-use mathlib.Core.List.{List}
-use Prim.Native.Nat.{ℕ, _+_, _-_, _^_}
+use mathlib.Core.Bool.{Bool, true, false}
+use Prim.Native.Nat.{_+_, _^_, _<_, _≤_}
 use native.Mathlib.Omega.{arith}
-use lib.Dec.{leb}
-use lib.ListN.{length, take, drop}
-use Rattle.wire.specs.Words.{wordBits, allClear}
-use Rattle.wire.specs.Cells.{headCells, cellCount, cellRecord, allBelow, headInRange, cellChecks}
-use Rattle.wire.proofs.ResultLaws.{Passed}
-use Rattle.record.proofs.FrontLaws.{count-small, front-taken, clear-below}
+use lib.ListN.{length}
+use Rattle.wire.specs.Words.{wordBits, headerNumbers, allClear}
+use Rattle.wire.specs.Cells.{headCells, cellCount, allBelow}
+use Rattle.record.specs.Answers.{hasWords}
+use Rattle.record.proofs.FrontLaws.{wordCells, no-words, whole-count, whole-inside, words-are, words-large, words-fit, words-clear}
 use Rattle.record.proofs.check.check_record.Statement.{statement}
 use Rattle.record.proofs.check.check_record.Tie as tie
 
 returns : tie.Need-returns
-unfolding cellChecks
-returns c = rw (lt-leb _ _ (c .if1 .taken))
+returns c = sym (no-words _ (sym (c .before .has-words .ensures) ∙ not-true _ (c .if1 .taken)))
 
-returns-2 : tie.Need-returns-2
-unfolding cellChecks
-returns-2 c =
-    rw (
-      le-leb _ _ (c .before .before .if1 .left),
-      sym (c .before .head-in-range .ensures) ∙ not-true _ (c .if2 .taken),
-    )
+whole : (c : tie.Else1) → hasWords (c .before .before .before .args .cells .now) ≡ true
+whole c = sym (c .before .has-words .ensures) ∙ not-false _ (c .if1 .left)
 
--- the checks that passed before the third
-long : (c : tie.Else2) → leb headCells (length (c .before .before .before .before .args .cells .now)) ≡ true
-long c = le-leb _ _ (c .before .before .if1 .left)
+-- so its words lie in the cells, and its count is small
+lies-in : (c : tie.Else1) → let l = c .before .before .before .args .cells .now in (headCells + cellCount l ≤ length l) × (cellCount l < headerNumbers)
+lies-in c = let l = c .before .before .before .args .cells .now in (whole-inside l (whole c), whole-count l (whole c))
 
-in-range : (c : tie.Else2) → headInRange (c .before .before .before .before .args .cells .now) ≡ true
-in-range c = sym (c .before .head-in-range .ensures) ∙ not-false _ (c .if2 .left)
+shared-slice-read-n : tie.Need-shared-slice-read-n
+shared-slice-read-n c = omega (arith, lies-in (c .before))
 
 cast-n : tie.Need-cast-n
-cast-n c = omega (arith, c .shared-slice-known2 .given 7)
+cast-n c = omega (arith, lies-in (c .before))
 
 add-end : tie.Need-add-end
-add-end c = omega (arith, c .shared-slice-known2 .given 7)
+add-end c = omega (arith, lies-in (c .before))
+
+cast-t9 : tie.Need-cast-t9
+cast-t9 c = omega (arith, lies-in (c .before))
+
+part-words-clear-end : tie.Need-part-words-clear-end
+part-words-clear-end c = omega (arith, lies-in (c .before))
+
+part-words-in-range-end : tie.Need-part-words-in-range-end
+part-words-in-range-end c = omega (arith, lies-in (c .before .before .before .before))
+
+returns-2 : tie.Need-returns-2
+returns-2 c =
+    let l = c .before .before .before .before .before .before .before .args .cells .now in
+    words-clear l (whole (c .before .before .before .before)) (sym (ap allClear (words-are l)) ∙ sym (c .before .words-clear .ensures) ∙ c .if2 .taken)
+
+-- whether the words fit, as the code asks it
+fits : (c : tie.After-words-in-range)
+    → allBelow (2 ^ wordBits) (wordCells (c .before .before .before .before .before .before .before .before .before .args .cells .now)) ≡ c .words-in-range .result
+fits c =
+    let l = c .before .before .before .before .before .before .before .before .before .args .cells .now in
+    sym (ap (allBelow (2 ^ wordBits)) (words-are l)) ∙ sym (c .words-in-range .ensures)
 
 returns-3 : tie.Need-returns-3
-unfolding cellChecks
-returns-3 c = rw (long (c .before .before), in-range (c .before .before), lt-leb _ _ (c .if3 .taken))
-
-cast-t10 : tie.Need-cast-t10
-cast-t10 c = omega (arith, count-small _ (in-range (c .before .before)))
-
--- what is tested are the words of the record
-words-are : (l : List ℕ) → take (headCells + cellCount l - headCells) (drop headCells l) ≡ take (cellCount l) (drop headCells l)
-words-are l = let e : headCells + cellCount l - headCells ≡ cellCount l = omega arith in ap (λ (n : ℕ). take n (drop headCells l)) e
-
--- the record passes where its words fit
-passes : (c : tie.Else3)
-    → let l = c .before .before .before .before .before .before .args .cells .now in
-    allBelow (2 ^ wordBits) (take (cellCount l) (drop headCells l)) ≡ true → Passed (cellChecks l)
-unfolding cellChecks
-passes c fit = (long (c .before .before), (in-range (c .before .before), (le-leb _ _ (c .if3 .left), (fit, tt))))
+returns-3 c =
+    let l = c .before .before .before .before .before .before .before .before .before .before .args .cells .now in
+    let clear = sym (ap allClear (words-are l)) ∙ sym (c .before .before .before .before .words-clear .ensures) ∙ c .before .before .before .if2 .left in
+    words-fit l (whole (c .before .before .before .before .before .before .before)) false (fits (c .before) ∙ c .if3 .taken) clear
 
 returns-4 : tie.Need-returns-4
-unfolding cellRecord
 returns-4 c =
-    let b = c .before .before .before in
-    let l = b .before .before .before .before .before .before .args .cells .now in
-    let clear = sym (ap allClear (words-are l)) ∙ sym (c .before .words-clear .ensures) ∙ c .if4 .taken in
-    front-taken l true (passes b (clear-below (take (cellCount l) (drop headCells l)) clear)) clear
-
-returns-5 : tie.Need-returns-5
-unfolding cellRecord
-returns-5 c =
-    let b = c .before .before .before .before .before .before in
-    let l = b .before .before .before .before .before .before .args .cells .now in
-    let clear = sym (ap allClear (words-are l)) ∙ sym (c .before .before .before .before .words-clear .ensures) ∙ c .before .before .before .if4 .left in
-    let fit = sym (ap (allBelow (2 ^ wordBits)) (words-are l)) ∙ sym (c .before .words-in-range .ensures) ∙ c .if5 .taken in
-    front-taken l false (passes b fit) clear
-
-returns-6 : tie.Need-returns-6
-unfolding cellChecks
-returns-6 c =
-    let b = c .before .before .before .before .before .before in
-    let l = b .before .before .before .before .before .before .args .cells .now in
-    rw (
-      long (b .before .before),
-      in-range (b .before .before),
-      le-leb _ _ (b .if3 .left),
-      sym (ap (allBelow (2 ^ wordBits)) (words-are l)) ∙ sym (c .before .words-in-range .ensures) ∙ c .if5 .left,
-    )
+    let l = c .before .before .before .before .before .before .before .before .before .before .args .cells .now in
+    sym (words-large l (whole (c .before .before .before .before .before .before .before)) (fits (c .before) ∙ c .if3 .left))
 
 pub check-record-spec : {M : Type 1} → statement M
 check-record-spec =
     tie.close
-    (tie.spec returns (λ c κs. search needs) returns-2 (λ c. search needs) cast-n add-end returns-3 cast-t10 (λ c. search needs) (λ c. search needs)
-    (λ c. search needs) (λ c κs. search needs) returns-4 (λ c. search needs) (λ c. search needs) (λ c. search needs) (λ c κs. search needs) returns-5 returns-6)
+    (tie.spec (λ c κs. search needs) returns shared-slice-read-n cast-n add-end cast-t9 (λ c. search needs) (λ c. search needs)
+    part-words-clear-end (λ c κs. search needs) returns-2 (λ c. search needs) (λ c. search needs) part-words-in-range-end
+    (λ c κs. search needs) returns-3 returns-4)
