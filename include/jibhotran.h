@@ -28,7 +28,7 @@ extern "C" {
 #endif
 
 /* Numbers that an answer needs, and a state. */
-#define JIBHOTRAN_ANSWER 8
+#define JIBHOTRAN_ANSWER 9
 #define JIBHOTRAN_STATE 12
 
 /* A row for the answer or the state is too short. */
@@ -52,11 +52,16 @@ extern "C" {
 #define JIBHOTRAN_NO_VPID 256
 
 /*
- * Reads a packet of the layout, its records into cells. answer: source, payload type, marker, packet number, timestamp, F, records, cells.
- * Of a packet of the drafts F is 0, and so are S and StreamNum of its records.
+ * Reads a packet of the layout, its records into cells, in the tolerant way: a record that fails only its checksum is left out and counted, and 11 is
+ * not given. answer: source, payload type, marker, packet number, timestamp, F, records, cells, records left out. Records and cells are those that
+ * come through. Of a packet of the drafts F is 0, and so are S and StreamNum of its records.
  */
 uint8_t jibhotran_read(uint8_t layout, const uint8_t *octets, size_t octets_len, uint16_t *cells, size_t cells_len, uint64_t *answer,
                        size_t answer_len);
+
+/* The same in the strict way: a wrong checksum is refused by 11, and the records left out are 0. */
+uint8_t jibhotran_read_strict(uint8_t layout, const uint8_t *octets, size_t octets_len, uint16_t *cells, size_t cells_len, uint64_t *answer,
+                              size_t answer_len);
 
 /*
  * Writes a packet of the layout with the records of the cells; a marker other than 0 marks it. answer: octets.

@@ -11,6 +11,7 @@ pub struct Archive;
 #[rustfmt::skip]
 extern "C" {
     fn jibhotran_read(layout: u8, octets: *const u8, octets_len: usize, cells: *mut u16, cells_len: usize, answer: *mut u64, answer_len: usize) -> u8;
+    fn jibhotran_read_strict(layout: u8, octets: *const u8, octets_len: usize, cells: *mut u16, cells_len: usize, answer: *mut u64, answer_len: usize) -> u8;
     fn jibhotran_write(layout: u8, source: u32, payload_type: u8, marker: u8, number: u32, timestamp: u32, f: u8, cells: *const u16, cells_len: usize, out: *mut u8, out_len: usize, answer: *mut u64, answer_len: usize) -> u8;
     fn jibhotran_open(source: u32, payload_type: u8, state: *mut u64, state_len: usize, answer: *mut u64, answer_len: usize) -> u8;
     fn jibhotran_arrive(layout: u8, state: *mut u64, state_len: usize, octets: *const u8, octets_len: usize, store: *mut u16, store_len: usize, answer: *mut u64, answer_len: usize) -> u8;
@@ -45,6 +46,11 @@ impl Side for Archive {
     #[inline]
     fn read(layout: u8, octets: &[u8], cells: &mut [u16], answer: &mut [u64]) -> u8 {
         call!(jibhotran_read(layout, in octets, mut cells, mut answer))
+    }
+
+    #[inline]
+    fn read_strict(layout: u8, octets: &[u8], cells: &mut [u16], answer: &mut [u64]) -> u8 {
+        call!(jibhotran_read_strict(layout, in octets, mut cells, mut answer))
     }
 
     #[inline]

@@ -14,6 +14,10 @@ pub enum Call {
         layout: u8,
         octets: Vec<u8>,
     },
+    ReadStrict {
+        layout: u8,
+        octets: Vec<u8>,
+    },
     Write {
         layout: u8,
         head: Head,
@@ -127,6 +131,7 @@ impl Call {
         let out = memory.octets.get_mut();
         match self {
             Call::Read { layout, octets } => S::read(*layout, octets, room, answer),
+            Call::ReadStrict { layout, octets } => S::read_strict(*layout, octets, room, answer),
             Call::Write {
                 layout,
                 head,

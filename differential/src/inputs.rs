@@ -51,6 +51,12 @@ pub fn read(r: &mut Random) -> Case {
     (Call::Read { layout, octets }, lent(r, case.room, 0))
 }
 
+pub fn read_strict(r: &mut Random) -> Case {
+    let case = random::read_case(r);
+    let (layout, octets) = (told(r, case.layout), case.octets);
+    (Call::ReadStrict { layout, octets }, lent(r, case.room, 0))
+}
+
 /// Marked by 1 as often as by another number.
 fn marker(r: &mut Random, marked: bool) -> u8 {
     match marked {

@@ -16,7 +16,7 @@ pub use behind::Behind;
 pub use model::Model;
 
 /// Numbers that an answer row needs.
-pub const ANSWER: usize = 8;
+pub const ANSWER: usize = 9;
 /// Numbers that a state row needs.
 pub const STATE: usize = 12;
 /// A row is too short.
@@ -54,9 +54,10 @@ pub struct Pair {
     pub sdid: u8,
 }
 
-/// The boundary's thirteen functions over slices.
+/// The boundary's fourteen functions over slices.
 pub trait Side {
     fn read(layout: u8, octets: &[u8], cells: &mut [u16], answer: &mut [u64]) -> u8;
+    fn read_strict(layout: u8, octets: &[u8], cells: &mut [u16], answer: &mut [u64]) -> u8;
     fn write(layout: u8, head: &Head, cells: &[u16], out: &mut [u8], answer: &mut [u64]) -> u8;
     fn open(source: u32, payload_type: u8, state: &mut [u64], answer: &mut [u64]) -> u8;
     fn arrive(

@@ -98,27 +98,43 @@ fn values_of(answer: Answer) -> Result<[u64; 5], Refusal> {
     }
 }
 
+/// A packet read in one of the two ways: 255, 254, then what the reader gives.
+fn packet_read(
+    layout: u8,
+    answer: &mut [u64],
+    read: impl FnOnce(Layout) -> Result<packet::Summary, Refusal>,
+) -> u8 {
+    if answer.len() < ANSWER {
+        return ROW;
+    }
+    let Some(layout) = layout_of(layout) else {
+        return LAYOUT;
+    };
+    let values = read(layout).map(|read| {
+        [
+            read.source as u64,
+            read.payload_type as u64,
+            read.marker as u64,
+            read.number as u64,
+            read.timestamp as u64,
+            read.f as u64,
+            read.records as u64,
+            read.cells as u64,
+            read.left_out as u64,
+        ]
+    });
+    settle(values, answer)
+}
+
 impl Side for Model {
     fn read(layout: u8, octets: &[u8], cells: &mut [u16], answer: &mut [u64]) -> u8 {
-        if answer.len() < ANSWER {
-            return ROW;
-        }
-        let Some(layout) = layout_of(layout) else {
-            return LAYOUT;
-        };
-        let values = packet::read(layout, octets, cells).map(|read| {
-            [
-                read.source as u64,
-                read.payload_type as u64,
-                read.marker as u64,
-                read.number as u64,
-                read.timestamp as u64,
-                read.f as u64,
-                read.records as u64,
-                read.cells as u64,
-            ]
-        });
-        settle(values, answer)
+        packet_read(layout, answer, |layout| packet::read(layout, octets, cells))
+    }
+
+    fn read_strict(layout: u8, octets: &[u8], cells: &mut [u16], answer: &mut [u64]) -> u8 {
+        packet_read(layout, answer, |layout| {
+            packet::read_strict(layout, octets, cells)
+        })
     }
 
     fn write(layout: u8, head: &Head, cells: &[u16], out: &mut [u8], answer: &mut [u64]) -> u8 {

@@ -10,6 +10,7 @@ typedef uint16_t cell;
 typedef uint64_t number;
 
 static octet (*const packet_read)(octet, const octet *, size_t, cell *, size_t, number *, size_t) = jibhotran_read;
+static octet (*const packet_read_strict)(octet, const octet *, size_t, cell *, size_t, number *, size_t) = jibhotran_read_strict;
 static octet (*const packet_write)(octet, uint32_t, octet, octet, uint32_t, uint32_t, octet, const cell *, size_t, octet *, size_t, number *,
                                    size_t) = jibhotran_write;
 static octet (*const opened)(uint32_t, octet, number *, size_t, number *, size_t) = jibhotran_open;
@@ -56,55 +57,60 @@ static void result(const char *name, octet given, size_t values) {
 static void packets(octet packet[2][32]) {
     const octet rfc = JIBHOTRAN_RFC8331;
     cell back[8];
-    result("write 7", packet_write(rfc, 1, 112, 1, 7, 1000, 2, record_a, 8, packet[0], 32, answer, 8), 2);
+    result("write 7", packet_write(rfc, 1, 112, 1, 7, 1000, 2, record_a, 8, packet[0], 32, answer, JIBHOTRAN_ANSWER), 2);
     octets("packet", packet[0], 32);
-    result("write 8", packet_write(rfc, 1, 112, 1, 8, 2501, 3, record_a, 8, packet[1], 32, answer, 8), 2);
-    result("read", packet_read(rfc, packet[0], 32, back, 8, answer, 8), 8);
+    result("write 8", packet_write(rfc, 1, 112, 1, 8, 2501, 3, record_a, 8, packet[1], 32, answer, JIBHOTRAN_ANSWER), 2);
+    result("read", packet_read(rfc, packet[0], 32, back, 8, answer, JIBHOTRAN_ANSWER), 9);
     cells("cells", back, 8);
-    result("read 11 octets", packet_read(rfc, packet[0], 11, back, 8, answer, 8), 2);
+    packet[0][28] ^= 1;
+    result("checksum wrong, read", packet_read(rfc, packet[0], 32, back, 8, answer, JIBHOTRAN_ANSWER), 9);
+    result("read strict", packet_read_strict(rfc, packet[0], 32, back, 8, answer, JIBHOTRAN_ANSWER), 2);
+    packet[0][28] ^= 1;
+    result("read strict", packet_read_strict(rfc, packet[0], 32, back, 8, answer, JIBHOTRAN_ANSWER), 9);
+    result("read 11 octets", packet_read(rfc, packet[0], 11, back, 8, answer, JIBHOTRAN_ANSWER), 2);
     result("short row", packet_read(rfc, packet[0], 32, back, 8, answer, JIBHOTRAN_ANSWER - 1), 2);
-    result("no layout", packet_read(2, packet[0], 32, back, 8, answer, 8), 2);
-    result("no layout", packet_write(2, 1, 112, 1, 7, 1000, 2, record_a, 8, packet[0], 32, answer, 8), 2);
+    result("no layout", packet_read(2, packet[0], 32, back, 8, answer, JIBHOTRAN_ANSWER), 2);
+    result("no layout", packet_write(2, 1, 112, 1, 7, 1000, 2, record_a, 8, packet[0], 32, answer, JIBHOTRAN_ANSWER), 2);
 }
 
 /* The same record in a packet of the drafts, which carries no F. */
 static void old_packets(octet packet[26]) {
     const octet drafts = JIBHOTRAN_DRAFTS;
     cell back[8];
-    result("old write", packet_write(drafts, 1, 112, 1, 9, 4002, 2, record_a, 8, packet, 26, answer, 8), 2);
-    result("old write", packet_write(drafts, 1, 112, 1, 9, 4002, 0, record_a, 8, packet, 26, answer, 8), 2);
+    result("old write", packet_write(drafts, 1, 112, 1, 9, 4002, 2, record_a, 8, packet, 26, answer, JIBHOTRAN_ANSWER), 2);
+    result("old write", packet_write(drafts, 1, 112, 1, 9, 4002, 0, record_a, 8, packet, 26, answer, JIBHOTRAN_ANSWER), 2);
     octets("packet", packet, 26);
-    result("old read", packet_read(drafts, packet, 26, back, 8, answer, 8), 8);
+    result("old read", packet_read(drafts, packet, 26, back, 8, answer, JIBHOTRAN_ANSWER), 9);
     cells("cells", back, 8);
-    result("read", packet_read(JIBHOTRAN_RFC8331, packet, 26, back, 8, answer, 8), 2);
+    result("read", packet_read(JIBHOTRAN_RFC8331, packet, 26, back, 8, answer, JIBHOTRAN_ANSWER), 2);
 }
 
 static void depacketizer(octet packet[2][32], octet old[26]) {
     const octet rfc = JIBHOTRAN_RFC8331;
     number state[JIBHOTRAN_STATE];
     cell store[16];
-    result("short state", opened(1, 112, state, JIBHOTRAN_STATE - 1, answer, 8), 1);
-    result("open", opened(1, 112, state, JIBHOTRAN_STATE, answer, 8), 1);
+    result("short state", opened(1, 112, state, JIBHOTRAN_STATE - 1, answer, JIBHOTRAN_ANSWER), 1);
+    result("open", opened(1, 112, state, JIBHOTRAN_STATE, answer, JIBHOTRAN_ANSWER), 1);
     numbers("state", state, JIBHOTRAN_STATE);
-    result("arrive 7", arrive(rfc, state, JIBHOTRAN_STATE, packet[0], 32, store, 16, answer, 8), 6);
-    result("arrive 8", arrive(rfc, state, JIBHOTRAN_STATE, packet[1], 32, store, 16, answer, 8), 6);
+    result("arrive 7", arrive(rfc, state, JIBHOTRAN_STATE, packet[0], 32, store, 16, answer, JIBHOTRAN_ANSWER), 6);
+    result("arrive 8", arrive(rfc, state, JIBHOTRAN_STATE, packet[1], 32, store, 16, answer, JIBHOTRAN_ANSWER), 6);
     cells("store", store, 8);
-    result("arrive 8", arrive(rfc, state, JIBHOTRAN_STATE, packet[1], 32, store, 16, answer, 8), 2);
+    result("arrive 8", arrive(rfc, state, JIBHOTRAN_STATE, packet[1], 32, store, 16, answer, JIBHOTRAN_ANSWER), 2);
     numbers("state", state, JIBHOTRAN_STATE);
-    result("no layout", arrive(2, state, JIBHOTRAN_STATE, old, 26, store, 16, answer, 8), 2);
-    result("arrive 9", arrive(rfc, state, JIBHOTRAN_STATE, old, 26, store, 16, answer, 8), 2);
-    result("old arrive 9", arrive(JIBHOTRAN_DRAFTS, state, JIBHOTRAN_STATE, old, 26, store, 16, answer, 8), 6);
+    result("no layout", arrive(2, state, JIBHOTRAN_STATE, old, 26, store, 16, answer, JIBHOTRAN_ANSWER), 2);
+    result("arrive 9", arrive(rfc, state, JIBHOTRAN_STATE, old, 26, store, 16, answer, JIBHOTRAN_ANSWER), 2);
+    result("old arrive 9", arrive(JIBHOTRAN_DRAFTS, state, JIBHOTRAN_STATE, old, 26, store, 16, answer, JIBHOTRAN_ANSWER), 6);
     numbers("state", state, JIBHOTRAN_STATE);
 }
 
 static void parameters(void) {
     const char *text = "DID_SDID={0x41,0x5}; VPID_Code=132";
     octet pairs[4], out[64];
-    result("sdp read", sdp_read((const octet *)text, strlen(text), pairs, 4, answer, 8), 4);
+    result("sdp read", sdp_read((const octet *)text, strlen(text), pairs, 4, answer, JIBHOTRAN_ANSWER), 4);
     octets("pairs", pairs, 2);
-    result("sdp write", sdp_write(pairs, 2, 132, out, 64, answer, 8), 2);
+    result("sdp write", sdp_write(pairs, 2, 132, out, 64, answer, JIBHOTRAN_ANSWER), 2);
     printf("text: %.34s\n", (const char *)out);
-    result("sdp write", sdp_write(pairs, 2, JIBHOTRAN_NO_VPID, out, 64, answer, 8), 2);
+    result("sdp write", sdp_write(pairs, 2, JIBHOTRAN_NO_VPID, out, 64, answer, JIBHOTRAN_ANSWER), 2);
     printf("wanted: %d %d\n", wanted(0x41, 0x05, pairs, 2), wanted(0x41, 0x06, pairs, 2));
     const struct jibhotran_pair row[2] = {{.did = 0x61, .sdid = 0x02}, {.did = 0x41, .sdid = 0x05}};
     printf("wanted of: %d %d %d %d\n", wanted_of(0x41, 0x05, row, 2), wanted_of(0x05, 0x41, row, 2), wanted_of(0x41, 0x05, row, 1),
@@ -114,22 +120,22 @@ static void parameters(void) {
 static void file(void) {
     octet out[24];
     cell back[8];
-    result("file begin", file_begin(out, 24, answer, 8), 2);
-    result("file write", file_write(2501, 3, record_a, 8, out + 5, 19, answer, 8), 2);
+    result("file begin", file_begin(out, 24, answer, JIBHOTRAN_ANSWER), 2);
+    result("file write", file_write(2501, 3, record_a, 8, out + 5, 19, answer, JIBHOTRAN_ANSWER), 2);
     octets("file", out, 24);
-    result("file read", file_read(out, 24, 5, back, 8, answer, 8), 6);
+    result("file read", file_read(out, 24, 5, back, 8, answer, JIBHOTRAN_ANSWER), 6);
     cells("cells", back, 8);
-    result("file read", file_read(out, 24, 24, back, 8, answer, 8), 2);
+    result("file read", file_read(out, 24, 24, back, 8, answer, JIBHOTRAN_ANSWER), 2);
 }
 
 static void lines(void) {
     cell line[10] = {1, 2, 3, 4, 5, 6, 7, 8, 9, 10}, back[8];
-    result("line write", line_write(line, 10, 4, record_a, 8, answer, 8), 2);
-    result("line write", line_write(line, 10, 2, record_a, 8, answer, 8), 2);
+    result("line write", line_write(line, 10, 4, record_a, 8, answer, JIBHOTRAN_ANSWER), 2);
+    result("line write", line_write(line, 10, 2, record_a, 8, answer, JIBHOTRAN_ANSWER), 2);
     cells("line", line, 10);
-    result("line read", line_read(line, 10, 2, 1, 0x7FF, 0xFFF, 1, 127, back, 8, answer, 8), 4);
+    result("line read", line_read(line, 10, 2, 1, 0x7FF, 0xFFF, 1, 127, back, 8, answer, JIBHOTRAN_ANSWER), 4);
     cells("cells", back, 8);
-    result("line read", line_read(line, 10, 2, 2, 0, 0, 0, 0, back, 8, answer, 8), 2);
+    result("line read", line_read(line, 10, 2, 2, 0, 0, 0, 0, back, 8, answer, JIBHOTRAN_ANSWER), 2);
 }
 
 int main(void) {

@@ -98,7 +98,7 @@ fn the_declarations_agree() {
         " -> u8;",
         rust_parameter,
     );
-    assert_eq!(in_c.len(), 13);
+    assert_eq!(in_c.len(), 14);
     assert_eq!(in_c, in_rust);
 }
 

@@ -12,16 +12,25 @@ use reference::random::Random;
 
 /// What each entry gives: 0 for an answer, the papers' numbers, 255 for short
 /// rows, 254 where it is told no layout.
-const GIVEN: [(&str, &[u8]); 17] = [
+const GIVEN: [(&str, &[u8]); 20] = [
     (
         "read",
-        &[0, 1, 2, 3, 4, 5, 6, 7, 8, 9, 10, 11, 12, 13, 14, 16, ROW],
+        &[0, 1, 2, 3, 4, 5, 6, 7, 8, 9, 10, 12, 13, 14, 16, ROW],
     ),
     (
         "read old",
-        &[0, 1, 2, 3, 4, 5, 7, 8, 9, 10, 11, 12, 13, 14, 15, 16, ROW],
+        &[0, 1, 2, 3, 4, 5, 7, 8, 9, 10, 12, 13, 14, 15, 16, ROW],
     ),
     ("read none", &[LAYOUT, ROW]),
+    (
+        "strict",
+        &[0, 1, 2, 3, 4, 5, 6, 7, 8, 9, 10, 11, 12, 13, 14, 16, ROW],
+    ),
+    (
+        "strict old",
+        &[0, 1, 2, 3, 4, 5, 7, 8, 9, 10, 11, 12, 13, 14, 15, 16, ROW],
+    ),
+    ("strict none", &[LAYOUT, ROW]),
     ("write", &[0, 16, 20, 21, 23, 24, ROW]),
     ("write old", &[0, 16, 20, 21, 23, 24, 25, ROW]),
     ("write none", &[LAYOUT, ROW]),
@@ -58,13 +67,14 @@ const INDEXED: [u8; 10] = [9, 10, 11, 12, 15, 16, 20, 41, 42, 43];
 /// The entry with the layout told: that of the drafts is the old one.
 fn under(entries: &[&'static str], call: &Call) -> &'static str {
     match call {
-        Call::Read { layout, .. } | Call::Write { layout, .. } | Call::Arrive { layout, .. } => {
-            match *layout {
-                RFC8331 => entries[0],
-                DRAFTS => entries[1],
-                _ => entries[2],
-            }
-        }
+        Call::Read { layout, .. }
+        | Call::ReadStrict { layout, .. }
+        | Call::Write { layout, .. }
+        | Call::Arrive { layout, .. } => match *layout {
+            RFC8331 => entries[0],
+            DRAFTS => entries[1],
+            _ => entries[2],
+        },
         _ => entries[0],
     }
 }
@@ -118,6 +128,12 @@ fn every_number_is_some_entrys() {
 fn packets_read() {
     let entries = ["read", "read old", "read none"];
     differ(&entries, 101, 300_000, inputs::read);
+}
+
+#[test]
+fn packets_read_strictly() {
+    let entries = ["strict", "strict old", "strict none"];
+    differ(&entries, 111, 300_000, inputs::read_strict);
 }
 
 #[test]

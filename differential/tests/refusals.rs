@@ -228,7 +228,7 @@ fn draft_packets() -> Vec<Octets> {
 fn of_packets(layout: Layout) -> Vec<Refused> {
     let mut table = Vec::new();
     let told = number_of(layout);
-    let read = |octets: Vec<u8>| Call::Read {
+    let read = |octets: Vec<u8>| Call::ReadStrict {
         layout: told,
         octets,
     };
@@ -242,6 +242,15 @@ fn of_packets(layout: Layout) -> Vec<Refused> {
     }
     let octets = parts(layout, &[3, 4]).assemble();
     table.push(refused(14, "22 cells", read(octets), 22, 0));
+    for (number, what, octets, index) in packets(layout) {
+        if number != 11 {
+            let tolerant = Call::Read {
+                layout: told,
+                octets,
+            };
+            table.push(refused(number, what, tolerant, 3_000, index));
+        }
+    }
     table
 }
 

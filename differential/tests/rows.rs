@@ -58,6 +58,7 @@ fn calls() -> Vec<(Call, u8)> {
         let cut = octets[..11].to_vec();
         for (call, number) in [
             both(|octets| read(own, octets), [octets.clone(), cut.clone()], 2),
+            both(|octets| strict(own, octets), [octets.clone(), cut.clone()], 2),
             both(|octets| arrive(own, octets), [octets.clone(), cut], 2),
             both(|payload_type| write(own, payload_type), [112, 128], 24),
         ]
@@ -73,9 +74,10 @@ fn calls() -> Vec<(Call, u8)> {
 fn told(call: &Call, told: u8) -> Call {
     let mut call = call.clone();
     match &mut call {
-        Call::Read { layout, .. } | Call::Write { layout, .. } | Call::Arrive { layout, .. } => {
-            *layout = told
-        }
+        Call::Read { layout, .. }
+        | Call::ReadStrict { layout, .. }
+        | Call::Write { layout, .. }
+        | Call::Arrive { layout, .. } => *layout = told,
         _ => {}
     }
     call
@@ -87,6 +89,10 @@ fn both<T>(call: impl Fn(T) -> Call, [good, bad]: [T; 2], number: u8) -> Vec<(Ca
 
 fn read(layout: u8, octets: Vec<u8>) -> Call {
     Call::Read { layout, octets }
+}
+
+fn strict(layout: u8, octets: Vec<u8>) -> Call {
+    Call::ReadStrict { layout, octets }
 }
 
 fn arrive(layout: u8, octets: Vec<u8>) -> Call {
@@ -217,10 +223,12 @@ fn numbers_that_are_no_layout() {
         ] {
             for call in [
                 read(layout, octets.clone()),
+                strict(layout, octets.clone()),
                 arrive(layout, octets.clone()),
                 write(layout, 112),
                 // Refused in any layout.
                 read(layout, Vec::new()),
+                strict(layout, Vec::new()),
                 arrive(layout, Vec::new()),
                 write(layout, 128),
             ] {

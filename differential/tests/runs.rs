@@ -40,7 +40,7 @@ fn settle<T>(number: u8, answer: &[u64], value: impl Fn() -> T) -> Result<T, Ref
 
 fn archive_read(octets: &[u8], cells: &mut [u16]) -> Result<Summary, Refusal> {
     let mut answer = [0; ANSWER];
-    let number = Archive::read(RFC8331, octets, cells, &mut answer);
+    let number = Archive::read_strict(RFC8331, octets, cells, &mut answer);
     settle(number, &answer, || Summary {
         source: answer[0] as u32,
         payload_type: answer[1] as u8,
@@ -50,6 +50,7 @@ fn archive_read(octets: &[u8], cells: &mut [u16]) -> Result<Summary, Refusal> {
         f: answer[5] as u8,
         records: answer[6] as u8,
         cells: answer[7] as usize,
+        left_out: answer[8] as u8,
     })
 }
 
@@ -243,11 +244,17 @@ fn each_bit_changed() {
         for bit in 0..8 * packet.len() {
             let octets = changed(&packet, bit / 8, 0x80 >> (bit % 8));
             let mut memory = lent(40, 0, &mut r);
-            let call = Call::Read {
-                layout: number_of(layout),
+            let told = number_of(layout);
+            let tolerant = Call::Read {
+                layout: told,
                 octets: octets.clone(),
             };
-            let (number, _) = compare(&call, &memory);
+            compare(&tolerant, &memory);
+            let strict = Call::ReadStrict {
+                layout: told,
+                octets: octets.clone(),
+            };
+            let (number, _) = compare(&strict, &memory);
             if bit >= 8 * (12 + layout.payload_header()) {
                 of_a[number as usize] += 1;
             }

@@ -22,9 +22,17 @@ fn lent(cells: usize, octets: usize) -> Memory {
     Memory::new(lengths, &mut Random::new(701))
 }
 
+/// Read in both ways; the number of the strict one.
 fn read(layout: Layout, octets: Vec<u8>, memory: &Memory) -> u8 {
     let layout = number_of(layout);
-    compare(&Call::Read { layout, octets }, memory).0
+    compare(
+        &Call::Read {
+            layout,
+            octets: octets.clone(),
+        },
+        memory,
+    );
+    compare(&Call::ReadStrict { layout, octets }, memory).0
 }
 
 /// Every number in each place of record A's packet in either layout, told

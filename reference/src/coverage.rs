@@ -79,9 +79,15 @@ pub fn cover(seed: u64, rounds: usize) -> Coverage {
 
 fn cover_packets(r: &mut Random, c: &mut Coverage) {
     let case = read_case(r);
+    let (layout, octets, mut cells) = (case.layout, &case.octets, vec![0; case.room]);
+    let tolerant = packet::read(layout, octets, &mut cells);
+    if tolerant.is_ok_and(|summary| summary.left_out > 0) {
+        *c.answers.entry(("read", "left out")).or_default() += 1;
+    }
+    c.add("read", tolerant);
     c.add(
-        "read",
-        packet::read(case.layout, &case.octets, &mut vec![0; case.room]),
+        "read strict",
+        packet::read_strict(layout, octets, &mut cells),
     );
     let case = write_case(r);
     c.add(

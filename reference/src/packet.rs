@@ -1,6 +1,6 @@
 //! RTP packets with ancillary payload, in both layouts: reader and writer.
 
-use crate::anc::{check_list, check_run, Limits, Run};
+use crate::anc::{check_list, check_run, tolerate_run, Limits, Run};
 use crate::layout::Layout;
 use crate::refusal::Refusal;
 
@@ -22,6 +22,8 @@ pub struct Summary {
     pub f: u8,
     pub records: u8,
     pub cells: usize,
+    /// Records left out for their checksum; 0 in the strict way.
+    pub left_out: u8,
 }
 
 /// What the writer takes with the list.
@@ -48,7 +50,8 @@ impl Summary {
     }
 }
 
-/// An accepted packet: none of 1 to 13, 15 and 16 is given.
+/// A packet that passed: none of 1 to 13, 15 and 16 is given, 11 but in the
+/// strict way.
 #[derive(Clone, Copy, Debug, PartialEq, Eq)]
 pub struct Accepted<'a> {
     pub summary: Summary,
@@ -65,16 +68,33 @@ fn be32(octets: &[u8], at: usize) -> u32 {
     u32::from_be_bytes(octets[at..at + 4].try_into().unwrap())
 }
 
-/// The order of reading: 1, 2 (under 12 octets), 3, 2 (rest), 4, 5, 6, 7, 8;
-/// each ANC packet's 9 to 12, 15 and 16; then 13. Without F there is no 6.
+/// The strict way, which the demands call accepted. The order of reading: 1,
+/// 2 (under 12 octets), 3, 2 (rest), 4, 5, 6, 7, 8; each ANC packet's 9 to 12,
+/// 15 and 16; then 13. Without F there is no 6.
 #[inline]
 pub fn check(layout: Layout, octets: &[u8]) -> Result<Accepted<'_>, Refusal> {
+    examine(layout, octets, check_run)
+}
+
+/// The tolerant way (02, K9): 11 is not given, a record that fails only its
+/// checksum is left out and counted.
+#[inline]
+pub fn tolerate(layout: Layout, octets: &[u8]) -> Result<Accepted<'_>, Refusal> {
+    examine(layout, octets, tolerate_run)
+}
+
+#[inline(always)]
+fn examine<'a>(
+    layout: Layout,
+    octets: &'a [u8],
+    run: impl Fn(Layout, &'a [u8], usize) -> Result<Run<'a>, Refusal>,
+) -> Result<Accepted<'a>, Refusal> {
     let payload = payload(octets).map_err(Refusal::plain)?;
     let Some((head, packets)) = payload.split_at_checked(layout.payload_header()) else {
         return Err(Refusal::plain(5));
     };
     let length = be16(head, 2);
-    let records = head[4];
+    let count = head[4];
     let f = match layout {
         Layout::Rfc8331 => head[5] >> 6,
         Layout::Draft2015 => 0,
@@ -85,10 +105,10 @@ pub fn check(layout: Layout, octets: &[u8]) -> Result<Accepted<'_>, Refusal> {
     if length != packets.len() {
         return Err(Refusal::plain(7));
     }
-    if records == 0 && length != 0 {
+    if count == 0 && length != 0 {
         return Err(Refusal::plain(8));
     }
-    let run = check_run(layout, packets, records as usize)?;
+    let run = run(layout, packets, count as usize)?;
     if run.octets() != packets.len() {
         return Err(Refusal::plain(13));
     }
@@ -99,8 +119,9 @@ pub fn check(layout: Layout, octets: &[u8]) -> Result<Accepted<'_>, Refusal> {
         number: (be16(head, 0) << 16 | be16(octets, 2)) as u32,
         timestamp: be32(octets, 4),
         f,
-        records,
+        records: run.records() as u8,
         cells: run.cells(),
+        left_out: run.left_out() as u8,
     };
     Ok(Accepted { summary, run })
 }
@@ -144,10 +165,18 @@ fn extension(octets: &[u8], at: usize) -> Result<usize, u8> {
     }
 }
 
-/// Reads a packet and puts its records into lent cells: 1 to 13, 15 and 16,
-/// then 14.
+/// Reads a packet in the tolerant way and puts the records that come through
+/// into lent cells: 1 to 10, 12, 13, 15 and 16, then 14.
 #[inline]
 pub fn read(layout: Layout, octets: &[u8], cells: &mut [u16]) -> Result<Summary, Refusal> {
+    let passed = tolerate(layout, octets)?;
+    passed.run.read(cells)?;
+    Ok(passed.summary)
+}
+
+/// The same in the strict way: 1 to 13, 15 and 16, then 14.
+#[inline]
+pub fn read_strict(layout: Layout, octets: &[u8], cells: &mut [u16]) -> Result<Summary, Refusal> {
     let accepted = check(layout, octets)?;
     accepted.run.read(cells)?;
     Ok(accepted.summary)

@@ -30,9 +30,10 @@ pub struct Sides<R, W> {
     pub write: W,
 }
 
-/// The text of the reference's reader and writer.
+/// The text of the reference's strict reader and its writer.
 pub fn reference_text() -> String {
-    let read = |octets: &[u8], cells: &mut [u16]| packet::read(Layout::Rfc8331, octets, cells);
+    let read =
+        |octets: &[u8], cells: &mut [u16]| packet::read_strict(Layout::Rfc8331, octets, cells);
     let write = |head: &Head, cells: &[u16], out: &mut [u8]| {
         packet::write(Layout::Rfc8331, head, cells, out)
     };

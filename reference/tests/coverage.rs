@@ -8,11 +8,13 @@ const INDEXED: [u8; 10] = [9, 10, 11, 12, 15, 16, 20, 41, 42, 43];
 #[test]
 fn every_number_is_reached() {
     let coverage = cover(1, 8_000);
-    let reads: Vec<u8> = (0..=16).collect();
+    let strict: Vec<u8> = (0..=16).collect();
+    let reads: Vec<u8> = (0..=10).chain(12..=16).collect();
     let arrivals: Vec<u8> = (0..=13).chain([15, 16, 30, 31, 32, 35]).collect();
     let frames: Vec<u8> = (2..=13).chain([0, 15, 16, 30, 31, 32]).collect();
-    let expected: [(&str, &[u8]); 12] = [
+    let expected: [(&str, &[u8]); 13] = [
         ("read", &reads),
+        ("read strict", &strict),
         ("write", &[0, 16, 20, 21, 23, 24, 25]),
         ("arrive", &arrivals),
         ("frames", &frames),
@@ -42,6 +44,7 @@ fn every_number_is_reached() {
             .filter(|(e, n, _)| *e == entry && !numbers.contains(n));
         assert_eq!(others.count(), 0, "{entry}");
     }
+    assert!(coverage.answers[&("read", "left out")] > 100);
     for answer in ["skipped", "held", "mixed", "overfull", "whole"] {
         for entry in ["arrive", "frames"] {
             assert!(

@@ -1,5 +1,6 @@
 //! The layout of the drafts of 2015 by hand (02, K3): its examples, every
-//! refusal that differs from RFC 8331's with its index, and its borders.
+//! refusal that differs from RFC 8331's with its index, and its borders, in
+//! the strict way.
 
 use reference::anc::check_run;
 use reference::depacketizer::{arrive, open, Answer, State};
@@ -33,7 +34,7 @@ fn parts(counts: &[u16]) -> Parts {
 
 fn read(octets: &[u8], room: usize) -> Option<(u8, usize)> {
     let mut cells = vec![0x5A5A; room];
-    let Err(Refusal { number, index }) = packet::read(OLD, octets, &mut cells) else {
+    let Err(Refusal { number, index }) = packet::read_strict(OLD, octets, &mut cells) else {
         return None;
     };
     assert!(cells.iter().all(|&cell| cell == 0x5A5A));

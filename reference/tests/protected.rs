@@ -26,10 +26,14 @@ fn pair<T>(answer: Result<T, Refusal>) -> Option<(u8, usize)> {
     answer.err().map(|refusal| (refusal.number, refusal.index))
 }
 
+/// The strict way's refusal. The tolerant way gives the same but for 11.
 fn read(parts: &Parts) -> Option<(u8, usize)> {
     let mut cells = vec![0x5A5A; 1_000];
-    let refusal = pair(packet::read(parts.layout, &parts.assemble(), &mut cells));
+    let octets = parts.assemble();
+    let refusal = pair(packet::read_strict(parts.layout, &octets, &mut cells));
     assert!(refusal.is_none() || cells.iter().all(|&cell| cell == 0x5A5A));
+    let tolerant = pair(packet::read(parts.layout, &octets, &mut cells));
+    assert!(tolerant == refusal || refusal.is_some_and(|(number, _)| number == 11));
     refusal
 }
 

@@ -1,5 +1,6 @@
 //! Every refusal number by hand, with its index and unchanged lent memory, in
-//! RFC 8331's layout; `old.rs` has the other.
+//! RFC 8331's layout and the strict way; `old.rs` has the other layout,
+//! `tolerant.rs` the other way.
 
 use reference::depacketizer::{arrive, open, Answer, State, FILLING, LOST, READY};
 use reference::file::Version;
@@ -31,7 +32,7 @@ fn parts(counts: &[u16]) -> Parts {
 
 fn read(octets: &[u8], room: usize) -> Option<(u8, usize)> {
     let mut cells = vec![0x5A5A; room];
-    let answer = packet::read(LAYOUT, octets, &mut cells);
+    let answer = packet::read_strict(LAYOUT, octets, &mut cells);
     let Err(Refusal { number, index }) = answer else {
         return None;
     };

@@ -98,7 +98,7 @@ fn checksum_ok(layout: Layout, octets: &[u8], n: usize, sum: u16) -> bool
 }
 
 // The bits behind the first `body` are zero. They stand last in the last four of the `size` octets.
-fn zero_end(octets: &[u8], body: usize, size: OctetCount) -> bool
+pub fn zero_end(octets: &[u8], body: usize, size: OctetCount) -> bool
     requires { ⌜ (4 ≤ size .0) × (size .0 ≤ length (now octets)) × (8 * size .0 < 2 ^ 64) ⌝ }
     requires { ⌜ (body ≤ 8 * size .0) × (8 * size .0 < body + 32) ⌝ }
     ensures { λ r. ⌜ r ≡ zeroBits (now (octets .entry)) body (8 * size .0) ⌝ }

@@ -10,8 +10,8 @@ use Rattle.sdp.specs.declared.parameters.Parameters.{Parameters}
 use Rattle.sdp.specs.declared.parameters.Vpid.{Vpid}
 use Rattle.sdp.specs.declared.parameters.Vpid.the-variants as vpid
 use Rattle.rtp.specs.declared.packet.Summary.{Summary}
-use Rattle.rtp.specs.declared.packet.Read.{Read}
-use Rattle.rtp.specs.declared.packet.Read.the-variants as read
+use Rattle.reader.specs.declared.packet.TolerantRead.{TolerantRead}
+use Rattle.reader.specs.declared.packet.TolerantRead.the-variants as read
 use Rattle.wire.specs.declared.written.Written.{Written}
 use Rattle.wire.specs.declared.written.Written.the-variants as written
 use Rattle.stream.specs.declared.state.Answer.{Answer}
@@ -29,7 +29,7 @@ use Rattle.sdi_line.specs.declared.answer.ReadLine.the-variants as readLine
 
 -- numbers that an answer needs
 abbrev pub answerSize : ℕ
-answerSize = 8
+answerSize = 9
 
 -- the number that refuses a shorter row
 abbrev pub rowTooShort : ℕ
@@ -56,9 +56,9 @@ sizeReply n = acceptedReply (n ∷ [])
 abbrev pub rowReply : Reply
 rowReply = record { number = rowTooShort; row = [] }
 
--- what a packet says: source, payload type, marker, packet number, timestamp, F, records, cells
-abbrev pub summaryRow : Summary → List ℕ
-summaryRow s =
+-- what a packet says: source, payload type, marker, packet number, timestamp, F, records, cells; and how many records were left out (02, K9)
+abbrev pub summaryRow : Summary → ℕ → List ℕ
+summaryRow s omitted =
     s .head .source
     ∷ s .head .«payload_type»
     ∷ bit (s .head .marker)
@@ -67,12 +67,13 @@ summaryRow s =
     ∷ s .head .f
     ∷ s .records
     ∷ s .cells
+    ∷ omitted
     ∷ []
 
 -- a packet read
-abbrev pub packetReply : Read → Reply
+abbrev pub packetReply : TolerantRead → Reply
 packetReply (read.Refused x) = refusedReply x
-packetReply (read.Packet s) = acceptedReply (summaryRow s)
+packetReply (read.Packet s omitted) = acceptedReply (summaryRow s omitted)
 
 -- octets written: how many
 abbrev pub writtenReply : Written → Reply

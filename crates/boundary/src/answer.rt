@@ -9,7 +9,7 @@ use crate::row::refuse;
 use fieldfile::field::FieldRead;
 use fieldfile::field::Summary as FieldSummary;
 use fmtp::Reading;
-use rtp::packet::Read;
+use reader::packet::TolerantRead;
 use rtp::packet::Summary;
 use sdi_line::answer::ReadLine;
 use sdi_line::answer::WrittenLine;
@@ -32,10 +32,10 @@ const OVERFULL: u64 = 3;
 
 const WHOLE: u64 = 4;
 
-// Source, payload type, marker, packet number, timestamp, F, records, cells.
-fn put_summary(summary: Summary, answer: &mut [u64])
+// Source, payload type, marker, packet number, timestamp, F, records, cells, records left out.
+fn put_summary(summary: Summary, omitted: u8, answer: &mut [u64])
     requires { ⌜ answerSize ≤ length (now answer) ⌝ }
-    ensures { λ r. ⌜ now (answer .exit) ≡ overwrite (summaryRow summary) (now (answer .entry)) ⌝ }
+    ensures { λ r. ⌜ now (answer .exit) ≡ overwrite (summaryRow summary omitted) (now (answer .entry)) ⌝ }
 {
     let head = summary.head;
     let number = head.number;
@@ -49,20 +49,21 @@ fn put_summary(summary: Summary, answer: &mut [u64])
         head.f as u64,
         summary.records as u64,
         summary.cells as u64,
+        omitted as u64,
     ];
     put(&values, answer);
 }
 
 // A packet read.
-pub fn reply_read(read: Read, answer: &mut [u64]) -> u8
+pub fn reply_read(read: TolerantRead, answer: &mut [u64]) -> u8
     requires { ⌜ answerSize ≤ length (now answer) ⌝ }
     ensures { λ r. ⌜ r ≡ packetReply read .number ⌝ }
     ensures { λ r. ⌜ now (answer .exit) ≡ overwrite (packetReply read .row) (now (answer .entry)) ⌝ }
 {
     match read {
-        Read::Refused(refusal) => refuse(refusal, answer),
-        Read::Packet(summary) => {
-            put_summary(summary, answer);
+        TolerantRead::Refused(refusal) => refuse(refusal, answer),
+        TolerantRead::Packet { summary, omitted } => {
+            put_summary(summary, omitted, answer);
             ACCEPTED
         }
     }

@@ -9,31 +9,31 @@ use Rattle.state_row.specs.declared.state.Restored.the-variants as restored
 use Rattle.state_row.specs.State.{isState, stateIn}
 use Rattle.capi.specs.Calls.{arrive, openNumbers, openReply, readReply, vpidOf}
 
--- an answer of seven numbers, and a state of eleven
-short-answer : readReply 2 [] [] (replicate 7 0) ≡ record { number = 255; row = [] }
+-- an answer of eight numbers, and a state of eleven
+short-answer : readReply 2 [] [] (replicate 8 0) ≡ record { number = 255; row = [] }
 short-answer = refl
 
 -- 2 is no layout
-no-layout : readReply 2 [] [] (replicate 8 0) ≡ record { number = 254; row = [] }
+no-layout : readReply 2 [] [] (replicate 9 0) ≡ record { number = 254; row = [] }
 no-layout = refl
 
-short-state : openReply 5 100 (replicate 11 0) (replicate 8 0) ≡ record { number = 255; row = [] }
+short-state : openReply 5 100 (replicate 11 0) (replicate 9 0) ≡ record { number = 255; row = [] }
 short-state = refl
 
 -- a payload type over 127
-type-over : openReply 5 128 (replicate 12 0) (replicate 8 0) ≡ record { number = 24; row = 0 ∷ [] }
+type-over : openReply 5 128 (replicate 12 0) (replicate 9 0) ≡ record { number = 24; row = 0 ∷ [] }
 type-over = refl
 
 -- a state just opened is written, and read back
-opened : openNumbers 5 100 (replicate 12 1) (replicate 8 0) ≡ 5 ∷ 100 ∷ 0 ∷ 0 ∷ 0 ∷ 0 ∷ 0 ∷ 0 ∷ 0 ∷ 0 ∷ 0 ∷ 0 ∷ []
+opened : openNumbers 5 100 (replicate 12 1) (replicate 9 0) ≡ 5 ∷ 100 ∷ 0 ∷ 0 ∷ 0 ∷ 0 ∷ 0 ∷ 0 ∷ 0 ∷ 0 ∷ 0 ∷ 0 ∷ []
 opened = refl
 
-read-back : stateIn (openNumbers 5 100 (replicate 12 1) (replicate 8 0)) ≡ restored.State (openState 5 100)
+read-back : stateIn (openNumbers 5 100 (replicate 12 1) (replicate 9 0)) ≡ restored.State (openState 5 100)
 unfolding isState
 read-back = refl
 
 -- heard 2, and a source over 32 bits, are in no state
-heard-2 : arrive 1 (5 ∷ 100 ∷ 0 ∷ 2 ∷ replicate 8 0) [] [] (replicate 8 0) .reply ≡ record { number = 35; row = 0 ∷ [] }
+heard-2 : arrive 1 (5 ∷ 100 ∷ 0 ∷ 2 ∷ replicate 8 0) [] [] (replicate 9 0) .reply ≡ record { number = 35; row = 0 ∷ [] }
 unfolding isState
 heard-2 = refl
 

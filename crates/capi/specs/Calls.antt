@@ -11,6 +11,8 @@ use Rattle.wire.specs.Writing.{writeContent}
 use Rattle.wire.specs.Written.{octetsAfter, writtenOf}
 use Rattle.rtp.specs.declared.packet.Head.{Head}
 use Rattle.rtp.specs.Answers as rtp
+use Rattle.tolerant.specs.Tolerant.{tolerateInto}
+use Rattle.reader.specs.Answers as reader
 use Rattle.packetizer.specs.Answers as packetizer
 use Rattle.depacketizer.specs.declared.state.Opened.{Opened}
 use Rattle.depacketizer.specs.declared.state.Opened.the-variants as opened
@@ -50,14 +52,24 @@ layoutUnknown = 254
 abbrev pub layoutReply : Reply
 layoutReply = record { number = layoutUnknown; row = [] }
 
--- `jibhotran_read`: its reply
+-- `jibhotran_read`, the tolerant way (02, K9): its reply
 abbrev pub readReply : (layout : ℕ) (octets cells answer : List ℕ) → Reply
 readReply layout octets cells answer =
-    given answer (cond (isLayout layout) (packetReply (rtp.readOf (readInto (layoutOf layout) octets (length cells)))) layoutReply) rowReply
+    given answer (cond (isLayout layout) (packetReply (reader.tolerantOf (tolerateInto (layoutOf layout) octets (length cells)))) layoutReply) rowReply
 
 -- the cells then
 abbrev pub readCells : (layout : ℕ) (octets cells answer : List ℕ) → List ℕ
 readCells layout octets cells answer =
+    given answer (cond (isLayout layout) (reader.throughAfter (tolerateInto (layoutOf layout) octets (length cells)) cells) cells) cells
+
+-- `jibhotran_read_strict`: its reply
+abbrev pub strictReply : (layout : ℕ) (octets cells answer : List ℕ) → Reply
+strictReply layout octets cells answer =
+    given answer (cond (isLayout layout) (packetReply (reader.strictOf (rtp.readOf (readInto (layoutOf layout) octets (length cells))))) layoutReply) rowReply
+
+-- the cells then
+abbrev pub strictCells : (layout : ℕ) (octets cells answer : List ℕ) → List ℕ
+strictCells layout octets cells answer =
     given answer (cond (isLayout layout) (rtp.cellsAfter (readInto (layoutOf layout) octets (length cells)) cells) cells) cells
 
 -- the six values beside a packet's records; a marker other than 0 marks it

@@ -1,7 +1,7 @@
 // How long the caller's rows must be. A call refuses a shorter one before all else.
 
 // Numbers that an answer needs.
-pub(crate) const ANSWER_SIZE: usize = 8;
+pub(crate) const ANSWER_SIZE: usize = 9;
 
 // Numbers that a state needs.
 pub(crate) const STATE_SIZE: usize = 12;

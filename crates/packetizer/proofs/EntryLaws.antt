@@ -1,4 +1,4 @@
--- Demand 2, of what `write` and `read` take and return: what is written reads back, and when rewriting gives the same octets.
+-- Demand 2, of what `write` and `read_strict` take and return: what is written reads back, and when rewriting gives the same octets.
 -- From the same of what a packet says, and that the six values go there and back.
 use mathlib.Core.Path.{_≡_, refl, ap, ap₂, sym, _∙_}
 use mathlib.Core.Bool.{true}
@@ -93,7 +93,7 @@ module _ (L : Layout) where
     fits-types : HeadFits (contentOf h)
     fits-types = record { marker = bit-lt (h .marker); number = typed .number; timestamp = typed .timestamp; source = typed .source }
 
-    -- "Writing records and reading them gives the same records.": the octets that `write` left, given to `read` with a list that is long
+    -- "Writing records and reading them gives the same records.": the octets that `write` left, given to `read_strict` with a list that is long
     -- enough, return the six values that `write` was given, and leave its cells.
     pub written-read : (lent : List ℕ) → length cells ≤ length lent
         → (rs : List Record) × (cells ≡ listOf rs)
@@ -125,7 +125,7 @@ module _ (L : Layout) where
       ap (λ r. writtenOf (r then λ rs. accepted (contentOctets L (withRecords (contentOf h) rs)))) records
       ∙ ap (λ (x : ℕ). written.Octets (record { 0 = x })) size
 
-  -- a packet that `read` returned, and the cells that it left
+  -- a packet that `read_strict` returned, and the cells that it left
   module _ (s : List ℕ) (below : Below 256 s) (lent : List ℕ) (m : Summary) (e : readReturns L s lent ≡ read.Packet m) where
     abbrev pub cellsRead : List ℕ
     cellsRead = take (m .cells) (readLeaves L s lent)
@@ -150,7 +150,7 @@ module _ (L : Layout) where
         ap₂ (λ (x : Content) (y : List ℕ). writeContent L x y room) head cells-are
 
     -- "Rewriting an accepted packet whose list fits the writer gives the same octets exactly when it had no padding, extension or
-    -- contributing sources, and zero reserved bits.": what `read` returned and left, given to `write`.
+    -- contributing sources, and zero reserved bits.": what `read_strict` returned and left, given to `write`.
     pub rewritten-iff : (out : List ℕ) (n : OctetCount) → writeReturns L (m .head) cellsRead out ≡ written.Octets n
         → (take (n .0) (writeLeaves L (m .head) cellsRead out) ≡ s) ↔ BareOctets L s
     unfolding writeContent

@@ -1,4 +1,4 @@
--- Demand 2, of what `read` takes and returns: which octets are accepted, and what is then returned and left.
+-- Demand 2, of what `read_strict` takes and returns: which octets are accepted, and what is then returned and left.
 -- From `acceptance`, with the six values taken one by one and 14 last.
 use mathlib.Core.Path.{_≡_, refl, ap, sym, _∙_, subst}
 use mathlib.Core.Bool.{Bool, true, false}

@@ -1,4 +1,4 @@
--- What the entry point `read` returns and leaves, and what that says of a packet (demand 2: "the records are the ones they define").
+-- What the entry point `read_strict` returns and leaves, and what that says of a packet (demand 2: "the records are the ones they define").
 use mathlib.Core.Path.{_≡_}
 use mathlib.Core.List.{List}
 use Prim.Native.Nat.{ℕ, _+_, _*_, _≤_}
@@ -11,7 +11,7 @@ use Rattle.rtp.specs.declared.packet.Summary.{Summary}
 use Rattle.rtp.specs.declared.packet.Read.{Read}
 use Rattle.rtp.specs.Answers.{readOf, cellsAfter}
 
--- what `read` returns for these octets, in the layout that it is told, and this lent list
+-- what `read_strict` returns for these octets, in the layout that it is told, and this lent list
 abbrev pub readReturns : Layout → (octets cells : List ℕ) → Read
 readReturns L s cells = readOf (readInto L s (length cells))
 

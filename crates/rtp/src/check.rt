@@ -31,7 +31,7 @@ use words::octet::quad_at;
 use words::octet::wide;
 
 // The six values of a packet whose payload header stands at `header`.
-fn head_at(layout: Layout, octets: &[u8], header: OctetCount) -> Head
+pub fn head_at(layout: Layout, octets: &[u8], header: OctetCount) -> Head
     requires { ⌜ (header .0 ≡ headerSize (now octets)) × (headerLeast ≤ header .0) × (header .0 + payloadHeaderSize layout ≤ length (now octets)) ⌝ }
     ensures { λ r. ⌜ r ≡ headAt layout (now (octets .entry)) ⌝ }
 {

@@ -1,6 +1,7 @@
 // RTP packets with ANC payload (RFC 3550, section 5.1; RFC 8331): what they say, and the reader.
 //
-// `read` is the entry point, and `check::check` is `read` without the writing. The writer is crate `packetizer`.
+// `read_strict` is the strict entry point, and `check::check` is the same without the writing; the tolerant one is `reader::read` (02, K9). The writer
+// is crate `packetizer`.
 ghost use mathlib.Core.Path.{_≡_};
 ghost use Rattle.rtp.specs.Entry.{readLeaves, readReturns};
 
@@ -16,8 +17,8 @@ use packet::Read;
 use wire::layout::Layout;
 use wire::refusal::Refusal;
 
-// Reads a packet of the layout: its records into the first cells, and what stands beside them.
-pub fn read(layout: Layout, octets: &[u8], cells: &mut [u16]) -> Read
+// Reads a packet of the layout in the strict way: its records into the first cells, and what stands beside them.
+pub fn read_strict(layout: Layout, octets: &[u8], cells: &mut [u16]) -> Read
     ensures { λ r. ⌜ r ≡ readReturns layout (now (octets .entry)) (now (cells .entry)) ⌝ }
     ensures { λ r. ⌜ now (cells .exit) ≡ readLeaves layout (now (octets .entry)) (now (cells .entry)) ⌝ }
 {

@@ -22,7 +22,7 @@ use words::octet::pair_at;
 use words::octet::wide;
 
 // The octets of the RTP header with its sources and extension; more than there are where it is cut.
-fn header_size(octets: &[u8]) -> OctetCount
+pub fn header_size(octets: &[u8]) -> OctetCount
     requires { ⌜ headerLeast ≤ length (now octets) ⌝ }
     ensures { λ r. ⌜ SizeFound (now (octets .entry)) (r .0) ⌝ }
 {

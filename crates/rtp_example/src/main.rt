@@ -29,7 +29,7 @@ fn print_head(head: Head) {
 // Reads a packet and prints what it says.
 fn read_back(layout: Layout, octets: &[u8]) {
     let mut cells = [0u16; 32];
-    let read = rtp::read(layout, octets, &mut cells);
+    let read = rtp::read_strict(layout, octets, &mut cells);
     match read {
         Read::Refused(refusal) => print_refusal(refusal),
         Read::Packet(summary) => {

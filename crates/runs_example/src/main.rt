@@ -69,7 +69,7 @@ fn sum(cells: &[u16]) -> u16 {
 
 // Reads a packet and prints what was read.
 fn read_back(octets: &[u8], cells: &mut [u16]) {
-    let read = rtp::read(Layout::Rfc8331, octets, cells);
+    let read = rtp::read_strict(Layout::Rfc8331, octets, cells);
     match read {
         Read::Refused(refusal) => print_refusal(refusal),
         Read::Packet(summary) => {

@@ -1,5 +1,6 @@
 -- An ANC data packet is accepted exactly where the octets of a well-formed record stand, and so is a run of them.
--- Octets that pass the checks read as the fields of their record, and back; `packed` takes fields read to octets.
+-- Octets that pass the checks, but for the checksum's, read as the fields of their record with some word in its place, and back; `packed` takes
+-- fields read to octets.
 use mathlib.Core.Path.{_≡_, refl, ap, ap₂, sym, _∙_, subst}
 use mathlib.Core.Bool.{Bool, true}
 use mathlib.Core.Logic.{_↔_}
@@ -7,7 +8,7 @@ use mathlib.Core.List.{List, [], _∷_, _++_, nil≢cons, append-assoc, cons-eq-
 use Prim.Native.Nat.{ℕ, zero, suc, _+_, _*_, _%_, _^_, _<_, _≤_}
 use native.Mathlib.Nat.{mod-lt, zero-add, suc-inj}
 use native.Mathlib.Omega.{arith}
-use lib.Dec.{leb, lit<}
+use lib.Dec.{eqb, leb, lit<}
 use lib.ListN.{length, take, drop, length-append, length-take, take-append-drop}
 use lib.Seq.{take-at, drop-at}
 use lib.Pow.{pow-pos}
@@ -16,9 +17,9 @@ use Rattle.wire.specs.Bits.{num, bitsAt, rowAt, Fields, row, width, Fit,
 use Rattle.wire.specs.Words.{wordBits, headerNumbers, headerWord, isHeaderWord, sumLow, checksumWord, allClear}
 use Rattle.wire.specs.Layout.{Layout, rfc8331, sBits, streamBits, rBits, alignment, leastSize}
 use Rattle.wire.specs.Result.{accepted}
-use Rattle.wire.specs.Anc.{Each, Record, InRange, WellFormed, checksum, headerFields, bodyFields, padding, ancFields, ancOctets, runOctets, bodyBits, ancSize, didAt, wordsAt, dataCount, ancRecord, headersOk, rOk, wordsOk, checksumOk, alignmentOk, ancChecks, readAnc, behind, readRun, runSize}
+use Rattle.wire.specs.Anc.{Each, Record, InRange, WellFormed, checksum, headerFields, bodyFieldsWith, padding, ancFieldsWith, ancOctetsWith, ancOctets, runOctets, bodyBits, ancSize, didAt, wordsAt, dataCount, ancRecord, headersOk, rOk, wordsOk, sumField, checksumOk, alignmentOk, ancChecks, readAnc, behind, readRun, runSize}
 use Rattle.wire.proofs.BitLaws.{Reads, packed, unpacked, reads-append, width-row, length-rowAt, reads-rowAt, rowAt-reads, below-drop, below-octets, below-append, fit-append}
-use Rattle.wire.proofs.SizeLaws.{width-body, width-anc, length-anc, least-size}
+use Rattle.wire.proofs.SizeLaws.{width-body, width-with, length-with, length-anc, least-size}
 use Rattle.wire.proofs.WordLaws.{header-mod, header-lt, header-passes, checksum-lt}
 use Rattle.wire.proofs.ResultLaws.{Numbered, numbers, judge-numbered, then-numbered, Passed, accepted-inj, judge-accepts, judge-passes, then-accepts, and-true, and-both}
 
@@ -27,82 +28,115 @@ fit-row : (w : ℕ) (vs : List ℕ) → Fit (row w vs) ↔ Below (2 ^ w) vs
 fit-row w [] = (λ h. tt, λ h. tt)
 fit-row w (v ∷ vs) = let ih = fit-row w vs in (λ h. (h .0, ih .0 (h .1)), λ h. (h .0, ih .1 (h .1)))
 
-module _ (L : Layout) (r : Record) where
+module _ (L : Layout) (r : Record) (word : ℕ) where
   abbrev sumFields : Fields
-  sumFields = (wordBits, checksum r) ∷ []
+  sumFields = (wordBits, word) ∷ []
 
   abbrev wordFields : Fields
   wordFields = row wordBits (r .words) ++ sumFields
 
-  -- the fields of a record whose numbers are in range fit
-  pub fit-anc : InRange L r → Fit (ancFields L r)
-  fit-anc h =
+  -- the fields of a record whose numbers are in range fit, with any ten-bit word in the checksum's place
+  fit-with : InRange L r → word < 2 ^ wordBits → Fit (ancFieldsWith L r word)
+  fit-with h w =
       let head : Fit (headerFields L r) =
       omega (arith, header-lt _ (h .did), header-lt _ (h .sdid), header-lt _ (h .count), pow-pos (rBits L)) in
-      let words : Fit wordFields = fit-append (row wordBits (r .words)) sumFields .1 (fit-row wordBits (r .words) .1 (h .words), (checksum-lt _, tt)) in
-      fit-append (bodyFields L r) _ .1 (fit-append (headerFields L r) wordFields .1 (head, words), (pow-pos _, tt))
+      let words : Fit wordFields = fit-append (row wordBits (r .words)) sumFields .1 (fit-row wordBits (r .words) .1 (h .words), (w, tt)) in
+      fit-append (bodyFieldsWith L r word) _ .1 (fit-append (headerFields L r) wordFields .1 (head, words), (pow-pos _, tt))
 
   -- its numbers are in range if its fields fit and its header words carry eight-bit numbers
-  pub formed-anc : Fit (ancFields L r) → r .did < headerNumbers → r .sdid < headerNumbers → length (r .words) < headerNumbers → InRange L r
-  formed-anc h d sd n =
-      let b = fit-append (headerFields L r) wordFields .0 (fit-append (bodyFields L r) _ .0 h .0) in
+  formed-with : Fit (ancFieldsWith L r word) → r .did < headerNumbers → r .sdid < headerNumbers → length (r .words) < headerNumbers
+      → InRange L r × (word < 2 ^ wordBits)
+  formed-with h d sd n =
+      let b = fit-append (headerFields L r) wordFields .0 (fit-append (bodyFieldsWith L r word) _ .0 h .0) in
       let g = b .0 in
-      record {
-        c = g .0;
-        line = g .1 .0;
-        offset = g .1 .1 .0;
-        s = g .1 .1 .1 .0;
-        stream = g .1 .1 .1 .1 .0;
-        did = d;
-        sdid = sd;
-        count = n;
-        words = fit-row wordBits (r .words) .0 (fit-append (row wordBits (r .words)) sumFields .0 (b .1) .0);
-      }
+      let w = fit-append (row wordBits (r .words)) sumFields .0 (b .1) in (
+        record {
+          c = g .0;
+          line = g .1 .0;
+          offset = g .1 .1 .0;
+          s = g .1 .1 .1 .0;
+          stream = g .1 .1 .1 .1 .0;
+          did = d;
+          sdid = sd;
+          count = n;
+          words = fit-row wordBits (r .words) .0 (w .0);
+        },
+        w .1 .0,
+      )
 
 module _ (L : Layout) (s : List ℕ) where
+  -- every check of a packet passes but 11's, of which nothing is said
+  pub record Sound : Type 0 where
+    pub least : leb (leastSize L) (length s) ≡ true
+    pub headers : headersOk L s ≡ true
+    pub whole : leb (ancSize L (dataCount L s)) (length s) ≡ true
+    pub quiet : rOk L s ≡ true
+    pub clear : wordsOk L s ≡ true
+    pub zeros : alignmentOk L s ≡ true
+
+  pub sound-passed : Passed (ancChecks L s) ↔ (Sound × (checksumOk L s ≡ true))
+  unfolding ancChecks
+  sound-passed = (
+    λ p. (record { least = search; headers = search; whole = search; quiet = search; clear = search; zeros = search }, search),
+    λ p.
+        let g = p .0 in
+        (g .least, (g .headers, (g .whole, (g .quiet, (g .clear, (p .1, (g .zeros, tt))))))),
+  )
+
+  -- the header words of octets that pass 10 are those of their record
+  header-reads : headersOk L s ≡ true
+      → (bitsAt s (didAt L) wordBits ≡ headerWord (ancRecord L s .did))
+      × (bitsAt s (didAt L + wordBits) wordBits ≡ headerWord (ancRecord L s .sdid))
+      × (bitsAt s (didAt L + wordBits + wordBits) wordBits ≡ headerWord (length (ancRecord L s .words)))
+  unfolding ancRecord headersOk rowAt
+  header-reads headers =
+      let n = dataCount L s in
+      let h1 = and-true (isHeaderWord (bitsAt s (didAt L) wordBits)) _ headers in
+      let h2 = and-true (isHeaderWord (bitsAt s (didAt L + wordBits) wordBits)) _ (h1 .1) in
+      let h3 = and-true (isHeaderWord (bitsAt s (didAt L + wordBits + wordBits) wordBits)) _ (h2 .1) in (
+        eqb-true (bitsAt s (didAt L) wordBits) (headerWord (ancRecord L s .did)) (h1 .0),
+        eqb-true (bitsAt s (didAt L + wordBits) wordBits) (headerWord (ancRecord L s .sdid)) (h2 .0),
+        eqb-true (bitsAt s (didAt L + wordBits + wordBits) wordBits) (headerWord n) (h3 .0) ∙ ap headerWord (sym (length-rowAt wordBits s (wordsAt L) n)),
+      )
+
+  -- 11 is given exactly where the word in the checksum's place is not the record's own
+  pub own-word : headersOk L s ≡ true → checksumOk L s ≡ eqb (sumField L s) (checksum (ancRecord L s))
+  unfolding ancRecord checksumOk rowAt
+  own-word headers =
+      let e = header-reads headers in
+      λ i. eqb (sumField L s) (checksumWord (sumLow (e .0 i ∷ e .1 i ∷ e .2 i ∷ ancRecord L s .words)))
+
   -- octets that pass are long enough, and read as the fields of their record
-  passed-reads : Passed (ancChecks L s)
-      → (ancSize L (dataCount L s) ≤ length s) × (length (ancRecord L s .words) ≡ dataCount L s) × Reads s 0 (ancFields L (ancRecord L s))
-  unfolding ancChecks ancRecord headersOk rOk wordsOk checksumOk alignmentOk rowAt
-  passed-reads p =
+  sound-reads : Sound
+      → (ancSize L (dataCount L s) ≤ length s) × (length (ancRecord L s .words) ≡ dataCount L s) × Reads s 0 (ancFieldsWith L (ancRecord L s) (sumField L s))
+  unfolding ancRecord rOk alignmentOk rowAt
+  sound-reads g =
       let r = ancRecord L s in
       let n = dataCount L s in
       let w = r .words in
       let lw : length w ≡ n = length-rowAt wordBits s (wordsAt L) n in
-      let headers : headersOk L s ≡ true = search in
-      let quiet : rOk L s ≡ true = search in
-      let sums : checksumOk L s ≡ true = search in
-      let zeros : alignmentOk L s ≡ true = search in
-      let h1 = and-true (isHeaderWord (bitsAt s (didAt L) wordBits)) _ headers in
-      let h2 = and-true (isHeaderWord (bitsAt s (didAt L + wordBits) wordBits)) _ (h1 .1) in
-      let h3 = and-true (isHeaderWord (bitsAt s (didAt L + wordBits + wordBits) wordBits)) _ (h2 .1) in
-      let e1 = eqb-true (bitsAt s (didAt L) wordBits) (headerWord (r .did)) (h1 .0) in
-      let e2 = eqb-true (bitsAt s (didAt L + wordBits) wordBits) (headerWord (r .sdid)) (h2 .0) in
-      let e3 : bitsAt s (didAt L + wordBits + wordBits) wordBits ≡ headerWord (length w) =
-      eqb-true (bitsAt s (didAt L + wordBits + wordBits) wordBits) (headerWord n) (h3 .0) ∙ ap headerWord (sym lw) in
-      let wb = width-body L r ∙ ap (bodyBits L) lw in
-      let sum : bitsAt s (wordsAt L + width (row wordBits w)) wordBits ≡ checksum r =
-      ap (λ (x : ℕ). bitsAt s (wordsAt L + x) wordBits) (width-row wordBits w ∙ ap (λ (x : ℕ). wordBits * x) lw)
-      ∙ eqb-true (bitsAt s (wordsAt L + wordBits * n) wordBits) _ sums
-      ∙ (λ i. checksumWord (sumLow (e1 i ∷ e2 i ∷ e3 i ∷ w))) in
-      let tail = reads-append s (wordsAt L) (row wordBits w) (sumFields L r) .1 (reads-rowAt wordBits s (wordsAt L) n, (sum, tt)) in (
-        leb-true (ancSize L n) (length s) search,
+      let e = header-reads (g .headers) in
+      let wb = width-body L r (sumField L s) ∙ ap (bodyBits L) lw in
+      let sum : bitsAt s (wordsAt L + width (row wordBits w)) wordBits ≡ sumField L s =
+      ap (λ (x : ℕ). bitsAt s (wordsAt L + x) wordBits) (width-row wordBits w ∙ ap (λ (x : ℕ). wordBits * x) lw) in
+      let tail = reads-append s (wordsAt L) (row wordBits w) (sumFields L r (sumField L s)) .1 (reads-rowAt wordBits s (wordsAt L) n, (sum, tt)) in (
+        leb-true (ancSize L n) (length s) (g .whole),
         lw,
-        reads-append s 0 (bodyFields L r) _ .1 (
-          (refl, (refl, (refl, (refl, (refl, (e1, (e2, (e3, (eqb-true (bitsAt s (didAt L + wordBits + wordBits + wordBits) (rBits L)) 0 quiet, tail))))))))),
-          (ap₂ (λ (x y : ℕ). bitsAt s x (padding (alignment L) y)) (zero-add _ ∙ wb) wb ∙ eqb-true (bitsAt s (bodyBits L n) (padding (alignment L) (bodyBits L n))) 0 zeros, tt),
+        reads-append s 0 (bodyFieldsWith L r (sumField L s)) _ .1 (
+          (refl, (refl, (refl, (refl, (refl, (e .0, (e .1, (e .2, (eqb-true (bitsAt s (didAt L + wordBits + wordBits + wordBits) (rBits L)) 0 (g .quiet), tail))))))))),
+          (ap₂ (λ (x y : ℕ). bitsAt s x (padding (alignment L) y)) (zero-add _ ∙ wb) wb ∙ eqb-true (bitsAt s (bodyBits L n) (padding (alignment L) (bodyBits L n))) 0 (g .zeros), tt),
         ),
       )
 
-  -- octets that read as the fields of a well-formed record pass, and the record is theirs
-  reads-passed : (r : Record) → WellFormed L r → Reads s 0 (ancFields L r) → ancSize L (length (r .words)) ≤ length s
-      → (ancRecord L s ≡ r) × Passed (ancChecks L s)
-  unfolding ancChecks ancRecord headersOk rOk wordsOk checksumOk alignmentOk rowAt
-  reads-passed r f rd l =
+  -- octets that read as the fields of a well-formed record pass, and record and word are theirs
+  reads-sound : (r : Record) (word : ℕ) → WellFormed L r → Reads s 0 (ancFieldsWith L r word) → ancSize L (length (r .words)) ≤ length s
+      → (ancRecord L s ≡ r) × (sumField L s ≡ word) × Sound
+  unfolding ancRecord headersOk rOk wordsOk alignmentOk rowAt
+  reads-sound r word f rd l =
       let w = r .words in
-      let b = reads-append s 0 (bodyFields L r) _ .0 rd in
-      let h : Reads s (wordsAt L) (wordFields L r) = search in
-      let t = reads-append s (wordsAt L) (row wordBits w) (sumFields L r) .0 h in
+      let b = reads-append s 0 (bodyFieldsWith L r word) _ .0 rd in
+      let h : Reads s (wordsAt L) (wordFields L r word) = search in
+      let t = reads-append s (wordsAt L) (row wordBits w) (sumFields L r word) .0 h in
       let e1 : bitsAt s (didAt L) wordBits ≡ headerWord (r .did) = search in
       let e2 : bitsAt s (didAt L + wordBits) wordBits ≡ headerWord (r .sdid) = search in
       let e3 : bitsAt s (didAt L + wordBits + wordBits) wordBits ≡ headerWord (length w) = search in
@@ -116,44 +150,61 @@ module _ (L : Layout) (s : List ℕ) where
       let hsd = ap (λ (x : ℕ). x % headerNumbers) e2 ∙ header-mod (r .sdid) (f .fits .sdid) in
       let n : dataCount L s ≡ length w = ap (λ (x : ℕ). x % headerNumbers) e3 ∙ header-mod (length w) (f .fits .count) in
       let hw : rowAt wordBits s (wordsAt L) (dataCount L s) ≡ w = ap (rowAt wordBits s (wordsAt L)) n ∙ rowAt-reads wordBits s (wordsAt L) w (t .0) in
-      let wb = ap (bodyBits L) n ∙ sym (width-body L r) in
-      let sum = ap (λ (x : ℕ). bitsAt s (wordsAt L + x) wordBits) (ap (λ (x : ℕ). wordBits * x) n ∙ sym (width-row wordBits w)) ∙ t .1 .0
-      ∙ (λ i. checksumWord (sumLow (sym e1 i ∷ sym e2 i ∷ sym e3 i ∷ sym hw i))) in
-      let least : leb (leastSize L) (length s) ≡ true = le-leb (leastSize L) (length s) (omega (arith, least-size L (length w))) in
-      let headers : headersOk L s ≡ true =
-      and-both (header-passes _ _ e1 (f .fits .did)) (and-both (header-passes _ _ e2 (f .fits .sdid)) (and-both (header-passes _ _ e3 (f .fits .count)) refl)) in
-      let whole : leb (ancSize L (dataCount L s)) (length s) ≡ true = le-leb (ancSize L (dataCount L s)) (length s) (rw n l) in
-      let quiet : rOk L s ≡ true = eq-eqb _ 0 er in
-      let clear : wordsOk L s ≡ true = ap allClear hw ∙ f .clear in
-      let sums : checksumOk L s ≡ true = eq-eqb (bitsAt s (wordsAt L + wordBits * dataCount L s) wordBits) _ sum in
-      let zeros : alignmentOk L s ≡ true =
-      eq-eqb _ 0 (ap₂ (λ (x y : ℕ). bitsAt s x (padding (alignment L) y)) (wb ∙ sym (zero-add _)) wb ∙ b .1 .0) in
-      (λ i. record { c = hc i; line = hl i; offset = ho i; s = hs i; stream = ht i; did = hd i; sdid = hsd i; words = hw i }, search)
+      let wb = ap (bodyBits L) n ∙ sym (width-body L r word) in (
+        λ i. record { c = hc i; line = hl i; offset = ho i; s = hs i; stream = ht i; did = hd i; sdid = hsd i; words = hw i },
+        ap (λ (x : ℕ). bitsAt s (wordsAt L + x) wordBits) (ap (λ (x : ℕ). wordBits * x) n ∙ sym (width-row wordBits w)) ∙ t .1 .0,
+        record {
+          least = le-leb (leastSize L) (length s) (omega (arith, least-size L (length w)));
+          headers = and-both (header-passes _ _ e1 (f .fits .did)) (and-both (header-passes _ _ e2 (f .fits .sdid)) (and-both (header-passes _ _ e3 (f .fits .count)) refl));
+          whole = le-leb (ancSize L (dataCount L s)) (length s) (rw n l);
+          quiet = eq-eqb _ 0 er;
+          clear = ap allClear hw ∙ f .clear;
+          zeros = eq-eqb _ 0 (ap₂ (λ (x y : ℕ). bitsAt s x (padding (alignment L) y)) (wb ∙ sym (zero-add _)) wb ∙ b .1 .0);
+        },
+      )
 
-  -- the record of octets that pass is well-formed, and its octets stand at the front
-  passed-stands : Below 256 s → Passed (ancChecks L s)
-      → WellFormed L (ancRecord L s) × (take (ancSize L (length (ancRecord L s .words))) s ≡ ancOctets L (ancRecord L s))
-  unfolding ancChecks ancRecord wordsOk
-  passed-stands b p =
-      let r = ancRecord L s in
-      let f = passed-reads p in
-      let lw = f .1 in
-      let clear : wordsOk L s ≡ true = search in
-      let k = packed s (ancFields L r) (ancSize L (length (r .words))) (width-anc L r) b (rw lw (f .0)) (f .2) in
-      (record { fits = formed-anc L r (k .0) (mod-lt _ (lit< tt)) (mod-lt _ (lit< tt)) (rw lw (mod-lt _ (lit< tt))); clear = clear }, k .1)
+  -- EVERY CHECK BUT 11 PASSES exactly where the octets of a well-formed record stand at the front, with some ten-bit word in the checksum's place
+  pub sound-iff : Below 256 s → (r : Record) (word : ℕ)
+      → (Sound × (ancRecord L s ≡ r) × (sumField L s ≡ word))
+      ↔ (WellFormed L r × (word < 2 ^ wordBits) × (take (ancSize L (length (r .words))) s ≡ ancOctetsWith L r word))
+  unfolding ancRecord wordsOk
+  sound-iff b r word = (
+    λ p.
+        let x = ancRecord L s in
+        let f = sound-reads (p .0) in
+        let lw = f .1 in
+        let k = packed s (ancFieldsWith L x (sumField L s)) (ancSize L (length (x .words))) (width-with L x (sumField L s)) b (rw lw (f .0)) (f .2) in
+        let g = formed-with L x (sumField L s) (k .0) (mod-lt _ (lit< tt)) (mod-lt _ (lit< tt)) (rw lw (mod-lt _ (lit< tt))) in
+        let all : WellFormed L x × (sumField L s < 2 ^ wordBits) × (take (ancSize L (length (x .words))) s ≡ ancOctetsWith L x (sumField L s)) =
+        (record { fits = g .0; clear = p .0 .clear }, g .1, k .1) in
+        subst (λ (y : ℕ). WellFormed L r × (y < 2 ^ wordBits) × (take (ancSize L (length (r .words))) s ≡ ancOctetsWith L r y)) (p .2)
+        (subst (λ (y : Record). WellFormed L y × (sumField L s < 2 ^ wordBits) × (take (ancSize L (length (y .words))) s ≡ ancOctetsWith L y (sumField L s))) (p .1) all),
+    λ p.
+        let n = ancSize L (length (r .words)) in
+        let l : n ≤ length s = omega (arith, sym (length-take n s) ∙ ap length (p .2) ∙ length-with L r word) in
+        let q = reads-sound r word (p .0) (unpacked s (ancFieldsWith L r word) n (width-with L r word) (fit-with L r word (p .0 .fits) (p .1)) (p .2)) l in
+        (q .2, q .0, q .1),
+  )
+
+  -- octets that pass have as many words as their Data_Count says
+  pub sound-count : Sound → dataCount L s ≡ length (ancRecord L s .words)
+  sound-count g = sym (sound-reads g .1)
 
   module _ (i : ℕ) (r : Record) where
-    answer-is : readAnc L i s ≡ accepted r → Passed (ancChecks L s) × (ancRecord L s ≡ r)
+    answer-is : readAnc L i s ≡ accepted r → Sound × (checksumOk L s ≡ true) × (ancRecord L s ≡ r)
     unfolding readAnc
-    answer-is e = let q = judge-accepts i (ancChecks L s) (accepted (ancRecord L s)) r e in (q .0, accepted-inj (q .1))
+    answer-is e =
+        let q = judge-accepts i (ancChecks L s) (accepted (ancRecord L s)) r e in
+        let g = sound-passed .0 (q .0) in
+        (g .0, g .1, accepted-inj (q .1))
 
     -- an accepted packet's record is what its fields read as
     pub record-read : readAnc L i s ≡ accepted r → ancRecord L s ≡ r
-    record-read e = answer-is e .1
+    record-read e = answer-is e .2
 
     -- an accepted packet has as many words as its Data_Count says
     pub count-read : readAnc L i s ≡ accepted r → dataCount L s ≡ length (r .words)
-    count-read e = let q = answer-is e in sym (passed-reads (q .0) .1) ∙ ap (λ (x : Record). length (x .words)) (q .1)
+    count-read e = let q = answer-is e in sound-count (q .0) ∙ ap (λ (x : Record). length (x .words)) (q .2)
 
   -- ONE ANC PACKET is accepted exactly when the octets of a well-formed record stand at the front
   pub accepts-iff : Below 256 s → (i : ℕ) (r : Record)
@@ -162,12 +213,13 @@ module _ (L : Layout) (s : List ℕ) where
   accepts-iff b i r = (
     λ e.
         let q = answer-is i r e in
-        subst (λ (x : Record). WellFormed L x × (take (ancSize L (length (x .words))) s ≡ ancOctets L x)) (q .1) (passed-stands b (q .0)),
+        let own : sumField L s ≡ checksum r = eqb-true _ _ (sym (own-word (q .0 .headers)) ∙ q .1) ∙ ap checksum (q .2) in
+        let p = sound-iff b r (checksum r) .0 (q .0, q .2, own) in
+        (p .0, p .2),
     λ p.
-        let n = ancSize L (length (r .words)) in
-        let l : n ≤ length s = omega (arith, sym (length-take n s) ∙ ap length (p .1) ∙ length-anc L r) in
-        let q = reads-passed r (p .0) (unpacked s (ancFields L r) n (width-anc L r) (fit-anc L r (p .0 .fits)) (p .1)) l in
-        judge-passes i (ancChecks L s) (accepted (ancRecord L s)) (q .1) ∙ ap accepted (q .0),
+        let q = sound-iff b r (checksum r) .1 (p .0, checksum-lt _, p .1) in
+        let own = own-word (q .0 .headers) ∙ eq-eqb _ _ (q .2 ∙ ap checksum (sym (q .1))) in
+        judge-passes i (ancChecks L s) (accepted (ancRecord L s)) (sound-passed .1 (q .0, own)) ∙ ap accepted (q .1),
   )
 
 -- A RUN of n ANC packets is accepted exactly when the octets of n well-formed records stand at the front

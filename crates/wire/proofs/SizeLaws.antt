@@ -11,14 +11,13 @@ use Rattle.wire.specs.declared.layout.Layout.the-variants as layout
 use Rattle.wire.specs.Bits.{width, row}
 use Rattle.wire.specs.Words.{wordBits}
 use Rattle.wire.specs.Layout.{Layout, rfc8331, draft2015, alignment, leastSize}
-use Rattle.wire.specs.Anc.{Record, checksum, bodyFields, padding, ancFields, ancOctets, bodyBits, ancSize}
+use Rattle.wire.specs.Anc.{Record, checksum, bodyFieldsWith, padding, ancFieldsWith, ancFields, ancOctetsWith, ancOctets, bodyBits, ancSize}
 use Rattle.wire.specs.Writing.{OctetBound}
 use Rattle.wire.specs.Cells.{headCells}
 use Rattle.wire.proofs.BitLaws.{width-append, width-row, length-pack}
 
-pub width-body : (L : Layout) (r : Record) → width (bodyFields L r) ≡ bodyBits L (length (r .words))
-width-body L r =
-    omega (arith, width-append (row wordBits (r .words)) ((wordBits, checksum r) ∷ []), width-row wordBits (r .words))
+pub width-body : (L : Layout) (r : Record) (word : ℕ) → width (bodyFieldsWith L r word) ≡ bodyBits L (length (r .words))
+width-body L r word = omega (arith, width-append (row wordBits (r .words)) ((wordBits, word) ∷ []), width-row wordBits (r .words))
 
 -- body and alignment fill whole octets
 pub size-bits : (L : Layout) (n : ℕ) → bodyBits L n + padding (alignment L) (bodyBits L n) ≡ 8 * ancSize L n
@@ -31,13 +30,20 @@ pub pad-few : (L : Layout) (n : ℕ) → padding (alignment L) n < 32
 pad-few layout.Rfc8331 n = omega arith
 pad-few layout.Draft2015 n = omega arith
 
+-- whatever word stands in the checksum's place
+pub width-with : (L : Layout) (r : Record) (word : ℕ) → width (ancFieldsWith L r word) ≡ 8 * ancSize L (length (r .words))
+width-with L r word =
+    width-append (bodyFieldsWith L r word) _
+    ∙ rw (width-body L r word, add-zero (padding (alignment L) (bodyBits L (length (r .words))))) (size-bits L (length (r .words)))
+
+pub length-with : (L : Layout) (r : Record) (word : ℕ) → length (ancOctetsWith L r word) ≡ ancSize L (length (r .words))
+length-with L r word = length-pack [] (ancFieldsWith L r word) (ancSize L (length (r .words))) (width-with L r word)
+
 pub width-anc : (L : Layout) (r : Record) → width (ancFields L r) ≡ 8 * ancSize L (length (r .words))
-width-anc L r =
-    width-append (bodyFields L r) _
-    ∙ rw (width-body L r, add-zero (padding (alignment L) (bodyBits L (length (r .words))))) (size-bits L (length (r .words)))
+width-anc L r = width-with L r (checksum r)
 
 pub length-anc : (L : Layout) (r : Record) → length (ancOctets L r) ≡ ancSize L (length (r .words))
-length-anc L r = length-pack [] (ancFields L r) (ancSize L (length (r .words))) (width-anc L r)
+length-anc L r = length-with L r (checksum r)
 
 rounded-up : (b : ℕ) → (b + padding 32 b) / 8 ≡ 4 * ((b + 31) / 32)
 rounded-up b = ⊎-elim (λ (h : b % 32 ≡ 0). rw h (omega arith)) (λ (h : 0 < b % 32). omega arith) (eq-zero-or-pos (b % 32))

@@ -87,21 +87,30 @@ headerFields L r =
     ++ (wordBits, headerWord (r .did)) ∷ (wordBits, headerWord (r .sdid)) ∷ (wordBits, headerWord (length (r .words)))
     ∷ (rBits L, 0) ∷ []
 
--- ".. DID, SDID, Data_Count, n user data words, checksum, .."
+-- ".. DID, SDID, Data_Count, n user data words, checksum, ..", with some word in the checksum's place
+abbrev pub bodyFieldsWith : Layout → Record → ℕ → Fields
+bodyFieldsWith L r word = headerFields L r ++ (row wordBits (r .words) ++ (wordBits, word) ∷ [])
+
 abbrev pub bodyFields : Layout → Record → Fields
-bodyFields L r = headerFields L r ++ (row wordBits (r .words) ++ (wordBits, checksum r) ∷ [])
+bodyFields L r = bodyFieldsWith L r (checksum r)
 
 -- word_align (RFC 8331, section 2.1): the bits that take `n` bits up to a multiple of `a`
 abbrev pub padding : ℕ → ℕ → ℕ
 padding a n = (a - n % a) % a
 
 -- ".. then zero bits up to a multiple of 32"; "zero bits to a full octet"
+abbrev pub ancFieldsWith : Layout → Record → ℕ → Fields
+ancFieldsWith L r word = bodyFieldsWith L r word ++ (padding (alignment L) (width (bodyFieldsWith L r word)), 0) ∷ []
+
 abbrev pub ancFields : Layout → Record → Fields
-ancFields L r = bodyFields L r ++ (padding (alignment L) (width (bodyFields L r)), 0) ∷ []
+ancFields L r = ancFieldsWith L r (checksum r)
 
 -- "All fields run most significant bit first."
+abbrev pub ancOctetsWith : Layout → Record → ℕ → List ℕ
+ancOctetsWith L r word = pack (ancFieldsWith L r word)
+
 abbrev pub ancOctets : Layout → Record → List ℕ
-ancOctets L r = pack (ancFields L r)
+ancOctets L r = ancOctetsWith L r (checksum r)
 
 -- a run: ANC data packets one after the other
 abbrev pub runOctets : Layout → List Record → List ℕ
@@ -161,10 +170,14 @@ rOk L s = eqb (bitsAt s (didAt L + wordBits + wordBits + wordBits) (rBits L)) 0
 unfoldable pub wordsOk : Layout → List ℕ → Bool
 wordsOk L s = allClear (rowAt wordBits s (wordsAt L) (dataCount L s))
 
+-- the word in the checksum's place
+abbrev pub sumField : Layout → List ℕ → ℕ
+sumField L s = bitsAt s (wordsAt L + wordBits * dataCount L s) wordBits
+
 -- 11: "checksum word wrong"; "The nine-bit checksum sentence of 001 decides."
 unfoldable pub checksumOk : Layout → List ℕ → Bool
 checksumOk L s =
-    eqb (bitsAt s (wordsAt L + wordBits * dataCount L s) wordBits)
+    eqb (sumField L s)
     (checksumWord (sumLow (headerWords L s ++ rowAt wordBits s (wordsAt L) (dataCount L s))))
 
 -- 12: "alignment bit set"

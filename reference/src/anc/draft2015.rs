@@ -40,9 +40,9 @@ fn tail_of(packet: &[u8], n: usize) -> u64 {
 impl Form for Draft2015 {
     const LAYOUT: Layout = Layout::Draft2015;
 
-    /// 9 (under 9 octets left), 10, 9 (its size), 15, 16, 11, 12.
+    /// 9 (under 9 octets left), 10, 9 (its size), 15, 16, 11 if strict, 12.
     #[inline(always)]
-    fn check(left: &[u8]) -> Result<usize, u8> {
+    fn check<const STRICT: bool>(left: &[u8]) -> Result<(usize, bool), u8> {
         let Some(start) = left.first_chunk::<SMALLEST>() else {
             return Err(9);
         };
@@ -58,8 +58,7 @@ impl Form for Draft2015 {
         if words & 3 != 0 {
             return Err(15);
         }
-        check_words(packet, header, n)?;
-        Ok(n)
+        Ok((n, check_words::<STRICT>(packet, header, n)?))
     }
 
     #[inline(always)]
@@ -112,10 +111,11 @@ impl Form for Draft2015 {
     }
 }
 
-/// 16, 11 and 12 for a packet of the right size. The checksum is that of 001's
-/// sentence: nine bits, where 000 says "lower 8 bits".
+/// 16, 11 if strict, and 12 for a packet of the right size. Returns whether
+/// the checksum is right: it is that of 001's sentence, nine bits, where 000
+/// says "lower 8 bits".
 #[inline(always)]
-fn check_words(packet: &[u8], header: [u16; 3], n: usize) -> Result<(), u8> {
+fn check_words<const STRICT: bool>(packet: &[u8], header: [u16; 3], n: usize) -> Result<bool, u8> {
     let over = n as u32 % 4;
     let alignment = alignment_bits(n);
     let tail = tail_of(packet, n);
@@ -125,13 +125,15 @@ fn check_words(packet: &[u8], header: [u16; 3], n: usize) -> Result<(), u8> {
         return Err(16);
     }
     let [did, sdid, count] = header.map(u64::from);
-    if checksum_word(did + sdid + count + sum.total()) as u64 != tail >> alignment & WORD {
+    let checksum = checksum_word(did + sdid + count + sum.total()) as u64;
+    let right = checksum == tail >> alignment & WORD;
+    if STRICT && !right {
         return Err(11);
     }
     if tail & ((1 << alignment) - 1) != 0 {
         return Err(12);
     }
-    Ok(())
+    Ok(right)
 }
 
 #[cfg(test)]

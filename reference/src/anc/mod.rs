@@ -47,8 +47,9 @@ trait Form {
 
     /// The order for one ANC packet at the start of what is left: 9 (under
     /// the smallest), 10, 9 (its size), 15 where there are R bits, 16, 11, 12.
-    /// Returns n.
-    fn check(left: &[u8]) -> Result<usize, u8>;
+    /// In the tolerant way there is no 11. Returns n, and whether the checksum
+    /// is right.
+    fn check<const STRICT: bool>(left: &[u8]) -> Result<(usize, bool), u8>;
 
     /// n of a checked packet.
     fn count(packet: &[u8]) -> usize;
@@ -62,11 +63,13 @@ trait Form {
 
 // ---------------------------------------------------------------- reading
 
-/// ANC packets that have been checked, and what their records need.
+/// ANC packets that have been checked, and what the records need that come
+/// through: all, but in the tolerant way those with a right checksum.
 #[derive(Clone, Copy, Debug, PartialEq, Eq)]
 pub struct Run<'a> {
     layout: Layout,
     octets: &'a [u8],
+    packets: usize,
     records: usize,
     cells: usize,
 }
@@ -76,29 +79,45 @@ pub struct Run<'a> {
 #[inline]
 pub fn check_run(layout: Layout, octets: &[u8], count: usize) -> Result<Run<'_>, Refusal> {
     match layout {
-        Layout::Rfc8331 => check_packets::<Rfc8331>(octets, count),
-        Layout::Draft2015 => check_packets::<Draft2015>(octets, count),
+        Layout::Rfc8331 => check_packets::<Rfc8331, true>(octets, count),
+        Layout::Draft2015 => check_packets::<Draft2015, true>(octets, count),
+    }
+}
+
+/// The same in the tolerant way (02, K9): a record that fails only its
+/// checksum is left out, and 11 is not given.
+#[inline]
+pub fn tolerate_run(layout: Layout, octets: &[u8], count: usize) -> Result<Run<'_>, Refusal> {
+    match layout {
+        Layout::Rfc8331 => check_packets::<Rfc8331, false>(octets, count),
+        Layout::Draft2015 => check_packets::<Draft2015, false>(octets, count),
     }
 }
 
 #[inline(always)]
-fn check_packets<F: Form>(octets: &[u8], count: usize) -> Result<Run<'_>, Refusal> {
+fn check_packets<F: Form, const STRICT: bool>(
+    octets: &[u8],
+    count: usize,
+) -> Result<Run<'_>, Refusal> {
     let mut left = octets;
-    let mut words = 0;
+    let (mut records, mut words) = (0, 0);
     for index in 0..count {
-        match F::check(left) {
-            Ok(n) => {
-                words += n;
-                left = &left[F::LAYOUT.packet_octets(n)..];
-            }
+        let (n, right) = match F::check::<STRICT>(left) {
+            Ok(checked) => checked,
             Err(number) => return Err(Refusal::at(number, index)),
+        };
+        if STRICT || right {
+            records += 1;
+            words += n;
         }
+        left = &left[F::LAYOUT.packet_octets(n)..];
     }
     Ok(Run {
         layout: F::LAYOUT,
         octets: &octets[..octets.len() - left.len()],
-        records: count,
-        cells: RECORD_HEAD * count + words,
+        packets: count,
+        records,
+        cells: RECORD_HEAD * records + words,
     })
 }
 
@@ -108,8 +127,14 @@ impl Run<'_> {
         self.octets.len()
     }
 
+    /// Records that come through.
     pub fn records(&self) -> usize {
         self.records
+    }
+
+    /// Records left out for their checksum.
+    pub fn left_out(&self) -> usize {
+        self.packets - self.records
     }
 
     /// Cells that the records need.
@@ -134,12 +159,16 @@ impl Run<'_> {
     #[inline(always)]
     fn read_packets<F: Form>(&self, mut cells: &mut [u16]) {
         let mut octets = self.octets;
-        for _ in 0..self.records {
+        let all = self.left_out() == 0;
+        for _ in 0..self.packets {
             let n = F::count(octets);
             let (packet, rest) = octets.split_at(F::LAYOUT.packet_octets(n));
-            let (record, left) = cells.split_at_mut(RECORD_HEAD + n);
-            F::read(packet, record);
-            (octets, cells) = (rest, left);
+            octets = rest;
+            if all || F::check::<true>(packet).is_ok() {
+                let (record, left) = cells.split_at_mut(RECORD_HEAD + n);
+                F::read(packet, record);
+                cells = left;
+            }
         }
     }
 }

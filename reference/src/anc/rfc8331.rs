@@ -26,9 +26,9 @@ const fn alignment_bits(n: usize) -> u32 {
 impl Form for Rfc8331 {
     const LAYOUT: Layout = Layout::Rfc8331;
 
-    /// 9 (under 12 octets left), 10, 9 (its size), 16, 11, 12.
+    /// 9 (under 12 octets left), 10, 9 (its size), 16, 11 if strict, 12.
     #[inline(always)]
-    fn check(left: &[u8]) -> Result<usize, u8> {
+    fn check<const STRICT: bool>(left: &[u8]) -> Result<(usize, bool), u8> {
         let Some(start) = left.first_chunk::<SMALLEST>() else {
             return Err(9);
         };
@@ -43,8 +43,7 @@ impl Form for Rfc8331 {
         let Some(packet) = left.get(..Self::LAYOUT.packet_octets(n)) else {
             return Err(9);
         };
-        check_words(packet, n)?;
-        Ok(n)
+        Ok((n, check_words::<STRICT>(packet, n)?))
     }
 
     #[inline(always)]
@@ -85,9 +84,10 @@ impl Form for Rfc8331 {
     }
 }
 
-/// 16, 11 and 12 for a packet of the right size.
+/// 16, 11 if strict, and 12 for a packet of the right size. Returns whether
+/// the checksum is right.
 #[inline(always)]
-fn check_words(packet: &[u8], n: usize) -> Result<(), u8> {
+fn check_words<const STRICT: bool>(packet: &[u8], n: usize) -> Result<bool, u8> {
     let (groups, over) = (n.div_ceil(4), (n + 3) as u32 % 4);
     let alignment = alignment_bits(n);
     let tail = load8(packet, packet.len() - 8);
@@ -96,13 +96,14 @@ fn check_words(packet: &[u8], n: usize) -> Result<(), u8> {
     if sum.met_protected() {
         return Err(16);
     }
-    if checksum_word(sum.total()) as u64 != tail >> alignment & WORD {
+    let right = checksum_word(sum.total()) as u64 == tail >> alignment & WORD;
+    if STRICT && !right {
         return Err(11);
     }
     if tail & ((1 << alignment) - 1) != 0 {
         return Err(12);
     }
-    Ok(())
+    Ok(right)
 }
 
 /// The first user data word stands in the first group; the groups after it

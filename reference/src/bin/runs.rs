@@ -9,9 +9,9 @@
 //! and a line feed; all numbers are decimal without leading zeros. SUM is
 //! the sum of the cells read, modulo 65,536.
 //!
-//! The layout is RFC 8331's. Every packet has source 1, payload type 112, M
-//! set, number 7, timestamp 1000 and F 2. The writer is lent 65,535 octets,
-//! the reader 32,768 cells. The lines, in order:
+//! The layout is RFC 8331's, the reader the strict one. Every packet has
+//! source 1, payload type 112, M set, number 7, timestamp 1000 and F 2. The
+//! writer is lent 65,535 octets, the reader 32,768 cells. The lines, in order:
 //!
 //! - `records 255`, `records 256`: a list of that many records A (cells
 //!   0 9 0 0 0 0x41 0x05 0) is written and, if it was, the packet is read.

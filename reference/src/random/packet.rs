@@ -1,7 +1,7 @@
 //! Packets, built from their parts.
 
 use super::*;
-use crate::packet::{check, Head, MAX_PACKET};
+use crate::packet::{tolerate, Head, MAX_PACKET};
 
 /// The parts of a packet. `assemble` gives Length and ANC_Count their right
 /// values unless told otherwise, and leaves out what the layout lacks.
@@ -157,6 +157,19 @@ pub fn valid_packet(r: &mut Random, layout: Layout) -> Vec<u8> {
     parts.assemble()
 }
 
+/// Octets of a packet that is right but for the checksums of some records.
+pub fn summed_packet(r: &mut Random, layout: Layout) -> Vec<u8> {
+    let mut parts = parts(r, layout);
+    let share = r.pick(&[1, 2, 2, 5]);
+    for anc in &mut parts.anc {
+        if r.one_in(share) {
+            let last = anc.words.len() - 1;
+            anc.words[last] ^= 1 + r.below(1023) as u16;
+        }
+    }
+    parts.assemble()
+}
+
 /// Octets of a packet damaged in one to three places.
 pub fn damaged_packet(r: &mut Random, layout: Layout) -> Vec<u8> {
     let mut parts = parts(r, layout);
@@ -273,9 +286,10 @@ pub fn read_case(r: &mut Random) -> ReadCase {
             octets
         }
         1..4 => valid_packet(r, made),
+        4 => summed_packet(r, made),
         _ => damaged_packet(r, made),
     };
-    let need = check(layout, &octets).map_or(64, |accepted| accepted.run.cells());
+    let need = tolerate(layout, &octets).map_or(64, |passed| passed.run.cells());
     let room = r.room(need);
     ReadCase {
         layout,

@@ -36,10 +36,23 @@ fn places(layout: Layout) -> (usize, usize, usize, usize) {
     }
 }
 
-/// The cells of `count` ANC packets and the octets they take.
-fn naive_run(layout: Layout, octets: &[u8], count: usize) -> Refused<(Vec<u16>, usize)> {
+/// What is done about a wrong checksum.
+#[derive(Clone, Copy, PartialEq)]
+enum Way {
+    Strict,
+    Tolerant,
+}
+
+/// The cells of `count` ANC packets, the octets they take, and how many were
+/// left out.
+fn naive_run(
+    layout: Layout,
+    way: Way,
+    octets: &[u8],
+    count: usize,
+) -> Refused<(Vec<u16>, usize, usize)> {
     let (did, r, words, multiple) = places(layout);
-    let (mut cells, mut at) = (Vec::new(), 0);
+    let (mut cells, mut at, mut left_out) = (Vec::new(), 0, 0);
     for index in 0..count {
         let left = octets.len() - at;
         let size = |n: usize| (words + 10 * n + 10).div_ceil(multiple) * multiple / 8;
@@ -67,12 +80,18 @@ fn naive_run(layout: Layout, octets: &[u8], count: usize) -> Refused<(Vec<u16>, 
         let sum: u64 = (0..n + 3).map(|k| word(k) % 512).sum();
         let sum = sum % 512;
         let b8 = sum / 256;
-        if word(n + 3) != sum + 512 * (1 - b8) {
+        let wrong = word(n + 3) != sum + 512 * (1 - b8);
+        if wrong && way == Way::Strict {
             return Err((11, index));
         }
         let used = words + 10 * n + 10;
         if bits(octets, 8 * at + used, 8 * size - used) != 0 {
             return Err((12, index));
+        }
+        if wrong {
+            left_out += 1;
+            at += size;
+            continue;
         }
         // S and StreamNum stand before DID or nowhere.
         for (place, width) in [(0, 1), (1, 11), (12, 12), (24, 1), (25, 7)] {
@@ -83,10 +102,10 @@ fn naive_run(layout: Layout, octets: &[u8], count: usize) -> Refused<(Vec<u16>, 
         cells.extend((3..n + 3).map(|k| word(k) as u16));
         at += size;
     }
-    Ok((cells, at))
+    Ok((cells, at, left_out))
 }
 
-fn naive_check(layout: Layout, o: &[u8]) -> Refused<(Summary, Vec<u16>)> {
+fn naive_check(layout: Layout, way: Way, o: &[u8]) -> Refused<(Summary, Vec<u16>)> {
     if o.len() > 65_535 {
         return Err((1, 0));
     }
@@ -133,7 +152,7 @@ fn naive_check(layout: Layout, o: &[u8]) -> Refused<(Summary, Vec<u16>)> {
     if count == 0 && length != 0 {
         return Err((8, 0));
     }
-    let (cells, used) = naive_run(layout, &payload[header..], count)?;
+    let (cells, used, left_out) = naive_run(layout, way, &payload[header..], count)?;
     if used != length {
         return Err((13, 0));
     }
@@ -144,8 +163,9 @@ fn naive_check(layout: Layout, o: &[u8]) -> Refused<(Summary, Vec<u16>)> {
         number: (bits(payload, 0, 16) * 65_536 + bits(o, 16, 16)) as u32,
         timestamp: bits(o, 32, 32) as u32,
         f: f as u8,
-        records: count as u8,
+        records: (count - left_out) as u8,
         cells: cells.len(),
+        left_out: left_out as u8,
     };
     Ok((summary, cells))
 }
@@ -162,17 +182,24 @@ fn packet_reader() {
     let mut r = Random::new(1);
     for _ in 0..20_000 {
         let case = read_case(&mut r);
-        let lent = vec![0x5A5A; case.room];
-        let (expected, after) = match naive_check(case.layout, &case.octets) {
-            Ok((_, cells)) if cells.len() > case.room => (Err((14, 0)), lent.clone()),
-            Ok((summary, cells)) => (Ok(summary), overwritten(&lent, 0, &cells)),
-            Err(refusal) => (Err(refusal), lent.clone()),
-        };
-        let mut cells = lent;
-        let answer = packet::read(case.layout, &case.octets, &mut cells);
-        assert_eq!(pair(answer), expected);
-        assert_eq!(cells, after);
+        compare_reader(&case, Way::Tolerant, packet::read);
+        compare_reader(&case, Way::Strict, packet::read_strict);
     }
+}
+
+type Reader = fn(Layout, &[u8], &mut [u16]) -> Result<Summary, Refusal>;
+
+fn compare_reader(case: &ReadCase, way: Way, read: Reader) {
+    let lent = vec![0x5A5A; case.room];
+    let (expected, after) = match naive_check(case.layout, way, &case.octets) {
+        Ok((_, cells)) if cells.len() > case.room => (Err((14, 0)), lent.clone()),
+        Ok((summary, cells)) => (Ok(summary), overwritten(&lent, 0, &cells)),
+        Err(refusal) => (Err(refusal), lent.clone()),
+    };
+    let mut cells = lent;
+    let answer = read(case.layout, &case.octets, &mut cells);
+    assert_eq!(pair(answer), expected);
+    assert_eq!(cells, after);
 }
 
 /// Records of a list, or the index of the first malformed one.
@@ -307,7 +334,8 @@ fn naive_field(file: &[u8], offset: usize) -> Refused<(file::Field, Vec<u16>)> {
         return Err((53, 0));
     }
     let count = bits(at, 40, 8 * width) as usize;
-    let (cells, used) = naive_run(Layout::Rfc8331, &at[5 + width..], count)?;
+    let packets = &at[5 + width..];
+    let (cells, used, _) = naive_run(Layout::Rfc8331, Way::Strict, packets, count)?;
     if count > 4_095 || cells.len() > 32_768 {
         return Err((21, 0));
     }
@@ -357,7 +385,7 @@ fn naive_arrive(
     if unsound {
         return (s, Err((35, 0)), unchanged);
     }
-    let (p, cells) = match naive_check(layout, octets) {
+    let (p, cells) = match naive_check(layout, Way::Strict, octets) {
         Ok(accepted) => accepted,
         Err(refusal) => return (s, Err(refusal), unchanged),
     };
@@ -439,7 +467,7 @@ fn depacketizer_over_wild_packets() {
     for _ in 0..300 {
         let layout = r.layout();
         let packets = wild_packets(&mut r, layout, 60);
-        let accepted = |octets: &Vec<u8>| naive_check(layout, octets).ok();
+        let accepted = |octets: &Vec<u8>| naive_check(layout, Way::Strict, octets).ok();
         let Some(first) = packets.iter().find_map(accepted) else {
             continue;
         };
@@ -506,7 +534,7 @@ fn naive_listing(layout: Layout, mut input: &[u8]) -> String {
         }
         let packet = &input[2..2 + size];
         input = &input[2 + size..];
-        let number = match naive_check(layout, packet) {
+        let number = match naive_check(layout, Way::Strict, packet) {
             Err((code, index)) => {
                 lines.push(format!("refused {code} {index}"));
                 continue;

@@ -8,7 +8,7 @@ use Rattle.rtp_example.proofs.read_back.Statement.{statement}
 use Rattle.rtp_example.proofs.read_back.Tie as tie
 
 slice-aggregate-print-cells : tie.Need-slice-aggregate-print-cells
-slice-aggregate-print-cells c = sym (length-take-le _ (c .before .before .before .before .before .before .before .before .before .before .before .read .last .1 .1 .0) (omega (arith, c .before .before .before .before .before .before .before .before .before .before .before .read .kept .1 .1 .0)))
+slice-aggregate-print-cells c = sym (length-take-le _ (c .before .before .before .before .before .before .before .before .before .before .before .read-strict .last .1 .1 .0) (omega (arith, c .before .before .before .before .before .before .before .before .before .before .before .read-strict .kept .1 .1 .0)))
 
 pub read-back-spec : {M : Type 1} → statement M
 read-back-spec =

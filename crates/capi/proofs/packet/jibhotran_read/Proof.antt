@@ -1,15 +1,17 @@
--- `jibhotran_read` reads a packet, or gives 255 or 254.
--- By what the library gives, where the answer is long enough and the layout is one.
+-- `jibhotran_read` reads a packet in the tolerant way, or gives 255 or 254.
+-- By what the library gives in each of its two ways, where the answer is long enough and the layout is one.
 use borrow.Author.Needs.{needs}
-use mathlib.Core.Path.{ap, _∙_}
+use mathlib.Core.Path.{_≡_, ap, sym, _∙_}
+use mathlib.Core.List.{List}
+use Prim.Native.Nat.{ℕ, _≤_}
 use borrow.Author.Tests.{le-leb, lt-leb}
 use lib.ListN.{length}
 use Rattle.wire.specs.Layout.{Layout}
 use Rattle.wire.specs.Bits.{overwrite}
-use Rattle.wire.specs.Packet.{readInto}
-use Rattle.rtp.specs.Answers.{readOf, cellsAfter}
+use Rattle.reader.specs.Entry.{tolerantReturns, tolerantLeaves}
+use Rattle.reader.specs.declared.packet.TolerantRead.{TolerantRead}
 use Rattle.boundary.specs.Rows.{answerSize, packetReply}
-use Rattle.capi.specs.Calls.{lastLayout}
+use Rattle.capi.specs.Calls.{lastLayout, layoutOf, readReply, readCells}
 use Rattle.capi.proofs.packet.jibhotran_read.Statement.{statement}
 use Rattle.capi.proofs.packet.jibhotran_read.Tie as tie
 
@@ -22,18 +24,52 @@ returns-2 c =
     let k = lt-leb (c .before .before .before .before .before .args .layout) lastLayout (c .if2 .taken) in
     (rw (h, k), (rw (h, k), rw (h, k)))
 
+-- the reply to what the library gives, in either way
+module _ (l : ℕ) (s lent row : List ℕ) (h : answerSize ≤ length row) (k : l ≤ lastLayout) (L : Layout) (told : L ≡ layoutOf l) where
+  replies : (t : TolerantRead) → t ≡ tolerantReturns L s lent
+      → (packetReply t .number ≡ readReply l s lent row .number) × (overwrite (packetReply t .row) row ≡ overwrite (readReply l s lent row .row) row)
+  replies t e =
+      let w = e ∙ ap (λ (y : Layout). tolerantReturns y s lent) told in
+      let fits = le-leb answerSize (length row) h in
+      let is = le-leb l lastLayout k in
+      (rw (fits, is) (ap (λ x. packetReply x .number) w), rw (fits, is) (ap (λ x. overwrite (packetReply x .row) row) w))
+
+  leaves : (after : List ℕ) → after ≡ tolerantLeaves L s lent → after ≡ readCells l s lent row
+  leaves after e =
+      let w = e ∙ ap (λ (y : Layout). tolerantLeaves y s lent) told in
+      rw (le-leb answerSize (length row) h, le-leb l lastLayout k) w
+
+read-outlined-requires : tie.Need-read-outlined-requires
+read-outlined-requires c κs = sym (c .before .before .before .before .check .ensures) ∙ c .before .before .outline .given .1
+
+read-refused-requires : tie.Need-read-refused-requires
+read-refused-requires c κs = sym (c .before .before .before .before .check .ensures) ∙ c .before .before .refusal .given .1
+
 returns-3 : tie.Need-returns-3
 returns-3 c =
-    let a = c .before .before .before .before .before .before .before .before .before .before .before .before .before .before .args in
-    let h = le-leb answerSize (length (a .answer .now)) (c .before .before .before .before .before .before .before .before .before .before .if1 .left) in
-    let k = le-leb (a .layout) lastLayout (c .before .before .before .before .before .before .before .before .before .if2 .left) in
-    let L = c .before .before .before .before .before .before .before .before .layout-of .ensures in
-    let w0 = c .before .before .before .before .before .before .read .ensures .0 ∙ ap (λ (y : Layout). readOf (readInto y (a .octets .now) (length (a .cells .now)))) L in
-    let w1 = c .before .before .before .before .before .before .read .ensures .1 ∙ ap (λ (y : Layout). cellsAfter (readInto y (a .octets .now) (length (a .cells .now))) (a .cells .now)) L in
+    let a = c .before .before .before .before .before .before .before .before .before .before .before .before .before .before .before .before .before .before .args in
+    let h = c .before .before .before .before .before .before .before .before .before .before .before .before .before .before .if1 .left in
+    let k = c .before .before .before .before .before .before .before .before .before .before .before .before .before .if2 .left in
+    let L = c .before .before .before .before .before .before .before .before .before .before .before .before .layout-of .ensures in
+    let e = c .before .before .before .before .before .before .read-outlined .ensures in
     let r = c .before .before .reply-read .ensures in
-    (rw (h, k) (r .0 ∙ ap (λ x. packetReply x .number) w0), (rw (h, k) w1, rw (h, k) (r .1 ∙ ap (λ x. overwrite (packetReply x .row) (a .answer .now)) w0)))
+    let p = replies (a .layout) (a .octets .now) (a .cells .now) (a .answer .now) h k _ L _ (e .0) in
+    (r .0 ∙ p .0, (leaves (a .layout) (a .octets .now) (a .cells .now) (a .answer .now) h k _ L _ (e .1), r .1 ∙ p .1))
+
+returns-4 : tie.Need-returns-4
+returns-4 c =
+    let a = c .before .before .before .before .before .before .before .before .before .before .before .before .before .before .before .before .before .before .args in
+    let h = c .before .before .before .before .before .before .before .before .before .before .before .before .before .before .if1 .left in
+    let k = c .before .before .before .before .before .before .before .before .before .before .before .before .before .if2 .left in
+    let L = c .before .before .before .before .before .before .before .before .before .before .before .before .layout-of .ensures in
+    let e = c .before .before .before .before .before .before .read-refused .ensures in
+    let r = c .before .before .reply-read2 .ensures in
+    let p = replies (a .layout) (a .octets .now) (a .cells .now) (a .answer .now) h k _ L _ (e .0) in
+    (r .0 ∙ p .0, (leaves (a .layout) (a .octets .now) (a .cells .now) (a .answer .now) h k _ L _ (e .1), r .1 ∙ p .1))
 
 pub jibhotran-read-spec : {M : Type 1} → statement M
 jibhotran-read-spec =
     tie.close
-    (tie.spec returns returns-2 (λ c κs. search needs) (λ c κs. search needs) (λ c κs. search needs) (λ c. search needs) (λ c. search needs) returns-3)
+    (tie.spec returns returns-2 (λ c κs. search needs) (λ c κs. search needs) (λ c. search needs) read-outlined-requires (λ c κs. search needs)
+    (λ c. search needs) read-refused-requires (λ c κs. search needs) (λ c. search needs) (λ c. search needs) returns-3
+    (λ c. search needs) (λ c. search needs) returns-4)

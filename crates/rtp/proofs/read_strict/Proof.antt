@@ -1,4 +1,4 @@
--- `read` reads a packet into the lent cells, or gives the refusal and leaves them.
+-- `read_strict` reads a packet into the lent cells, or gives the refusal and leaves them.
 -- By what the check found, and 14 last.
 use borrow.Author.Needs.{needs}
 use mathlib.Core.Path.{ap, sym, _∙_}
@@ -8,8 +8,8 @@ use Rattle.wire.specs.Packet.{Content}
 use Rattle.rtp.specs.Answers.{checkedRefusal, readOf, cellsAfter}
 use Rattle.rtp.specs.declared.packet.Read.the-variants as read
 use Rattle.rtp.proofs.ReadLaws.{into-refused, into-short, into-fits}
-use Rattle.rtp.proofs.read.Statement.{statement}
-use Rattle.rtp.proofs.read.Tie as tie
+use Rattle.rtp.proofs.read_strict.Statement.{statement}
+use Rattle.rtp.proofs.read_strict.Tie as tie
 
 returns : tie.Need-returns
 returns c =
@@ -36,8 +36,8 @@ returns-3 c =
     let e = into-fits (a .layout) (a .octets .now) _ (sym (c .before .before .before .before .before .before .before .before .before .before .check .ensures) ∙ c .before .before .before .before .before .before .before .before .checked .given .1) (length (a .cells .now)) (c .before .before .before .before .before .if1 .left) in
     (sym (ap readOf e ∙ c .summary-at .ensures), c .before .before .before .read-records .ensures ∙ ap (λ (r : Result Content). cellsAfter r (a .cells .now)) (sym e))
 
-pub read-spec : {M : Type 1} → statement M
-read-spec =
+pub read-strict-spec : {M : Type 1} → statement M
+read-strict-spec =
     tie.close
     (tie.spec (λ c κs. search needs) (λ c. search needs) (λ c. search needs) (λ c κs. search needs) returns returns-2 read-records-requires
     summary-at-requires (λ c. search needs) returns-3)

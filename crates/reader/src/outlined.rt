@@ -1,0 +1,36 @@
+// A packet that the strict way accepts: none of its records is left out.
+ghost use mathlib.Core.Path.{_≡_};
+ghost use Rattle.wire.specs.Packet.{readContent};
+ghost use Rattle.rtp.specs.Answers.{checkedOf};
+ghost use Rattle.reader.specs.Entry.{tolerantLeaves, tolerantReturns};
+use crate::packet::TolerantRead;
+use rtp::check::read_records;
+use rtp::check::summary_at;
+use rtp::packet::Checked;
+use rtp::packet::Outline;
+use wire::layout::Layout;
+use wire::refusal::Refusal;
+
+// The records of a packet that `rtp::check` accepted into the first cells, 14 before.
+pub fn read_outlined(
+    layout: Layout,
+    octets: &[u8],
+    outline: Outline,
+    cells: &mut [u16],
+) -> TolerantRead
+    requires { ⌜ checkedOf layout (now octets) (readContent layout (now octets)) ≡ Checked.Packet outline ⌝ }
+    ensures { λ r. ⌜ r ≡ tolerantReturns layout (now (octets .entry)) (now (cells .entry)) ⌝ }
+    ensures { λ r. ⌜ now (cells .exit) ≡ tolerantLeaves layout (now (octets .entry)) (now (cells .entry)) ⌝ }
+{
+    if cells.len() < outline.cells {
+        return TolerantRead::Refused(Refusal {
+            number: Refusal::LIST_TOO_SHORT,
+            index: 0,
+        });
+    }
+    read_records(layout, octets, outline, cells);
+    TolerantRead::Packet {
+        summary: summary_at(layout, octets, outline),
+        omitted: 0,
+    }
+}

@@ -1,0 +1,5 @@
+pub mod RunLaws
+pub mod StrictLaws
+pub mod PacketLaws
+pub mod ThroughLaws
+pub mod Examples

@@ -1,0 +1,2 @@
+pub mod Tolerant
+pub mod Received
