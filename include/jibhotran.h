@@ -1,6 +1,6 @@
 /*
- * Jibhotran: RTP packets with ANC payload (RFC 8331 and its drafts of 2015), fields, SDP format parameters, field files and lines of the
- * serial interface.
+ * Jibhotran: RTP packets with ANC payload (RFC 8331 and its drafts of 2015), fields, SDP format parameters, field files, lines of the
+ * serial interface, and a shared outlet.
  *
  * Written by hand; `differential/` tests it against the archive. Nothing here allocates, and nothing is kept between calls.
  *
@@ -30,6 +30,11 @@ extern "C" {
 /* Numbers that an answer needs, and a state. */
 #define JIBHOTRAN_ANSWER 9
 #define JIBHOTRAN_STATE 12
+
+/* Numbers that an outlet's state needs, octets of the memory that it is lent, and the most octets of a packet that it takes. */
+#define JIBHOTRAN_OUTLET_STATE 145
+#define JIBHOTRAN_OUTLET_MEMORY 65536
+#define JIBHOTRAN_OUTLET_PACKET 1024
 
 /* A row for the answer or the state is too short. */
 #define JIBHOTRAN_ROW 255
@@ -128,6 +133,34 @@ struct jibhotran_pair {
 
 /* The same over a row of pairs, whose length is the number of pairs. */
 uint8_t jibhotran_wanted_of(uint8_t did, uint8_t sdid, const struct jibhotran_pair *pairs, size_t pairs_len);
+
+/*
+ * The shared outlet, in an archive of its own (liboutlet_capi.a). Channels 0 to 7 share 64 slots of JIBHOTRAN_OUTLET_PACKET octets in the memory
+ * that the caller lends; state and memory are handed on unaltered from call to call.
+ *
+ * What a channel may count on, whatever the others offer: its packets leave in the order in which they were copied in; where it holds fewer
+ * than eight, a packet of 1 to JIBHOTRAN_OUTLET_PACKET octets is copied in; and its oldest packet is among the next eight that are handed out, so
+ * it has left after eight takes that are lent JIBHOTRAN_OUTLET_PACKET octets.
+ *
+ * state: the heads and the counts of the channels' rings of eight places, the slots and the lengths of these places, channel by channel (channel c's are
+ * 8c to 8c + 7), and the channel that is next. Numbers that no outlet has, and memory of another size, are refused by 64, before all else
+ * but JIBHOTRAN_ROW; a number that is too wide for its field (lengths have 16 bits, all others 8) is too, in a place that holds nothing as well.
+ * A refusal changes nothing.
+ */
+
+/* The state of an outlet that holds nothing; the memory may hold anything. Only JIBHOTRAN_ROW is refused. */
+uint8_t jibhotran_outlet_open(uint64_t *state, size_t state_len);
+
+/* Copies a packet into a free slot, behind its channel's last: 64, 60, 61, 62. answer: nothing. */
+uint8_t jibhotran_outlet_offer(uint64_t *state, size_t state_len, uint8_t channel, const uint8_t *packet, size_t packet_len, uint8_t *memory,
+                               size_t memory_len, uint64_t *answer, size_t answer_len);
+
+/*
+ * Hands out one packet to the first octets of `out`, the channels in a circle starting after the one served last, at first with 0, and passing over
+ * empty ones: 64, 63, 23. answer: channel, octets.
+ */
+uint8_t jibhotran_outlet_take(uint64_t *state, size_t state_len, const uint8_t *memory, size_t memory_len, uint8_t *out, size_t out_len,
+                              uint64_t *answer, size_t answer_len);
 
 #ifdef __cplusplus
 }

@@ -24,6 +24,9 @@ extern "C" {
     fn jibhotran_line_read(line: *const u16, line_len: usize, start: usize, c: u16, line_number: u16, offset: u16, s: u16, stream: u16, cells: *mut u16, cells_len: usize, answer: *mut u64, answer_len: usize) -> u8;
     fn jibhotran_wanted(did: u8, sdid: u8, pairs: *const u8, pairs_len: usize) -> u8;
     fn jibhotran_wanted_of(did: u8, sdid: u8, pairs: *const Pair, pairs_len: usize) -> u8;
+    fn jibhotran_outlet_open(state: *mut u64, state_len: usize) -> u8;
+    fn jibhotran_outlet_offer(state: *mut u64, state_len: usize, channel: u8, packet: *const u8, packet_len: usize, memory: *mut u8, memory_len: usize, answer: *mut u64, answer_len: usize) -> u8;
+    fn jibhotran_outlet_take(state: *mut u64, state_len: usize, memory: *const u8, memory_len: usize, out: *mut u8, out_len: usize, answer: *mut u64, answer_len: usize) -> u8;
 }
 
 /// Calls with each slice as a pointer and a length; `in` is only read, `mut`
@@ -126,5 +129,25 @@ impl Side for Archive {
 
     fn wanted_of(did: u8, sdid: u8, pairs: &[Pair]) -> u8 {
         call!(jibhotran_wanted_of(did, sdid, in pairs))
+    }
+
+    fn outlet_open(state: &mut [u64]) -> u8 {
+        call!(jibhotran_outlet_open(mut state))
+    }
+
+    #[inline]
+    fn outlet_offer(
+        state: &mut [u64],
+        channel: u8,
+        packet: &[u8],
+        memory: &mut [u8],
+        answer: &mut [u64],
+    ) -> u8 {
+        call!(jibhotran_outlet_offer(mut state, channel, in packet, mut memory, mut answer))
+    }
+
+    #[inline]
+    fn outlet_take(state: &mut [u64], memory: &[u8], out: &mut [u8], answer: &mut [u64]) -> u8 {
+        call!(jibhotran_outlet_take(mut state, in memory, mut out, mut answer))
     }
 }

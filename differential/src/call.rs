@@ -68,6 +68,15 @@ pub enum Call {
         sdid: u8,
         pairs: Vec<Pair>,
     },
+    OutletOpen,
+    /// The octets lent for writing are the outlet's memory.
+    OutletOffer {
+        channel: u8,
+        packet: Vec<u8>,
+    },
+    OutletTake {
+        memory: Vec<u8>,
+    },
 }
 
 /// Numbers, cells or octets on each side of what is lent, which no call may
@@ -157,6 +166,11 @@ impl Call {
             }
             Call::Wanted { did, sdid, pairs } => S::wanted(*did, *sdid, pairs),
             Call::WantedOf { did, sdid, pairs } => S::wanted_of(*did, *sdid, pairs),
+            Call::OutletOpen => S::outlet_open(state),
+            Call::OutletOffer { channel, packet } => {
+                S::outlet_offer(state, *channel, packet, out, answer)
+            }
+            Call::OutletTake { memory } => S::outlet_take(state, memory, out, answer),
         }
     }
 }

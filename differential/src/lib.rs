@@ -1,6 +1,6 @@
 //! The proved archive beside the reference: one boundary, two sides.
 //!
-//! [`Archive`] is `libcapi.a` through the C boundary. [`Model`] is the same
+//! [`Archive`] is `libcapi.a` and `liboutlet_capi.a` through the C boundary. [`Model`] is the same
 //! boundary over the reference. [`call::compare`] makes one call on both and
 //! compares all that can be seen of it. [`Behind`] is the reference called as
 //! the archive is, for measuring.
@@ -19,6 +19,12 @@ pub use model::Model;
 pub const ANSWER: usize = 9;
 /// Numbers that a state row needs.
 pub const STATE: usize = 12;
+/// Numbers that an outlet's state row needs.
+pub const OUTLET_STATE: usize = 145;
+/// Octets of the memory that an outlet is lent.
+pub const OUTLET_MEMORY: usize = 65_536;
+/// The most octets of a packet that an outlet takes.
+pub const OUTLET_PACKET: usize = 1_024;
 /// A row is too short.
 pub const ROW: u8 = 255;
 /// A layout's number is that of neither.
@@ -83,4 +89,13 @@ pub trait Side {
     ) -> u8;
     fn wanted(did: u8, sdid: u8, pairs: &[u8]) -> u8;
     fn wanted_of(did: u8, sdid: u8, pairs: &[Pair]) -> u8;
+    fn outlet_open(state: &mut [u64]) -> u8;
+    fn outlet_offer(
+        state: &mut [u64],
+        channel: u8,
+        packet: &[u8],
+        memory: &mut [u8],
+        answer: &mut [u64],
+    ) -> u8;
+    fn outlet_take(state: &mut [u64], memory: &[u8], out: &mut [u8], answer: &mut [u64]) -> u8;
 }

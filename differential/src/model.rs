@@ -2,10 +2,10 @@
 
 use reference::depacketizer::{arrive, open, Answer, State, FILLING};
 use reference::sdi::{self, Place};
-use reference::{file, packet, sdp, Layout, Refusal};
+use reference::{file, outlet, packet, sdp, Layout, Refusal};
 
 use crate::{Head, Pair, Side, ANSWER, DRAFTS, HELD, LAYOUT, MIXED, OVERFULL, RFC8331, ROW};
-use crate::{SKIPPED, STATE, WHOLE};
+use crate::{OUTLET_STATE, SKIPPED, STATE, WHOLE};
 
 pub struct Model;
 
@@ -124,6 +124,27 @@ fn packet_read(
         ]
     });
     settle(values, answer)
+}
+
+/// A call at the outlet whose state stands in a row: the rows' lengths, then
+/// 64 where the numbers are no state.
+fn at_outlet<const N: usize>(
+    state: &mut [u64],
+    answer: &mut [u64],
+    call: impl FnOnce(outlet::State) -> Result<(outlet::State, [u64; N]), Refusal>,
+) -> u8 {
+    let (Some(row), true) = (
+        state.first_chunk_mut::<OUTLET_STATE>(),
+        answer.len() >= ANSWER,
+    ) else {
+        return ROW;
+    };
+    let before = outlet::State::of_row(row).ok_or(Refusal::plain(64));
+    let outcome = before.and_then(call).map(|(after, values)| {
+        *row = after.row();
+        values
+    });
+    settle(outcome, answer)
 }
 
 impl Side for Model {
@@ -277,5 +298,33 @@ impl Side for Model {
         let entry = |&Pair { did, sdid }: &Pair| sdp::Pair { did, sdid };
         let row: Vec<_> = pairs.iter().map(entry).collect();
         sdp::wanted(&row, did, sdid) as u8
+    }
+
+    fn outlet_open(state: &mut [u64]) -> u8 {
+        let Some(row) = state.first_chunk_mut::<OUTLET_STATE>() else {
+            return ROW;
+        };
+        *row = outlet::open().row();
+        0
+    }
+
+    fn outlet_offer(
+        state: &mut [u64],
+        channel: u8,
+        packet: &[u8],
+        memory: &mut [u8],
+        answer: &mut [u64],
+    ) -> u8 {
+        at_outlet(state, answer, |before| {
+            let after = outlet::offer(before, memory, channel, packet)?;
+            Ok((after, []))
+        })
+    }
+
+    fn outlet_take(state: &mut [u64], memory: &[u8], out: &mut [u8], answer: &mut [u64]) -> u8 {
+        at_outlet(state, answer, |before| {
+            let (after, taken) = outlet::take(before, memory, out)?;
+            Ok((after, [taken.channel as u64, taken.octets as u64]))
+        })
     }
 }

@@ -25,6 +25,9 @@ static octet (*const line_read)(const cell *, size_t, size_t, cell, cell, cell, 
                                 size_t) = jibhotran_line_read;
 static octet (*const wanted)(octet, octet, const octet *, size_t) = jibhotran_wanted;
 static octet (*const wanted_of)(octet, octet, const struct jibhotran_pair *, size_t) = jibhotran_wanted_of;
+static octet (*const outlet_open)(number *, size_t) = jibhotran_outlet_open;
+static octet (*const outlet_offer)(number *, size_t, octet, const octet *, size_t, octet *, size_t, number *, size_t) = jibhotran_outlet_offer;
+static octet (*const outlet_take)(number *, size_t, const octet *, size_t, octet *, size_t, number *, size_t) = jibhotran_outlet_take;
 
 static const cell record_a[8] = {0, 9, 0, 0, 0, 0x41, 0x05, 0};
 static number answer[JIBHOTRAN_ANSWER];
@@ -138,6 +141,33 @@ static void lines(void) {
     result("line read", line_read(line, 10, 2, 2, 0, 0, 0, 0, back, 8, answer, JIBHOTRAN_ANSWER), 2);
 }
 
+/* One channel reloads, another offers one packet, and each gets its turn. */
+static void outlet(void) {
+    static octet memory[JIBHOTRAN_OUTLET_MEMORY];
+    static number state[JIBHOTRAN_OUTLET_STATE];
+    const size_t slots = JIBHOTRAN_OUTLET_MEMORY, row = JIBHOTRAN_OUTLET_STATE;
+    octet out[JIBHOTRAN_OUTLET_PACKET], packet[3] = {30, 31, 32};
+    printf("outlet open %d %d\n", outlet_open(state, row - 1), outlet_open(state, row));
+    result("take", outlet_take(state, row, memory, slots, out, sizeof out, answer, JIBHOTRAN_ANSWER), 2);
+    for (octet i = 0; i < 9; i++) {
+        packet[0] = 30 + i;
+        result("offer 3", outlet_offer(state, row, 3, packet, 3, memory, slots, answer, JIBHOTRAN_ANSWER), 1);
+    }
+    result("offer 5", outlet_offer(state, row, 5, packet, 1, memory, slots, answer, JIBHOTRAN_ANSWER), 1);
+    result("offer 8", outlet_offer(state, row, 8, packet, 1, memory, slots, answer, JIBHOTRAN_ANSWER), 1);
+    result("offer none", outlet_offer(state, row, 5, packet, 0, memory, slots, answer, JIBHOTRAN_ANSWER), 1);
+    result("short memory", outlet_offer(state, row, 5, packet, 1, memory, slots - 1, answer, JIBHOTRAN_ANSWER), 1);
+    numbers("heads and counts", state, 16);
+    for (int i = 0; i < 3; i++) {
+        result("take", outlet_take(state, row, memory, slots, out, sizeof out, answer, JIBHOTRAN_ANSWER), 3);
+        octets("first octet", out, 1);
+    }
+    result("take to 2", outlet_take(state, row, memory, slots, out, 2, answer, JIBHOTRAN_ANSWER), 2);
+    state[row - 1] = 8;
+    result("no state", outlet_take(state, row, memory, slots, out, sizeof out, answer, JIBHOTRAN_ANSWER), 2);
+    result("short row", outlet_take(state, row - 1, memory, slots, out, sizeof out, answer, JIBHOTRAN_ANSWER), 1);
+}
+
 int main(void) {
     octet packet[2][32], old[26];
     printf("%d %d %d %d\n", JIBHOTRAN_ANSWER, JIBHOTRAN_STATE, JIBHOTRAN_ROW, JIBHOTRAN_NO_VPID);
@@ -150,5 +180,7 @@ int main(void) {
     parameters();
     file();
     lines();
+    printf("%d %d %d\n", JIBHOTRAN_OUTLET_STATE, JIBHOTRAN_OUTLET_MEMORY, JIBHOTRAN_OUTLET_PACKET);
+    outlet();
     return 0;
 }

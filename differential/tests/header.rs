@@ -24,7 +24,9 @@ fn a_c_program() {
         ])
         .arg(here.join("../include"))
         .arg(here.join("tests/header.c"))
-        .arg(env!("CAPI_ARCHIVE"))
+        .args(
+            ["libcapi.a", "liboutlet_capi.a"].map(|name| Path::new(env!("CAPI_FOLDER")).join(name)),
+        )
         .arg("-o")
         .arg(&program)
         .output()
@@ -98,7 +100,7 @@ fn the_declarations_agree() {
         " -> u8;",
         rust_parameter,
     );
-    assert_eq!(in_c.len(), 14);
+    assert_eq!(in_c.len(), 17);
     assert_eq!(in_c, in_rust);
 }
 
@@ -112,6 +114,9 @@ fn the_constants_agree() {
     let expected = [
         ("ANSWER", differential::ANSWER as u64),
         ("STATE", differential::STATE as u64),
+        ("OUTLET_STATE", differential::OUTLET_STATE as u64),
+        ("OUTLET_MEMORY", differential::OUTLET_MEMORY as u64),
+        ("OUTLET_PACKET", differential::OUTLET_PACKET as u64),
         ("ROW", differential::ROW as u64),
         ("LAYOUT", differential::LAYOUT as u64),
         ("RFC8331", differential::RFC8331 as u64),

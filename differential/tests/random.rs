@@ -108,7 +108,8 @@ fn check(entry: &str, met: &Coverage) {
     }
 }
 
-/// The table above has every number of 01 and 02 but 22, which is reserved.
+/// The table above has every number of 01 and 02 but 22, which is reserved, and
+/// 60 to 64, which `outlet.rs` has.
 #[test]
 fn every_number_is_some_entrys() {
     let given: BTreeSet<u8> = GIVEN

@@ -6,7 +6,7 @@ use crate::depacketizer::{arrive, open, Answer};
 use crate::packet::{self, check};
 use crate::random::*;
 use crate::refusal::Refusal;
-use crate::{file, frames, sdi, sdp};
+use crate::{file, frames, outlet, sdi, sdp};
 
 /// How often each entry point gave each refusal (number, index) or, under
 /// number 0, an answer.
@@ -64,6 +64,7 @@ pub fn cover(seed: u64, rounds: usize) -> Coverage {
         cover_parameters(&mut r, &mut c);
         cover_files(&mut r, &mut c);
         cover_lines(&mut r, &mut c);
+        cover_outlet(&mut r, &mut c);
         let mut case = arrive_case(&mut r);
         c.add_answer(
             "arrive",
@@ -138,6 +139,20 @@ fn cover_lines(r: &mut Random, c: &mut Coverage) {
         "line read",
         sdi::read(&case.line, case.start, case.place, &mut cells),
     );
+}
+
+fn cover_outlet(r: &mut Random, c: &mut Coverage) {
+    let mut case = outlet_case(r);
+    match case.call {
+        OutletCall::Offer { channel, octets } => c.add(
+            "offer",
+            outlet::offer(case.state, &mut case.memory, channel, &octets),
+        ),
+        OutletCall::Take { room } => c.add(
+            "take",
+            outlet::take(case.state, &case.memory, &mut vec![0; room]),
+        ),
+    }
 }
 
 /// The frames of a `fieldlist` input, given to a depacketizer as it does.

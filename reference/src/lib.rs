@@ -14,6 +14,7 @@ pub mod fieldlist;
 pub mod file;
 pub mod frames;
 pub mod layout;
+pub mod outlet;
 pub mod packet;
 pub mod random;
 pub mod realistic;

@@ -12,7 +12,7 @@ fn every_number_is_reached() {
     let reads: Vec<u8> = (0..=10).chain(12..=16).collect();
     let arrivals: Vec<u8> = (0..=13).chain([15, 16, 30, 31, 32, 35]).collect();
     let frames: Vec<u8> = (2..=13).chain([0, 15, 16, 30, 31, 32]).collect();
-    let expected: [(&str, &[u8]); 13] = [
+    let expected: [(&str, &[u8]); 15] = [
         ("read", &reads),
         ("read strict", &strict),
         ("write", &[0, 16, 20, 21, 23, 24, 25]),
@@ -29,6 +29,8 @@ fn every_number_is_reached() {
         ("file begin", &[0, 23]),
         ("line write", &[0, 16, 20, 70, 71, 72]),
         ("line read", &[0, 9, 10, 11, 14, 16, 20, 70, 71, 73]),
+        ("offer", &[0, 60, 61, 62, 64]),
+        ("take", &[0, 23, 63, 64]),
     ];
     for (entry, numbers) in expected {
         for &number in numbers {

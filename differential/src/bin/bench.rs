@@ -1,6 +1,6 @@
 //! Reader, writer and depacketizer of the archive and of the reference over
 //! the same packets of RFC 8331's layout in the same run, and a plain copy of
-//! their octets.
+//! their octets; then the shared outlet's offers and takes.
 //!
 //! Each measurement is the best of some rounds; the four sides take turns
 //! within a round. The archive is called through the C boundary, the
@@ -12,9 +12,11 @@
 use std::hint::black_box;
 use std::time::Instant;
 
-use differential::{Archive, Behind, Head, Side, ANSWER, RFC8331, STATE};
+use differential::{Archive, Behind, Head, Side, ANSWER, OUTLET_MEMORY, OUTLET_PACKET, OUTLET_STATE};
+use differential::{RFC8331, STATE};
 use reference::anc::Limits;
 use reference::depacketizer::{self, State};
+use reference::outlet;
 use reference::packet;
 use reference::random::{record, Parts, Random};
 use reference::realistic::{Packets, PACKETS};
@@ -305,6 +307,106 @@ fn measure(input: &Input, what: &str, archive: Step, reference: Step, behind: St
     );
 }
 
+/// Eight packets of each channel, and an outlet as each side keeps it.
+struct Outlet {
+    packets: Vec<(u8, Vec<u8>)>,
+    memory: Vec<u8>,
+    out: [u8; OUTLET_PACKET],
+    answer: [u64; ANSWER],
+    row: [u64; OUTLET_STATE],
+    state: outlet::State,
+    sum: u64,
+}
+
+type Calls = fn(&mut Outlet);
+
+#[inline(never)]
+fn archive_offers(bench: &mut Outlet) {
+    Archive::outlet_open(&mut bench.row);
+    for (channel, packet) in black_box(&bench.packets) {
+        let (row, memory) = (&mut bench.row, &mut bench.memory);
+        let number = Archive::outlet_offer(row, *channel, packet, memory, &mut bench.answer);
+        bench.sum += number as u64 + 1;
+    }
+}
+
+#[inline(never)]
+fn reference_offers(bench: &mut Outlet) {
+    bench.state = outlet::open();
+    for (channel, packet) in black_box(&bench.packets) {
+        bench.state = outlet::offer(bench.state, &mut bench.memory, *channel, packet).unwrap();
+        bench.sum += 1;
+    }
+}
+
+#[inline(never)]
+fn archive_takes(bench: &mut Outlet) {
+    let mut row = bench.row;
+    for _ in 0..bench.packets.len() {
+        let (memory, out) = (black_box(&bench.memory), &mut bench.out);
+        let number = Archive::outlet_take(&mut row, memory, out, &mut bench.answer);
+        bench.sum += number as u64 + black_box(&bench.answer)[1];
+    }
+}
+
+#[inline(never)]
+fn reference_takes(bench: &mut Outlet) {
+    let mut state = bench.state;
+    for _ in 0..bench.packets.len() {
+        let (memory, out) = (black_box(&bench.memory), &mut bench.out);
+        let (after, taken) = outlet::take(state, memory, out).unwrap();
+        state = after;
+        bench.sum += black_box(taken).octets as u64;
+    }
+}
+
+impl Outlet {
+    /// With all packets of so many octets copied in.
+    fn full(octets: usize) -> Outlet {
+        let packets = (0..64).map(|packet| (packet % 8, vec![packet; octets]));
+        let mut bench = Outlet {
+            packets: packets.collect(),
+            memory: vec![0; OUTLET_MEMORY],
+            out: [0; OUTLET_PACKET],
+            answer: [0; ANSWER],
+            row: [0; OUTLET_STATE],
+            state: outlet::open(),
+            sum: 0,
+        };
+        archive_offers(&mut bench);
+        reference_offers(&mut bench);
+        assert_eq!(bench.row, bench.state.row());
+        bench
+    }
+}
+
+/// Calls a second, of an outlet that goes from empty to full and back.
+fn measure_outlet(octets: usize, what: &str, archive: Calls, reference: Calls) {
+    let calls = [archive, reference];
+    let mut benches = calls.map(|_| Outlet::full(octets));
+    for (calls, bench) in calls.into_iter().zip(&mut benches) {
+        bench.sum = 0;
+        calls(bench);
+    }
+    assert_eq!(benches[0].sum, benches[1].sum);
+    let mut best = [f64::INFINITY; 2];
+    for _ in 0..ROUNDS {
+        for ((calls, bench), best) in calls.into_iter().zip(&mut benches).zip(&mut best) {
+            let start = Instant::now();
+            for _ in 0..20 {
+                calls(bench);
+            }
+            *best = best.min(start.elapsed().as_secs_f64() / 20.0);
+        }
+    }
+    let [ours, theirs] = best.map(|seconds| 64.0 / seconds);
+    let name = format!("{octets} octets {what}");
+    println!(
+        "{name:<25}{ours:>10.0}{theirs:>14.0}{:>12.2}",
+        ours / theirs
+    );
+}
+
 fn main() {
     let inputs = [
         realistic(),
@@ -348,5 +450,14 @@ fn main() {
             reference_arrive,
             behind_arrive,
         );
+    }
+    println!();
+    println!(
+        "{:<25}{:>10}{:>14}{:>12}",
+        "outlet", "calls/s", "ref. calls/s", "of ref."
+    );
+    for octets in [64, OUTLET_PACKET] {
+        measure_outlet(octets, "offers", archive_offers, reference_offers);
+        measure_outlet(octets, "takes", archive_takes, reference_takes);
     }
 }

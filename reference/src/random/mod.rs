@@ -7,6 +7,7 @@ mod arrival;
 mod field;
 mod line;
 mod list;
+mod outlet;
 mod packet;
 mod text;
 
@@ -15,6 +16,7 @@ pub use arrival::*;
 pub use field::*;
 pub use line::*;
 pub use list::*;
+pub use outlet::*;
 pub use packet::*;
 pub use text::*;
 

@@ -1,0 +1,2 @@
+mod OfferLaws
+mod TakeLaws

@@ -1,0 +1,97 @@
+// Whether state and memory are those of an outlet, and which slots are held (02, K10: 64).
+ghost use mathlib.Core.Path.{_≡_};
+ghost use mathlib.Core.Bool.{false};
+ghost use Prim.Native.Nat.{_<_};
+ghost use lib.ListN.{getD};
+ghost use Rattle.outlet.specs.Places.{heldAt, channelFits, numbersOk, entryFits};
+ghost use Rattle.outlet.specs.Step.{seek};
+ghost use Rattle.egress_state.specs.Survey.{SeenOf};
+use outlet::state::CHANNELS;
+use outlet::state::HELD;
+use outlet::state::MEMORY;
+use outlet::state::SLOT;
+use outlet::state::SLOTS;
+use outlet::state::State;
+
+// Where it is sound, `used` has the slots that are held.
+pub struct Seen {
+    pub sound: bool,
+    pub used: [bool; SLOTS],
+}
+
+// Whether a packet is held at place `k`.
+fn is_held(k: usize, head: u8, count: u8) -> bool
+    requires { ⌜ (k < 64) × (head < 8) ⌝ }
+    ensures { λ r. ⌜ r ≡ heldAt k head count ⌝ }
+{
+    (k % HELD + HELD - (head as usize)) % HELD < (count as usize)
+}
+
+// A held packet's slot and length are in range.
+fn entry_fits(slot: u8, length: u16) -> bool
+    ensures { λ r. ⌜ r ≡ entryFits slot length ⌝ }
+{
+    ((slot as usize) < SLOTS) & ((1 <= length) & ((length as usize) <= SLOT))
+}
+
+// A channel's head and count are in range.
+fn channel_fits(head: u8, count: u8) -> bool
+    ensures { λ r. ⌜ r ≡ channelFits head count ⌝ }
+{
+    ((head as usize) <= HELD - 1) & ((count as usize) <= HELD)
+}
+
+// The heads, the counts and the next channel are in range.
+fn numbers_fit(state: State) -> bool
+    ensures { λ r. ⌜ r ≡ numbersOk state ⌝ }
+{
+    let mut c: usize = 0;
+    while c < CHANNELS {
+        if !channel_fits(state.heads[c], state.counts[c]) {
+            return false;
+        }
+        c += 1;
+    }
+    (state.next as usize) < CHANNELS
+}
+
+pub fn survey(state: State, memory: usize) -> Seen
+    ensures { λ r. ⌜ SeenOf state memory r ⌝ }
+{
+    let mut used = [false; SLOTS];
+    if memory != MEMORY {
+        return Seen { sound: false, used };
+    }
+    if !numbers_fit(state) {
+        return Seen { sound: false, used };
+    }
+    let mut k: usize = 0;
+    while k < SLOTS {
+        if is_held(k, state.heads[k / HELD], state.counts[k / HELD]) {
+            if !entry_fits(state.slots[k], state.lengths[k]) {
+                return Seen { sound: false, used };
+            }
+            let slot = state.slots[k] as usize;
+            if used[slot] {
+                return Seen { sound: false, used };
+            }
+            used[slot] = true;
+        }
+        k += 1;
+    }
+    Seen { sound: true, used }
+}
+
+// The first slot that is not used, or 64.
+pub fn free_slot(used: [bool; SLOTS]) -> usize
+    ensures { λ r. ⌜ r ≡ seek 64 (λ s. getD used s false) 0 ⌝ }
+{
+    let mut s: usize = 0;
+    while s < SLOTS {
+        if !used[s] {
+            return s;
+        }
+        s += 1;
+    }
+    s
+}

@@ -1,0 +1,89 @@
+-- What a sound state says of its numbers and of its held places.
+use mathlib.Core.Path.{_≡_, refl, sym, _∙_, ap}
+use mathlib.Core.Bool.{Bool, true, false, true≢false, not, _&&_, _||_}
+use mathlib.Core.List.{List}
+use Prim.Native.Nat.{ℕ, zero, suc, _+_, _-_, _*_, _/_, _%_, _≤_, _<_}
+use native.Mathlib.Omega.{arith}
+use lib.Dec.{eqb, leb, ltb}
+use lib.ListN.{getD}
+use borrow.Author.Tests.{lt-ltb, le-ltb, ltb-true, leb-true}
+use Rattle.outlet.specs.declared.state.State.{State}
+use Rattle.outlet.specs.Places.{heldAt, held, slotAt, entryFits, usedBelow, placeOk, allUpto, channelOk, numbersOk, sound}
+use Rattle.outlet.specs.Step.{headPlace}
+use Rattle.outlet.proofs.Upto.{and-left, and-right, upto-at}
+
+pub numbers : (st : State) → sound st ≡ true → numbersOk st ≡ true
+numbers st e = and-left (numbersOk st) (allUpto (placeOk st) 64) e
+
+pub place-ok : (st : State) (k : ℕ) → sound st ≡ true → k < 64 → placeOk st k ≡ true
+place-ok st k e h = upto-at (placeOk st) 64 k (and-right (numbersOk st) (allUpto (placeOk st) 64) e) h
+
+-- a channel's head is one of its places, and it holds at most eight
+channel-fits : (st : State) (c : ℕ) → numbersOk st ≡ true → c < 8 → channelOk st c ≡ true
+channel-fits st c e h = upto-at (channelOk st) 8 c (and-left (allUpto (channelOk st) 8) (ltb (st .next) 8) e) h
+
+pub head-fits : (st : State) (c : ℕ) → numbersOk st ≡ true → c < 8 → getD (st .heads) c 0 < 8
+head-fits st c e h =
+    let g = leb-true (getD (st .heads) c 0) 7 (and-left (leb (getD (st .heads) c 0) 7) (leb (getD (st .counts) c 0) 8) (channel-fits st c e h)) in
+    omega arith
+
+pub count-fits : (st : State) (c : ℕ) → numbersOk st ≡ true → c < 8 → getD (st .counts) c 0 ≤ 8
+count-fits st c e h =
+    leb-true (getD (st .counts) c 0) 8 (and-right (leb (getD (st .heads) c 0) 7) (leb (getD (st .counts) c 0) 8) (channel-fits st c e h))
+
+pub next-fits : (st : State) → sound st ≡ true → st .next < 8
+next-fits st e = ltb-true (st .next) 8 (and-right (allUpto (channelOk st) 8) (ltb (st .next) 8) (numbers st e))
+
+-- a held place's slot and its length are in range
+pub record Ready (st : State) (k : ℕ) : Type 0 where
+  pub slot : getD (st .slots) k 0 < 64
+  pub least : 1 ≤ getD (st .lengths) k 0
+  pub most : getD (st .lengths) k 0 ≤ 1024
+  pub once : usedBelow st k (slotAt st k) ≡ false
+
+entry-fits : (s l : ℕ) → entryFits s l ≡ true → (s < 64) × (1 ≤ l) × (l ≤ 1024)
+entry-fits s l g =
+    let r = and-right (ltb s 64) (leb 1 l && leb l 1024) g in
+    (ltb-true s 64 (and-left (ltb s 64) (leb 1 l && leb l 1024) g), leb-true 1 l (and-left (leb 1 l) (leb l 1024) r), leb-true l 1024 (and-right (leb 1 l) (leb l 1024) r))
+
+pub held-ready : (st : State) (k : ℕ) → sound st ≡ true → k < 64 → held st k ≡ true → Ready st k
+held-ready st k e l h =
+    let p : not (held st k) || (entryFits (slotAt st k) (getD (st .lengths) k 0) && not (usedBelow st k (slotAt st k))) ≡ true = place-ok st k e l in
+    let f = rw h at p in
+    let r = entry-fits (slotAt st k) (getD (st .lengths) k 0) (and-left (entryFits (slotAt st k) (getD (st .lengths) k 0)) (not (usedBelow st k (slotAt st k))) f) in
+    record {
+      slot = r .0;
+      least = r .1;
+      most = r .2;
+      once = negated (usedBelow st k (slotAt st k)) (and-right (entryFits (slotAt st k) (getD (st .lengths) k 0)) (not (usedBelow st k (slotAt st k))) f);
+    }
+  where
+    negated : (b : Bool) → not b ≡ true → b ≡ false
+    negated true z = absurd (true≢false (sym z))
+    negated false z = refl
+
+-- places of a channel: packet `i` behind a head at `h`
+pub place-held : (c h i n : ℕ) → h < 8 → i < n → n ≤ 8 → heldAt (8 * c + (h + i) % 8) h n ≡ true
+place-held c h i n a b d = lt-ltb (((8 * c + (h + i) % 8) % 8 + 8 - h) % 8) n (omega arith)
+
+pub place-low : (c x : ℕ) → c < 8 → 8 * c + x % 8 < 64
+place-low c x h = omega arith
+
+pub place-channel : (c x : ℕ) → (8 * c + x % 8) / 8 ≡ c
+place-channel c x = omega arith
+
+-- the place behind a channel's last packet holds none
+pub place-free : (c h n : ℕ) → h < 8 → n < 8 → heldAt (8 * c + (h + n) % 8) h n ≡ false
+place-free c h n a b = le-ltb (((8 * c + (h + n) % 8) % 8 + 8 - h) % 8) n (omega arith)
+
+pub head-place : (c h : ℕ) → h < 8 → 8 * c + (h + 0) % 8 ≡ 8 * c + h
+head-place c h l = omega arith
+
+-- so the head of a channel that holds a packet can be handed out
+pub head-ready : (st : State) (c : ℕ) → sound st ≡ true → c < 8 → 0 < getD (st .counts) c 0 → Ready st (headPlace st c)
+head-ready st c e h g =
+    let x = getD (st .heads) c 0 in
+    let b = head-fits st c (numbers st e) h in
+    rw (← head-place c x b)
+    (held-ready st (8 * c + (x + 0) % 8) e (place-low c (x + 0) h)
+    (rw (place-channel c (x + 0)) (place-held c x 0 (getD (st .counts) c 0) b g (count-fits st c (numbers st e) h))))
