@@ -8,8 +8,8 @@
  * "Refusals").
  * `answer` takes what a call returns beside that: on acceptance the numbers that are named at the function, on a refusal the refusal's
  * index in answer[0]; the rest of the row stays. A row of fewer than JIBHOTRAN_ANSWER numbers is refused by JIBHOTRAN_ROW, and nothing is
- * written at all. On a refusal the other lent memory is unchanged, but for the late count (refusal 32). Number 22 is reserved: no call
- * gives it.
+ * written at all. On a refusal the other lent memory is unchanged, but for the late count (refusal 32) and the remembered number
+ * (refusal 36). Number 22 is reserved: no call gives it.
  *
  * `layout` is the packets' layout, JIBHOTRAN_RFC8331 or JIBHOTRAN_DRAFTS, which the octets do not tell. Another number is refused by
  * JIBHOTRAN_LAYOUT, after JIBHOTRAN_ROW and before all else, and nothing is written at all.
@@ -29,7 +29,7 @@ extern "C" {
 
 /* Numbers that an answer needs, and a state. */
 #define JIBHOTRAN_ANSWER 9
-#define JIBHOTRAN_STATE 12
+#define JIBHOTRAN_STATE 14
 
 /* Numbers that an outlet's state needs, octets of the memory that it is lent, and the most octets of a packet that it takes. */
 #define JIBHOTRAN_OUTLET_STATE 145
@@ -83,8 +83,10 @@ uint8_t jibhotran_open(uint32_t source, uint8_t payload_type, uint64_t *state, s
  * One arrival, a packet of the layout. answer: one of JIBHOTRAN_SKIPPED to JIBHOTRAN_WHOLE, timestamp, F, records, cells; the last four
  * are 0 unless the field is whole.
  * While a field is gathered, each call is lent the same store, untouched.
- * state: source, payload type, phase (0 lost, 1 ready, 2 filling), heard (0 or 1), last, timestamp, F, records, cells, fresh, late, missing.
- * Numbers that no state has are refused by 35.
+ * state: source, payload type, phase (0 lost, 1 ready, 2 filling), heard (0 or 1), last, timestamp, F, records, cells, fresh, late, missing,
+ * whether a number is remembered (0 or 1), that number (0 where none is). Numbers that no state has are refused by 35.
+ * An arrival over 2,999 ahead of the last fresh one, or 100 or more behind, is refused by 36, and the number after it is remembered until an
+ * arrival is fresh. One as far that has the remembered number restarts the depacketizer: it is a first arrival, and the counts begin anew.
  */
 uint8_t jibhotran_arrive(uint8_t layout, uint64_t *state, size_t state_len, const uint8_t *octets, size_t octets_len, uint16_t *store,
                          size_t store_len, uint64_t *answer, size_t answer_len);

@@ -116,10 +116,20 @@ pub fn arrive(r: &mut Random) -> Case {
 
 /// Which numbers of a state row have a bound, and the bound's width: the
 /// number that a row has beside `2^width` is what a cut would make of it.
-pub const BOUNDED: [(usize, u32); 7] = [(0, 32), (1, 8), (2, 8), (3, 1), (4, 32), (5, 32), (6, 8)];
+pub const BOUNDED: [(usize, u32); 9] = [
+    (0, 32),
+    (1, 8),
+    (2, 8),
+    (3, 1),
+    (4, 32),
+    (5, 32),
+    (6, 8),
+    (12, 1),
+    (13, 32),
+];
 
-/// A state's row, at times with numbers that no state has, or a timestamp
-/// and F beside a phase that does not use them.
+/// A state's row, at times with numbers that no state has, a timestamp and F
+/// beside a phase that does not use them, or a number where none is remembered.
 fn state_row(r: &mut Random, state: &State) -> [u64; STATE] {
     let mut row = row_of(state);
     match r.below(20) {
@@ -128,11 +138,12 @@ fn state_row(r: &mut Random, state: &State) -> [u64; STATE] {
             row[at] |= 1 << r.pick(&[width, 32, 63]);
         }
         1 => row[2] = r.pick(&[3, 4, 255, 256, u64::MAX]),
-        2 => row[3] = r.pick(&[2, 3, 256, u64::MAX]),
+        2 => row[r.pick(&[3, 12])] = r.pick(&[2, 3, 256, u64::MAX]),
         3..6 => {
             row[5] = r.draw() >> 32;
             row[6] = r.octet() as u64;
         }
+        6..8 => row[13] = r.draw() >> 32,
         _ => {}
     }
     row

@@ -53,16 +53,20 @@ pub fn row_of(state: &State) -> [u64; STATE] {
         state.fresh,
         state.late,
         state.missing,
+        state.remembered.is_some() as u64,
+        state.remembered.unwrap_or(0) as u64,
     ]
 }
 
 /// None where the numbers are no state.
 pub fn state_of(row: &[u64]) -> Option<State> {
+    let flag = |number: u64| [false, true].get(usize::try_from(number).ok()?).copied();
+    let (remembers, remembered) = (flag(row[12])?, row[13].try_into().ok()?);
     Some(State {
         source: row[0].try_into().ok()?,
         payload_type: row[1].try_into().ok()?,
         phase: row[2].try_into().ok().filter(|&phase| phase <= FILLING)?,
-        heard: [false, true].get(usize::try_from(row[3]).ok()?).copied()?,
+        heard: flag(row[3])?,
         last: row[4].try_into().ok()?,
         timestamp: row[5].try_into().ok()?,
         f: row[6].try_into().ok()?,
@@ -71,6 +75,7 @@ pub fn state_of(row: &[u64]) -> Option<State> {
         fresh: row[9],
         late: row[10],
         missing: row[11],
+        remembered: remembers.then_some(remembered),
     })
 }
 
@@ -205,7 +210,12 @@ impl Side for Model {
             return settle::<0>(Err(Refusal::plain(35)), answer);
         };
         let (after, outcome) = arrive(before, layout, octets, store);
-        state[..STATE].copy_from_slice(&row_of(&after));
+        let mut row = row_of(&after);
+        // A refusal keeps the number that stands where none is remembered.
+        if matches!(outcome, Answer::Refused(_)) && after.remembered.is_none() {
+            row[13] = state[13];
+        }
+        state[..STATE].copy_from_slice(&row);
         settle(values_of(outcome), answer)
     }
 

@@ -126,6 +126,14 @@ fn example(layout: Layout) -> Vec<u8> {
     input
 }
 
+/// A recorded power cycle, as the README shows it.
+#[test]
+fn power_cycle() {
+    let input = include_bytes!("power-cycle.rtp");
+    let listed = compare(Layout::Rfc8331, input, 7, "power_cycle");
+    assert_eq!(listed, include_str!("power-cycle.txt"));
+}
+
 /// In its own layout; told the other, each frame is 7.
 #[test]
 fn the_example_of_01() {

@@ -1,6 +1,6 @@
 //! Every refusal number of 01 and 02 through the archive, by hand, with its
 //! index, in both layouts. What is lent stays as it was, but for the index
-//! and, at 32, the late count.
+//! and, at 32, the late count, at 36 the remembered number.
 
 use std::collections::BTreeSet;
 
@@ -446,7 +446,11 @@ fn states() -> Vec<(u8, &'static str, State)> {
         (31, "other type", State { payload_type: 3, last: 9, ..good }),
         (32, "distance 0", late(HEAD.number)),
         (32, "distance -1", late(HEAD.number + 1)),
-        (32, "the most negative distance", late(HEAD.number + 0x8000_0000)),
+        (32, "distance -99", late(HEAD.number + 99)),
+        (36, "distance -100", late(HEAD.number + 100)),
+        (36, "distance 3,000", late(HEAD.number.wrapping_sub(3_000))),
+        (36, "the most negative distance", late(HEAD.number + 0x8000_0000)),
+        (36, "the far number again", State { last: HEAD.number + 100, remembered: Some(HEAD.number + 1), ..good }),
         (35, "4,096 records", State { records: 4_096, ..good }),
         (35, "32,769 cells", State { cells: 32_769, ..good }),
         (35, "more cells than the store", State { cells: 101, ..good }),
@@ -457,7 +461,7 @@ fn states() -> Vec<(u8, &'static str, State)> {
     ]
 }
 
-/// 30, 31 and 32 at the packet of record A; 35 at one that 12 refuses, since
+/// 30, 31, 32 and 36 at the packet of record A; 35 at one that 12 refuses, since
 /// the state comes first.
 fn of_states(layout: Layout) -> Vec<Refused> {
     let entry = |(number, what, state): (u8, &'static str, State)| {
@@ -680,7 +684,11 @@ fn every_number_with_its_index() {
         memory.state.get_mut().copy_from_slice(&row_of(&case.state));
         let (number, after) = compare(&case.call, &memory);
         memory.answer.get_mut()[0] = case.index;
-        memory.state.get_mut()[10] += (case.number == 32) as u64;
+        let state = memory.state.get_mut();
+        state[10] += (case.number == 32) as u64;
+        if case.number == 36 {
+            state[12..].copy_from_slice(&[1, HEAD.number as u64 + 1]);
+        }
         let what = case.what;
         assert_eq!(number, case.number, "{what}: {:?}", case.call);
         assert_eq!(after, memory, "{number}, {what}");
@@ -691,7 +699,7 @@ fn every_number_with_its_index() {
 fn the_table_has_every_number() {
     let numbers: BTreeSet<u8> = table().iter().map(|case| case.number).collect();
     let of_the_papers = (1..=16)
-        .chain([20, 21, 23, 24, 25, 30, 31, 32, 35])
+        .chain([20, 21, 23, 24, 25, 30, 31, 32, 35, 36])
         .chain(40..=44)
         .chain(50..=55)
         .chain(70..=73);

@@ -276,6 +276,7 @@ fn numbers_that_are_no_state() {
         refused(2, phase);
     }
     refused(3, 2);
+    refused(12, 2);
 }
 
 /// The largest numbers that a state can have are taken: 30 and 31 say so.
@@ -286,6 +287,8 @@ fn largest_numbers_of_a_state() {
         (0, u32::MAX as u64, 30),
         (1, 255, 31),
         (4, u32::MAX as u64, 0),
+        (12, 1, 0),
+        (13, u32::MAX as u64, 0),
         (5, u32::MAX as u64, 0),
         (6, 255, 0),
     ] {

@@ -1,7 +1,7 @@
 //! Whole streams of either layout through both sides, the state carried
 //! through the row: loss, repeats, packets out of order, foreign and damaged
-//! octets, told either layout, wrap of the packet number; and packets in no
-//! well-formed fields, told any number.
+//! octets, told either layout, wrap of the packet number, restarts; and packets
+//! in no well-formed fields, told any number.
 
 use std::collections::BTreeMap;
 
@@ -10,7 +10,7 @@ use differential::inputs::told;
 use differential::model::number_of;
 use differential::{ANSWER, DRAFTS, LAYOUT, RFC8331, STATE, WHOLE};
 use reference::packet::check;
-use reference::random::{arrivals, stream, wild_packets, Random};
+use reference::random::{arrivals, cycles, stream, wild_packets, Random};
 
 /// What the arrivals of all streams were answered.
 #[derive(Debug, Default)]
@@ -136,6 +136,35 @@ fn fields_with_trouble() {
         }
     }
     assert!(met.of(DRAFTS, 15) > 10, "{met:?}");
+}
+
+/// Streams one behind the other, as an encoder sends them that restarts, most
+/// of them far from the last number of the one before.
+#[test]
+fn encoders_that_restart() {
+    let mut r = Random::new(203);
+    let mut met = Met::default();
+    for _ in 0..4_000 {
+        let layout = r.layout();
+        let cycles = cycles(&mut r, layout);
+        let mut packets: Vec<Arrival> = Vec::new();
+        for (stream, arrivals) in &cycles {
+            let told = |arrival| (number_of(stream.told(arrival)), stream.octets(arrival));
+            packets.extend(arrivals.iter().map(told));
+        }
+        let (first, _) = &cycles[0];
+        let memory = opened(first.source, first.payload_type, &mut r);
+        let store = store(&mut r);
+        deliver(&packets, memory, store, &mut r, &mut met);
+    }
+    println!("{met:?}");
+    for layout in [RFC8331, DRAFTS] {
+        assert!(
+            met.kinds[layout as usize][WHOLE as usize] > 1_000,
+            "{met:?}"
+        );
+        assert!(met.of(layout, 36) > 1_000, "{met:?}");
+    }
 }
 
 #[test]

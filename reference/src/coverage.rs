@@ -2,7 +2,7 @@
 
 use std::collections::BTreeMap;
 
-use crate::depacketizer::{arrive, open, Answer};
+use crate::depacketizer::{arrive, distance, open, Answer, Distance, State};
 use crate::packet::{self, check};
 use crate::random::*;
 use crate::refusal::Refusal;
@@ -43,6 +43,14 @@ impl Coverage {
         self.add::<()>(entry, Ok(()));
     }
 
+    /// A far arrival that is fresh is a restart.
+    fn add_restart(&mut self, entry: &'static str, before: State, after: State) {
+        let far = before.heard && distance(before.last, after.last) == Distance::Far;
+        if far {
+            *self.answers.entry((entry, "restarted")).or_default() += 1;
+        }
+    }
+
     /// Occurrences of a number, and how many different indices it had.
     pub fn of(&self, entry: &str, number: u8) -> (u64, usize) {
         let these = self
@@ -66,10 +74,9 @@ pub fn cover(seed: u64, rounds: usize) -> Coverage {
         cover_lines(&mut r, &mut c);
         cover_outlet(&mut r, &mut c);
         let mut case = arrive_case(&mut r);
-        c.add_answer(
-            "arrive",
-            arrive(case.state, case.layout, &case.octets, &mut case.store).1,
-        );
+        let (after, answer) = arrive(case.state, case.layout, &case.octets, &mut case.store);
+        c.add_restart("arrive", case.state, after);
+        c.add_answer("arrive", answer);
         c.add("open", open(0, r.octet()));
     }
     for _ in 0..rounds / 8 {
@@ -177,8 +184,9 @@ fn cover_frames(r: &mut Random, c: &mut Coverage) {
                 continue;
             }
         };
-        let (state, answer) = arrive(state, layout, octets, &mut store);
-        depacketizer = Some(state);
+        let (after, answer) = arrive(state, layout, octets, &mut store);
+        depacketizer = Some(after);
+        c.add_restart("frames", state, after);
         c.add_answer("frames", answer);
     }
 }

@@ -28,6 +28,8 @@ pub struct State {
     pub fresh: u64,
     pub late: u64,
     pub missing: u64,
+    /// The number after that of a far arrival, unless one was fresh since.
+    pub remembered: Option<u32>,
 }
 
 #[derive(Clone, Copy, Debug, PartialEq, Eq)]
@@ -45,15 +47,21 @@ pub enum Answer {
     Refused(Refusal),
 }
 
-/// Where an arrival stands against the last fresh one.
+/// Where an arrival stands against the last fresh one (02, K11).
 #[derive(Clone, Copy, Debug, PartialEq, Eq)]
 pub enum Distance {
     First,
     Next,
-    /// Distance over 1: that many packets are missing between.
-    Gap(u32),
+    /// Distance 2 to 2,999: that many packets are missing between.
+    Ahead(u32),
     Late,
+    Far,
 }
+
+/// The furthest that is fresh: MAX_DROPOUT of RFC 3550 A.1, less one.
+pub const FURTHEST_AHEAD: i32 = 2_999;
+/// The furthest that is late: MAX_MISORDER of RFC 3550 A.1, less one.
+pub const FURTHEST_BEHIND: i32 = -99;
 
 /// A depacketizer just opened is lost, has no last fresh number, counts 0.
 /// 24 if the payload type is over 127.
@@ -61,36 +69,24 @@ pub fn open(source: u32, payload_type: u8) -> Result<State, Refusal> {
     if payload_type > 127 {
         return Err(Refusal::plain(24));
     }
-    Ok(State {
-        source,
-        payload_type,
-        phase: LOST,
-        heard: false,
-        last: 0,
-        timestamp: 0,
-        f: 0,
-        records: 0,
-        cells: 0,
-        fresh: 0,
-        late: 0,
-        missing: 0,
-    })
+    Ok(State::opened(source, payload_type))
 }
 
 /// The number less the last fresh one modulo 2^32, read as a signed 32-bit
-/// number; zero or negative is late.
+/// number: next is 1, ahead 2 to 2,999, late 0 to -99, far anything else.
 #[inline]
 pub fn distance(last: u32, number: u32) -> Distance {
     match number.wrapping_sub(last) as i32 {
         1 => Distance::Next,
-        far if far > 1 => Distance::Gap(far as u32 - 1),
-        _ => Distance::Late,
+        away @ 2..=FURTHEST_AHEAD => Distance::Ahead(away as u32 - 1),
+        FURTHEST_BEHIND..=0 => Distance::Late,
+        _ => Distance::Far,
     }
 }
 
 /// One arrival, in the layout that the caller tells: 35, then 1 to 13, 15
-/// and 16, then 30, 31, 32; a fresh one is counted and gathered. The store is written
-/// by held and whole only.
+/// and 16, then 30, 31, then 32 or 36; a fresh one is counted and gathered. The
+/// store is written by held and whole only.
 #[inline]
 pub fn arrive(state: State, layout: Layout, octets: &[u8], store: &mut [u16]) -> (State, Answer) {
     if !state.is_sound(store.len()) {
@@ -106,9 +102,12 @@ pub fn arrive(state: State, layout: Layout, octets: &[u8], store: &mut [u16]) ->
     if packet.summary.payload_type != state.payload_type {
         return (state, refused(31));
     }
-    match state.distance(packet.summary.number) {
+    let number = packet.summary.number;
+    match state.distance(number) {
         Distance::Late => (state.count_late(), refused(32)),
-        far => state.take(far, &packet, store),
+        Distance::Far if state.remembered != Some(number) => (state.remember(number), refused(36)),
+        Distance::Far => state.restarted().take(Distance::First, &packet, store),
+        near => state.take(near, &packet, store),
     }
 }
 
@@ -117,6 +116,29 @@ fn refused(number: u8) -> Answer {
 }
 
 impl State {
+    const fn opened(source: u32, payload_type: u8) -> State {
+        State {
+            source,
+            payload_type,
+            phase: LOST,
+            heard: false,
+            last: 0,
+            timestamp: 0,
+            f: 0,
+            records: 0,
+            cells: 0,
+            fresh: 0,
+            late: 0,
+            missing: 0,
+            remembered: None,
+        }
+    }
+
+    /// Counts return to zero, and what comes is treated as a first arrival.
+    fn restarted(self) -> State {
+        State::opened(self.source, self.payload_type)
+    }
+
     /// None of what 35 names.
     #[inline(always)]
     fn is_sound(&self, store: usize) -> bool {
@@ -142,12 +164,21 @@ impl State {
         }
     }
 
-    /// A fresh arrival: what it was answered, and the state after it.
+    /// The number after a far arrival's.
+    fn remember(self, number: u32) -> State {
+        State {
+            remembered: Some(number.wrapping_add(1)),
+            ..self
+        }
+    }
+
+    /// A fresh arrival: what it was answered, and the state after it. It
+    /// clears the memory.
     #[inline(always)]
-    fn take(self, far: Distance, packet: &Accepted, store: &mut [u16]) -> (State, Answer) {
+    fn take(self, near: Distance, packet: &Accepted, store: &mut [u16]) -> (State, Answer) {
         let summary = &packet.summary;
-        let missing = match far {
-            Distance::Gap(missing) => missing as u64,
+        let missing = match near {
+            Distance::Ahead(missing) => missing as u64,
             _ => 0,
         };
         let counted = State {
@@ -155,9 +186,10 @@ impl State {
             last: summary.number,
             fresh: self.fresh.saturating_add(1),
             missing: self.missing.saturating_add(missing),
+            remembered: None,
             ..self
         };
-        if far != Distance::Next || self.phase == LOST {
+        if near != Distance::Next || self.phase == LOST {
             return (counted.drop_field(summary.marker), Answer::Skipped);
         }
         if self.phase == FILLING && !self.joins(summary) {
@@ -223,11 +255,15 @@ mod tests {
     #[test]
     fn marked_distances() {
         assert_eq!(distance(0xFFFF_FFFF, 0), Distance::Next);
-        assert_eq!(distance(0, 0x7FFF_FFFF), Distance::Gap(0x7FFF_FFFE));
-        assert_eq!(distance(0, 0x8000_0000), Distance::Late);
+        assert_eq!(distance(0, 0xBB7), Distance::Ahead(0xBB6));
+        assert_eq!(distance(0, 0xBB8), Distance::Far);
+        assert_eq!(distance(0, 0xFFFF_FF9D), Distance::Late);
+        assert_eq!(distance(0, 0xFFFF_FF9C), Distance::Far);
+        assert_eq!(distance(0, 0x7FFF_FFFF), Distance::Far);
+        assert_eq!(distance(0, 0x8000_0000), Distance::Far);
         assert_eq!(distance(5, 5), Distance::Late);
         assert_eq!(distance(5, 4), Distance::Late);
-        assert_eq!(distance(0xFFFF_FFFF, 1), Distance::Gap(1));
+        assert_eq!(distance(0xFFFF_FFFF, 1), Distance::Ahead(1));
     }
 
     #[test]

@@ -10,8 +10,8 @@ fn every_number_is_reached() {
     let coverage = cover(1, 8_000);
     let strict: Vec<u8> = (0..=16).collect();
     let reads: Vec<u8> = (0..=10).chain(12..=16).collect();
-    let arrivals: Vec<u8> = (0..=13).chain([15, 16, 30, 31, 32, 35]).collect();
-    let frames: Vec<u8> = (2..=13).chain([0, 15, 16, 30, 31, 32]).collect();
+    let arrivals: Vec<u8> = (0..=13).chain([15, 16, 30, 31, 32, 35, 36]).collect();
+    let frames: Vec<u8> = (2..=13).chain([0, 15, 16, 30, 31, 32, 36]).collect();
     let expected: [(&str, &[u8]); 15] = [
         ("read", &reads),
         ("read strict", &strict),
@@ -47,7 +47,7 @@ fn every_number_is_reached() {
         assert_eq!(others.count(), 0, "{entry}");
     }
     assert!(coverage.answers[&("read", "left out")] > 100);
-    for answer in ["skipped", "held", "mixed", "overfull", "whole"] {
+    for answer in ["skipped", "held", "mixed", "overfull", "whole", "restarted"] {
         for entry in ["arrive", "frames"] {
             assert!(
                 coverage.answers.contains_key(&(entry, answer)),

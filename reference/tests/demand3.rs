@@ -10,29 +10,44 @@ use reference::frames::put_frame;
 use reference::random::*;
 use reference::Layout;
 
-/// Places in the stream of each arrival that is fresh.
+/// Places in the stream of each arrival that is fresh: sent later than every
+/// such arrival before it.
 fn fresh_arrivals(arrivals: &[Arrival]) -> Vec<usize> {
-    let mut fresh: Vec<usize> = Vec::new();
+    let (mut fresh, mut latest) = (Vec::new(), None);
     for arrival in arrivals {
         if let Arrival::Sent(index) = *arrival {
-            if fresh.iter().all(|&before| index > before) {
+            if Some(index) > latest {
                 fresh.push(index);
             }
+            latest = latest.max(Some(index));
         }
     }
     fresh
 }
 
+/// No arrival of a sent packet lies over 2,999 ahead of the last fresh one, or
+/// 100 or more behind (02, K11).
+fn near(arrivals: &[Arrival]) -> bool {
+    let mut last: Option<usize> = None;
+    arrivals.iter().all(|arrival| {
+        let (Arrival::Sent(index), before) = (arrival, last) else {
+            return true;
+        };
+        last = last.max(Some(*index));
+        before.is_none_or(|before| *index <= before + 2_999 && before < index + 100)
+    })
+}
+
 /// The packets of each field, as places in the stream.
 fn fields(stream: &Stream) -> Vec<Range<usize>> {
-    let count = stream.sent.last().map_or(0, |sent| sent.field + 1);
-    let of = |field| stream.sent.iter().map(move |sent| sent.field == field);
-    (0..count)
-        .map(|field| {
-            let start = of(field).position(|is| is).unwrap();
-            start..start + of(field).filter(|&is| is).count()
-        })
-        .collect()
+    let mut fields: Vec<Range<usize>> = Vec::new();
+    for (index, sent) in stream.sent.iter().enumerate() {
+        match fields.get_mut(sent.field) {
+            Some(packets) => packets.end = index + 1,
+            None => fields.push(index..index + 1),
+        }
+    }
+    fields
 }
 
 /// Timestamp, F, records and cells of a field as sent.
@@ -51,16 +66,26 @@ fn as_sent(stream: &Stream, packets: Range<usize>) -> Field {
 /// A field is handed out exactly when all its packets, and the one sent just
 /// before them, are among the fresh arrivals.
 fn expected(stream: &Stream, fresh: &[usize]) -> Vec<Field> {
+    let is_fresh = |index| fresh.binary_search(&index).is_ok();
     fields(stream)
         .into_iter()
         .filter(|packets| packets.start > 0)
-        .filter(|packets| (packets.start - 1..packets.end).all(|index| fresh.contains(&index)))
+        .filter(|packets| (packets.start - 1..packets.end).all(is_fresh))
         .map(|packets| as_sent(stream, packets))
         .collect()
 }
 
 fn deliver(stream: &Stream, arrivals: &[Arrival], store: usize) -> (State, Vec<Field>) {
-    let mut state = open(stream.source, stream.payload_type).unwrap();
+    let state = open(stream.source, stream.payload_type).unwrap();
+    deliver_from(state, stream, arrivals, store)
+}
+
+fn deliver_from(
+    mut state: State,
+    stream: &Stream,
+    arrivals: &[Arrival],
+    store: usize,
+) -> (State, Vec<Field>) {
     let mut store = vec![0; store];
     let mut handed = Vec::new();
     for arrival in arrivals {
@@ -83,22 +108,29 @@ fn deliver(stream: &Stream, arrivals: &[Arrival], store: usize) -> (State, Vec<F
     (state, handed)
 }
 
-fn check(stream: &Stream, arrivals: &[Arrival], store: usize) -> usize {
+/// Demand 3's conclusion of a state and what was handed out.
+fn holds(stream: &Stream, arrivals: &[Arrival], after: &(State, Vec<Field>)) -> bool {
+    let (state, handed) = after;
     let fresh = fresh_arrivals(arrivals);
     let sent = arrivals
         .iter()
         .filter(|arrival| matches!(arrival, Arrival::Sent(_)))
         .count();
-    let (state, handed) = deliver(stream, arrivals, store);
-    assert_eq!(handed, expected(stream, &fresh));
-    assert_eq!(state.fresh, fresh.len() as u64);
-    assert_eq!(state.late, (sent - fresh.len()) as u64);
     let span = match (fresh.first(), fresh.last()) {
         (Some(first), Some(last)) => last - first + 1,
         _ => 0,
     };
-    assert_eq!(state.fresh + state.missing, span as u64);
-    handed.len()
+    *handed == expected(stream, &fresh)
+        && state.fresh == fresh.len() as u64
+        && state.late == (sent - fresh.len()) as u64
+        && state.fresh + state.missing == span as u64
+}
+
+fn check(stream: &Stream, arrivals: &[Arrival], store: usize) -> usize {
+    assert!(near(arrivals));
+    let after = deliver(stream, arrivals, store);
+    assert!(holds(stream, arrivals, &after));
+    after.1.len()
 }
 
 /// The most cells of a field.
@@ -137,6 +169,158 @@ fn shuffled_streams() {
             .collect();
         check(&stream, &arrivals, 20_000);
     }
+}
+
+/// A long stream of small fields.
+fn long_stream(r: &mut Random, layout: Layout) -> Stream {
+    stream(r, layout, 9_000, 2)
+}
+
+/// The next arrival: on from the last fresh one, or a late one, up to the
+/// borders of what is near; a step further is one that is not.
+fn jump(r: &mut Random, last: usize, over: usize) -> usize {
+    match r.below(16) {
+        0 => last + r.pick(&[2_999 + over, 2_998, 2_997]),
+        1 => last + 1 + r.below(2_999),
+        2 => last.saturating_sub(r.pick(&[99 + over, 98, 97, 1, 0])),
+        3 => last.saturating_sub(r.below(100)),
+        4 => last + 2,
+        _ => last + 1,
+    }
+}
+
+/// Lists of a long stream whose arrivals jump, near ones and others.
+fn jumps(r: &mut Random, stream: &Stream, over: usize) -> Vec<Arrival> {
+    let mut last = r.below(200);
+    let mut arrivals = vec![Arrival::Sent(last)];
+    for _ in 0..40 {
+        let index = jump(r, last, over);
+        if index >= stream.sent.len() {
+            break;
+        }
+        last = last.max(index);
+        arrivals.push(Arrival::Sent(index));
+    }
+    arrivals
+}
+
+/// Arrivals up to 2,999 ahead and 99 behind.
+#[test]
+fn near_lists_of_long_streams() {
+    let mut r = Random::new(25);
+    let (mut handed, mut furthest, mut latest) = (0, 0, 0);
+    for layout in Layout::ALL {
+        let stream = long_stream(&mut r, layout);
+        for _ in 0..400 {
+            let arrivals = jumps(&mut r, &stream, 0);
+            handed += check(&stream, &arrivals, 20_000);
+            let mut last = 0;
+            for (place, arrival) in arrivals.iter().enumerate() {
+                let Arrival::Sent(index) = *arrival else {
+                    continue;
+                };
+                furthest += (place > 0 && index == last + 2_999) as usize;
+                latest += (index + 99 == last) as usize;
+                last = last.max(index);
+            }
+        }
+    }
+    assert!(handed > 1_000 && furthest > 100 && latest > 100);
+}
+
+/// An arrival one further, ahead or behind, and demand 3 does not hold: it is
+/// refused by 36, and counted nowhere.
+#[test]
+fn the_borders_of_near() {
+    let mut r = Random::new(26);
+    let (mut near_ones, mut others) = (0, 0);
+    for layout in Layout::ALL {
+        let stream = long_stream(&mut r, layout);
+        for _ in 0..400 {
+            let arrivals = jumps(&mut r, &stream, 1);
+            let after = deliver(&stream, &arrivals, 20_000);
+            if near(&arrivals) {
+                assert!(holds(&stream, &arrivals, &after));
+                near_ones += 1;
+            }
+            let Some(size) = (1..=arrivals.len()).find(|&size| !near(&arrivals[..size])) else {
+                continue;
+            };
+            let (to, before) = (&arrivals[..size], &arrivals[..size - 1]);
+            let (state, handed) = deliver(&stream, before, 20_000);
+            let after = deliver(&stream, to, 20_000);
+            assert_eq!((after.0.fresh, after.0.late), (state.fresh, state.late));
+            assert_eq!((after.0.last, &after.1), (state.last, &handed));
+            assert!(after.0.remembered.is_some());
+            assert!(!holds(&stream, to, &after));
+            others += 1;
+        }
+    }
+    assert!(near_ones > 10 && others > 100);
+}
+
+/// It holds again from the restarting packet on, as from a depacketizer just
+/// opened, whatever came before; and so after each of several restarts.
+#[test]
+fn again_from_a_restart() {
+    let mut r = Random::new(27);
+    let (mut restarts, mut handed) = (0, 0);
+    for _ in 0..2_000 {
+        let layout = r.layout();
+        let mut before = stream(&mut r, layout, 4, 3);
+        let arrivals_before = arrivals(&mut r, &before);
+        let (mut state, _) = deliver(&before, &arrivals_before, 20_000);
+        for _ in 0..r.below(4) {
+            if !state.heard {
+                break;
+            }
+            let (after, tail) = cycle(&mut r, state, &before);
+            let opened = deliver(&after, &tail, 20_000);
+            let state_before = far_first(&mut r, state, &after);
+            let again = deliver_from(state_before, &after, &tail, 20_000);
+            assert_eq!(again, opened);
+            assert!(near(&tail) && holds(&after, &tail, &again));
+            restarts += 1;
+            handed += again.1.len();
+            (state, before) = (again.0, after);
+        }
+    }
+    assert!(restarts > 1_000 && handed > 1_000);
+}
+
+/// A stream that starts far from the last fresh number, and arrivals of it, of
+/// which the first is its second packet, the restarting one.
+fn cycle(r: &mut Random, state: State, before: &Stream) -> (Stream, Vec<Arrival>) {
+    let empty = Stream {
+        sent: Vec::new(),
+        ..before.clone()
+    };
+    // After 100 behind comes 99 behind, which is not far.
+    let away = match far(r) {
+        0xFFFF_FF9C => 0xFFFF_FF9B,
+        away => away,
+    };
+    let stream = stream_from(r, empty, state.last.wrapping_add(away), 5, 3);
+    let mut tail = vec![Arrival::Sent(1)];
+    tail.extend(arrivals(r, &stream));
+    (stream, tail)
+}
+
+/// The state after the stream's first packet, which is far and refused, and at
+/// times octets that are refused too.
+fn far_first(r: &mut Random, state: State, stream: &Stream) -> State {
+    let refused = [Arrival::Sent(0), Arrival::Other(stream.layout, Vec::new())];
+    let (after, handed) = deliver_from(state, stream, &refused[..1 + r.below(2)], 20_000);
+    let remembered = Some(stream.sent[0].head.number.wrapping_add(1));
+    assert_eq!(
+        after,
+        State {
+            remembered,
+            ..state
+        }
+    );
+    assert!(handed.is_empty());
+    after
 }
 
 /// Every list of up to six arrivals of a stream of five packets, for every

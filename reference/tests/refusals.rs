@@ -249,13 +249,22 @@ fn refusal_of(state: State, octets: &[u8], store: usize) -> Option<(u8, usize)> 
         return None;
     };
     let late = state.late.saturating_add((number == 32) as u64);
-    assert_eq!(after, State { late, ..state });
+    let remembered = match number {
+        36 => after.remembered,
+        _ => state.remembered,
+    };
+    let unchanged = State {
+        late,
+        remembered,
+        ..state
+    };
+    assert_eq!(after, unchanged);
     assert!(store.iter().all(|&cell| cell == 0x5A5A));
     Some((number, index))
 }
 
 #[test]
-fn depacketizer_35_then_1_to_13_then_30_31_32() {
+fn depacketizer_35_then_1_to_13_then_30_31_then_32_or_36() {
     let good = parts(&[0]).assemble();
     let refused = |state, octets: &[u8]| refusal_of(state, octets, 1000);
     assert_eq!(refused(sound(), &good), None);
@@ -353,20 +362,35 @@ fn depacketizer_35_then_1_to_13_then_30_31_32() {
     assert_eq!(refused(other, &[]), Some((2, 0)));
     assert_eq!(refused(other, &good), Some((30, 0)));
     assert_eq!(refused(State { source: 5, ..other }, &good), Some((31, 0)));
-    for last in [70_000, 70_001, 70_000 + 0x8000_0000] {
+    let far = 70_000_u32.wrapping_add(0x8000_0000);
+    for (last, refusal) in [
+        (70_000, Some((32, 0))),
+        (70_001, Some((32, 0))),
+        (70_099, Some((32, 0))),
+        (70_100, Some((36, 0))),
+        (far - 1, Some((36, 0))),
+        (far, Some((36, 0))),
+        (far + 1, Some((36, 0))),
+        (67_000, Some((36, 0))),
+        (67_001, None),
+    ] {
         let state = State { last, ..sound() };
-        assert_eq!(refused(state, &good), Some((32, 0)));
+        assert_eq!(refused(state, &good), refusal);
         let state = State {
             late: u64::MAX,
             ..state
         };
-        assert_eq!(refused(state, &good), Some((32, 0)));
+        assert_eq!(refused(state, &good), refusal);
     }
-    let furthest = State {
-        last: 70_001 + 0x8000_0000,
-        ..sound()
-    };
-    assert_eq!(refused(furthest, &good), None);
+    // A memory before a first arrival is not 35, and is not asked for.
+    for remembered in [None, Some(0), Some(70_000)] {
+        let state = State {
+            remembered,
+            heard: false,
+            ..lost
+        };
+        assert_eq!(refused(state, &good), None);
+    }
     assert_eq!(open(0, 128), Err(Refusal::plain(24)));
 }
 

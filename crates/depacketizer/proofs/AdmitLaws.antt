@@ -1,10 +1,9 @@
 -- What lets an arrival pass, and where its packet stands, from what was found of it.
 -- By cases on the tests, in their order.
-use mathlib.Core.Path.{_≡_, refl, ap, _∙_}
-use mathlib.Core.Bool.{Bool, true, false, cond}
+use mathlib.Core.Path.{_≡_, refl, ap, sym, subst, _∙_}
+use mathlib.Core.Bool.{Bool, true, false, true≢false, cond}
 use mathlib.Core.List.{List, [], _∷_}
 use Prim.Native.Nat.{ℕ}
-use native.Mathlib.Omega.{arith}
 use Rattle.wire.specs.declared.refusal.Refusal.{Refusal}
 use Rattle.wire.specs.Layout.{Layout}
 use Rattle.wire.specs.Result.{Result, refused, accepted, refuse, Checks, judge}
@@ -12,9 +11,11 @@ use Rattle.wire.specs.Packet.{Content, readContent}
 use Rattle.depacketizer.specs.declared.admit.Stage.{Stage}
 use Rattle.depacketizer.specs.declared.admit.Stage.the-variants as stage
 use Rattle.stream.specs.declared.state.State.{State}
-use Rattle.depacketizer.specs.declared.distance.Freshness.the-variants as freshness
-use Rattle.stream.specs.Step.{Class, late, next, gap, classify, distance, lost, gathered, sound, openedChecks, admission, admit, packetStep, classStep, freshStep, lateStep}
-use Rattle.depacketizer.specs.Answers.{stageOf, freshnessOf}
+use Rattle.freshness.specs.declared.place.Freshness.{Freshness}
+use Rattle.freshness.specs.declared.place.Freshness.the-variants as freshness
+use Rattle.freshness.specs.Answers.{farOf, placeOf, freshnessOf}
+use Rattle.stream.specs.Step.{Class, late, next, far, ahead, classify, distance, lost, gathered, sound, openedChecks, admission, admit, openState, isRemembered, packetStep, classStep, farOrRestart, freshStep, Step}
+use Rattle.depacketizer.specs.Answers.{stageOf, arrivalOf, refusedOf}
 
 -- what follows a stage: a refusal goes straight out
 abbrev passing : {A : Type 0} → Stage → (refuse : Refusal → A) → A → A
@@ -55,29 +56,63 @@ module _ (st : State) (L : Layout) (room : ℕ) (s : List ℕ) where
         ∙ rw r
         (judge-stage (openedChecks (st .source) (st .«payload_type») (k .source) (k .type)) (accepted k) ∙ ap (λ (z : Stage). passing z refused (accepted k)) a)
 
--- where a packet stands, late or fresh
+-- a packet that is fresh
+abbrev pub isFresh : Freshness → Bool
+isFresh freshness.Late = false
+isFresh freshness.Far = false
+isFresh (freshness.Fresh m n from) = true
+
+-- where a packet stands: late, far or fresh
 module _ (st : State) (k : Content) (store : List ℕ) where
-  class-late : (c : Class) → freshnessOf true c ≡ freshness.Late → classStep c st k store ≡ lateStep st store
-  class-late late h = refl
-  class-late next h = let z : _≡_ {A = ℕ} 0 1 = cc in absurd (omega arith)
-  class-late (gap n) h = let z : _≡_ {A = ℕ} 0 1 = cc in absurd (omega arith)
+  -- the step of one that is not fresh
+  abbrev Refused : Freshness → Step → Type 0
+  Refused f x = isFresh f ≡ false → (arrivalOf x ≡ refusedOf f st (k .number)) × (x .store ≡ store)
 
-  pub packet-late : (b : Bool) → freshnessOf b (classify (distance (st .last .0) (k .number))) ≡ freshness.Late → packetStep b st k store ≡ lateStep st store
-  packet-late true h = class-late (classify (distance (st .last .0) (k .number))) h
-  packet-late false h = let z : _≡_ {A = ℕ} 0 1 = cc in absurd (omega arith)
+  far-refused : (b : Bool) → Refused (farOf b st) (farOrRestart b st k store)
+  far-refused true h = absurd (true≢false h)
+  far-refused false h = (refl, refl)
 
-  module _ (m : ℕ) (n : Bool) where
-    found : (m' : ℕ) (n' : Bool) → freshness.Fresh m' n' ≡ freshness.Fresh m n → freshStep st (cond n' (gathered st) lost) m' k store ≡ freshStep st (cond n (gathered st) lost) m k store
-    found m' n' h =
-        let e : m' ≡ m = cc in
-        let f : n' ≡ n = cc in
-        rw (e, f)
+  class-refused : (c : Class) → Refused (placeOf c st (k .number)) (classStep c st k store)
+  class-refused late h = (refl, refl)
+  class-refused next h = absurd (true≢false h)
+  class-refused far h = far-refused (isRemembered st (k .number)) h
+  class-refused (ahead n) h = absurd (true≢false h)
 
-    class-fresh : (c : Class) → freshnessOf true c ≡ freshness.Fresh m n → classStep c st k store ≡ freshStep st (cond n (gathered st) lost) m k store
-    class-fresh late h = let z : _≡_ {A = ℕ} 0 1 = cc in absurd (omega arith)
-    class-fresh next h = found 0 true h
-    class-fresh (gap i) h = found i false h
+  pub packet-refused : (b : Bool) → Refused (freshnessOf b st (k .number)) (packetStep b st k store)
+  packet-refused true h = class-refused (classify (distance (st .last .0) (k .number))) h
+  packet-refused false h = absurd (true≢false h)
 
-    pub packet-fresh : (b : Bool) → freshnessOf b (classify (distance (st .last .0) (k .number))) ≡ freshness.Fresh m n → packetStep b st k store ≡ freshStep st (cond n (gathered st) lost) m k store
-    packet-fresh true h = class-fresh (classify (distance (st .last .0) (k .number))) h
-    packet-fresh false h = found 0 false h
+  module _ (m : ℕ) (n : Bool) (from : State) where
+    -- the step of a fresh one, and what holds of a state just opened and of the one it finds holds of the one it is fresh to
+    pub record Starts (P : State → Type 0) (x : Step) : Type 0 where
+      pub step : x ≡ freshStep from (cond n (gathered from) lost) m k store
+      pub holds : P from
+
+    module _ (P : State → Type 0) (found : P st) (opened : P (openState (st .source) (st .«payload_type»))) where
+      starts : (m' : ℕ) (n' : Bool) (from' : State) → P from' → freshness.Fresh m' n' from' ≡ freshness.Fresh m n from
+          → Starts P (freshStep from' (cond n' (gathered from') lost) m' k store)
+      starts m' n' from' h e =
+          let a : m' ≡ m = cc in
+          let b : n' ≡ n = cc in
+          let c : from' ≡ from = cc in
+          record { step = rw (a, b, c); holds = subst P c h }
+
+      late-not : freshness.Late ≡ freshness.Fresh m n from → ⊥
+      late-not e = true≢false (ap isFresh (sym e))
+
+      far-not : freshness.Far ≡ freshness.Fresh m n from → ⊥
+      far-not e = true≢false (ap isFresh (sym e))
+
+      far-fresh : (b : Bool) → farOf b st ≡ freshness.Fresh m n from → Starts P (farOrRestart b st k store)
+      far-fresh true e = starts 0 false (openState (st .source) (st .«payload_type»)) opened e
+      far-fresh false e = absurd (far-not e)
+
+      class-fresh : (c : Class) → placeOf c st (k .number) ≡ freshness.Fresh m n from → Starts P (classStep c st k store)
+      class-fresh late e = absurd (late-not e)
+      class-fresh next e = starts 0 true st found e
+      class-fresh far e = far-fresh (isRemembered st (k .number)) e
+      class-fresh (ahead i) e = starts i false st found e
+
+      pub packet-fresh : (b : Bool) → freshnessOf b st (k .number) ≡ freshness.Fresh m n from → Starts P (packetStep b st k store)
+      packet-fresh true e = class-fresh (classify (distance (st .last .0) (k .number))) e
+      packet-fresh false e = starts 0 false st found e

@@ -17,45 +17,58 @@ use Rattle.rtp.specs.declared.packet.Checked.the-variants as checked
 use Rattle.rtp.proofs.ReadLaws.{refused-is}
 use Rattle.stream.specs.declared.state.State.{State}
 use Rattle.depacketizer.specs.declared.decide.Decision.{Decision}
-use Rattle.depacketizer.specs.declared.distance.Freshness.the-variants as freshness
-use Rattle.stream.specs.Step.{Gathered, lost, gathered, gatheredCells, Gather, carried, follow, appended, classify, distance, admission, step}
-use Rattle.depacketizer.specs.Answers.{freshnessOf, decisionOf, afterOf}
+use Rattle.freshness.specs.declared.place.Freshness.the-variants as freshness
+use Rattle.stream.specs.Step.{Gathered, lost, gathered, gatheredCells, Gather, carried, follow, appended, sound, packetStep, admission, step}
+use Rattle.freshness.specs.Answers.{freshnessOf}
+use Rattle.depacketizer.specs.Answers.{decisionOf, afterOf}
 use Rattle.stream.proofs.FitLaws.{follow-room}
+use Rattle.stream.proofs.RestartLaws.{open-sound}
 use Rattle.stream.proofs.StepLaws.{unchanged, passed, step-refused, step-admitted}
-use Rattle.depacketizer.proofs.AdmitLaws.{packet-fresh}
-use Rattle.depacketizer.proofs.DecideLaws.{sound-is, appended-at}
+use Rattle.depacketizer.proofs.AdmitLaws.{Starts, packet-fresh}
+use Rattle.depacketizer.proofs.DecideLaws.{Sound, sound-is, appended-at}
 
 -- the step of an arrival that the check before it refused
 pub refused-step : (st : State) (L : Layout) (s store : List ℕ) (x : Refusal) (r : Checked) → r ≡ checkedOf L s (admission st L (length store) s) → r ≡ checked.Refused x
     → step st L s store ≡ unchanged st store x
 refused-step st L s store x r a t = step-refused st L s store x (refused-is L s (admission st L (length store) s) x (sym a ∙ t))
 
-module _ (st : State) (L : Layout) (s store : List ℕ) (k : Content) (h : admission st L (length store) s ≡ accepted k) (m : ℕ) (n : Bool)
-    (p : freshnessOf (st .heard) (classify (distance (st .last .0) (k .number))) ≡ freshness.Fresh m n) (d : Decision)
-    (e : d ≡ decisionOf (follow (cond n (gathered st) lost) (carried k) (length store))) where
+module _ (st : State) (L : Layout) (s store : List ℕ) (k : Content) (h : admission st L (length store) s ≡ accepted k) (m : ℕ) (n : Bool) (from : State)
+    (p : freshnessOf (st .heard) st (k .number) ≡ freshness.Fresh m n from) where
+  -- the packet starts from a state that is sound, and does there what a fresh one does
+  starts : Starts st k store m n from (λ (z : State). sound z (length store) ≡ true) (packetStep (st .heard) st k store)
+  starts =
+      packet-fresh st k store m n from (λ (z : State). sound z (length store) ≡ true) (passed st L (length store) s k h .0)
+      (open-sound (st .source) (st .«payload_type») (length store)) (st .heard) p
+
+  pub fresh-sound : Sound from (length store)
+  fresh-sound = sound-is from (length store) (starts .holds)
+
+module _ (st : State) (L : Layout) (s store : List ℕ) (k : Content) (h : admission st L (length store) s ≡ accepted k) (m : ℕ) (n : Bool) (from : State)
+    (p : freshnessOf (st .heard) st (k .number) ≡ freshness.Fresh m n from) (d : Decision)
+    (e : d ≡ decisionOf (follow (cond n (gathered from) lost) (carried k) (length store))) where
   abbrev found : Gathered
-  found = cond n (gathered st) lost
+  found = cond n (gathered from) lost
 
   abbrev x : Gather
   x = follow found (carried k) (length store)
 
   -- where its cells are appended, if they are
-  at : x .append ≡ true → gatheredCells found ≡ st .cells
-  at = appended-at st (length store) n (carried k) (sound-is st (length store) (passed st L (length store) s k h .0))
+  at : x .append ≡ true → gatheredCells found ≡ from .cells
+  at = appended-at from (length store) n (carried k) (fresh-sound st L s store k h m n from p)
 
-  same-store : (b : Bool) → x .append ≡ b → appended b found k store ≡ cond b (splice store (st .cells) (listOf (k .records))) store
+  same-store : (b : Bool) → x .append ≡ b → appended b found k store ≡ cond b (splice store (from .cells) (listOf (k .records))) store
   same-store true t = ap (λ (c : ℕ). splice store c (listOf (k .records))) (at t)
   same-store false t = refl
 
   pub fresh-step : step st L s store
-      ≡ record { answer = d .answer; state = afterOf st (k .number) d m; store = cond (d .append) (splice store (st .cells) (listOf (k .records))) store }
+      ≡ record { answer = d .answer; state = afterOf from (k .number) d m; store = cond (d .append) (splice store (from .cells) (listOf (k .records))) store }
   fresh-step =
-      step-admitted st L s store k h ∙ packet-fresh st k store m n (st .heard) p
-      ∙ (λ i. record { answer = x .answer; state = afterOf st (k .number) (decisionOf x) m; store = same-store (x .append) refl i })
-      ∙ λ i. record { answer = sym e i .answer; state = afterOf st (k .number) (sym e i) m; store = cond (sym e i .append) (splice store (st .cells) (listOf (k .records))) store }
+      step-admitted st L s store k h ∙ starts st L s store k h m n from p .step
+      ∙ (λ i. record { answer = x .answer; state = afterOf from (k .number) (decisionOf x) m; store = same-store (x .append) refl i })
+      ∙ λ i. record { answer = sym e i .answer; state = afterOf from (k .number) (sym e i) m; store = cond (sym e i .append) (splice store (from .cells) (listOf (k .records))) store }
 
   -- appended cells have room behind those that the state has
-  pub fresh-room : d .append ≡ true → st .cells + length (listOf (k .records)) ≤ length store
+  pub fresh-room : d .append ≡ true → from .cells + length (listOf (k .records)) ≤ length store
   fresh-room t =
       let a : x .append ≡ true = ap (λ (y : Decision). y .append) (sym e) ∙ t in
       subst (λ (c : ℕ). c + length (listOf (k .records)) ≤ length store) (at a) (follow-room found (carried k) (length store) a)

@@ -1,4 +1,3 @@
 pub mod AdmitLaws
 pub mod ArriveLaws
 pub mod DecideLaws
-pub mod SignedLaws

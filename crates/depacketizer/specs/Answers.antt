@@ -1,17 +1,18 @@
--- What the code returns: a stage, from checks; late or fresh, from a class; a decision, from what is gathered; an arrival, from a step.
-use mathlib.Core.Bool.{Bool, true, false, cond}
+-- What the code returns: a stage, from checks; a decision, from what is gathered; an arrival, from a step.
+use mathlib.Core.Bool.{cond}
 use mathlib.Core.List.{[], _∷_}
 use Prim.Native.Nat.{ℕ}
 use Rattle.wire.specs.declared.refusal.Refusal.{Refusal}
 use Rattle.wire.specs.Result.{Result, refused, accepted, noRefusal, Checks}
 use Rattle.rtp.specs.declared.packet.Summary.{Summary}
 use Rattle.stream.specs.declared.state.State.{State}
-use Rattle.stream.specs.Step.{Class, late, next, gap, phaseOf, timestampOf, fOf, gatheredRecords, gatheredCells, Carried, Gather, Step, afterWith}
+use Rattle.stream.specs.declared.state.Answer.the-variants as answer
+use Rattle.stream.specs.Step.{numberAfter, later, remembering, phaseOf, timestampOf, fOf, gatheredRecords, gatheredCells, Carried, Gather, Step, afterWith}
+use Rattle.freshness.specs.declared.place.Freshness.{Freshness}
+use Rattle.freshness.specs.declared.place.Freshness.the-variants as freshness
 use Rattle.depacketizer.specs.declared.admit.Stage.{Stage}
 use Rattle.depacketizer.specs.declared.admit.Stage.the-variants as stage
 use Rattle.depacketizer.specs.declared.decide.Decision.{Decision}
-use Rattle.depacketizer.specs.declared.distance.Freshness.{Freshness}
-use Rattle.depacketizer.specs.declared.distance.Freshness.the-variants as freshness
 use Rattle.depacketizer.specs.declared.state.Arrival.{Arrival}
 use Rattle.depacketizer.specs.declared.state.Opened.{Opened}
 use Rattle.depacketizer.specs.declared.state.Opened.the-variants as opened
@@ -25,13 +26,6 @@ stageOf (t ∷ ts) = cond (t .0) (stageOf ts) (stage.Refused (record { number = 
 abbrev pub stageRefusal : Stage → Refusal
 stageRefusal (stage.Refused x) = x
 stageRefusal stage.Passed = noRefusal
-
--- late or fresh, from the class of the distance; the first packet has none, and is fresh
-abbrev pub freshnessOf : Bool → Class → Freshness
-freshnessOf false c = freshness.Fresh 0 false
-freshnessOf true late = freshness.Late
-freshnessOf true next = freshness.Fresh 0 true
-freshnessOf true (gap n) = freshness.Fresh n false
 
 -- what a packet with this summary brings to a field
 abbrev pub carriedBy : Summary → Carried
@@ -64,6 +58,14 @@ afterOf st number d missing = afterWith st number (d .phase) (d .timestamp .0) (
 -- what `arrive` returns of a step
 abbrev pub arrivalOf : Step → Arrival
 arrivalOf x = record { state = record { state = x .state }; answer = x .answer }
+
+-- 32 or 36: what an arrival does that is not fresh; a fresh one is not refused
+abbrev pub refusedOf : Freshness → State → (number : ℕ) → Arrival
+refusedOf freshness.Late st n =
+    record { state = record { state = later st }; answer = answer.Refused (record { number = 32; index = 0 }) }
+refusedOf freshness.Far st n =
+    record { state = record { state = remembering st (numberAfter n) }; answer = answer.Refused (record { number = 36; index = 0 }) }
+refusedOf (freshness.Fresh m x from) st n = record { state = record { state = st }; answer = answer.Refused noRefusal }
 
 -- what `open` returns of a state just opened, or of the refusal
 abbrev pub openedOf : Result State → Opened

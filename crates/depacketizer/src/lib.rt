@@ -4,5 +4,4 @@
 pub mod admit;
 pub mod count;
 pub mod decide;
-pub mod distance;
 pub mod state;

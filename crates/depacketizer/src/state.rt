@@ -1,23 +1,22 @@
 // The depacketizer: how it is opened, and what an arrival does (01's keeper).
 ghost use mathlib.Core.Path.{_≡_};
 ghost use Rattle.stream.specs.Step as step;
-ghost use Rattle.depacketizer.specs.Answers.{afterOf, arrivalOf, openedOf};
+ghost use Rattle.depacketizer.specs.Answers.{afterOf, arrivalOf, openedOf, refusedOf};
 use crate::admit::admit;
 use crate::count::increased;
 use crate::decide::Decision;
 use crate::decide::decide;
-use crate::distance::Freshness;
-use crate::distance::classify;
+use freshness::place::Freshness;
+use freshness::place::opened;
+use freshness::place::place;
 use rtp::check::read_records;
 use rtp::check::summary_at;
 use rtp::packet::Checked;
 use stream::state::Answer;
-use stream::state::Phase;
 use stream::state::State;
 use wire::layout::Layout;
 use wire::limit::MAX_TYPE;
 use wire::number::PacketNumber;
-use wire::number::Timestamp;
 use wire::refusal::Refusal;
 
 // A depacketizer, which a caller keeps between arrivals as its state.
@@ -46,6 +45,54 @@ fn later(state: State) -> State
     next
 }
 
+// A state that remembers the number after this one, and is else as it was.
+fn remembering(state: State, number: PacketNumber) -> State
+    ensures { λ r. ⌜ r ≡ step.remembering state (step.numberAfter (number .0)) ⌝ }
+{
+    let remembered = PacketNumber(std::num::wrapping_add_u32(number.0, 1));
+    let mut next = state;
+    next.remembers = true;
+    next.remembered = remembered;
+    next
+}
+
+// 32 or 36: what an arrival does that is not fresh.
+fn refuse(state: State, number: PacketNumber, freshness: Freshness) -> Arrival
+    ensures { λ r. ⌜ r ≡ refusedOf freshness state (number .0) ⌝ }
+{
+    match freshness {
+        Freshness::Late => Arrival {
+            state: Depacketizer {
+                state: later(state),
+            },
+            answer: Answer::Refused(Refusal {
+                number: Refusal::LATE,
+                index: 0,
+            }),
+        },
+        Freshness::Far => Arrival {
+            state: Depacketizer {
+                state: remembering(state, number),
+            },
+            answer: Answer::Refused(Refusal {
+                number: Refusal::FAR,
+                index: 0,
+            }),
+        },
+        Freshness::Fresh {
+            missing,
+            next,
+            from,
+        } => Arrival {
+            state: Depacketizer { state },
+            answer: Answer::Refused(Refusal {
+                number: 0,
+                index: 0,
+            }),
+        },
+    }
+}
+
 // The state after a fresh packet, from what was decided, with so many more missing.
 fn after(state: State, number: PacketNumber, decision: Decision, missing: u64) -> State
     ensures { λ r. ⌜ r ≡ afterOf state (number .0) decision missing ⌝ }
@@ -65,6 +112,8 @@ fn after(state: State, number: PacketNumber, decision: Decision, missing: u64) -
         fresh: increased(state.fresh, 1),
         late: state.late,
         missing: increased(state.missing, missing),
+        remembers: false,
+        remembered: PacketNumber(0),
     }
 }
 
@@ -80,20 +129,7 @@ impl Depacketizer {
             });
         }
         Opened::Open(Depacketizer {
-            state: State {
-                source,
-                payload_type,
-                phase: Phase::Lost,
-                heard: false,
-                last: PacketNumber(0),
-                timestamp: Timestamp(0),
-                f: 0,
-                records: 0,
-                cells: 0,
-                fresh: 0,
-                late: 0,
-                missing: 0,
-            },
+            state: opened(source, payload_type),
         })
     }
 
@@ -112,27 +148,24 @@ impl Depacketizer {
         };
         let summary = summary_at(layout, octets, outline);
         let head = summary.head;
-        let freshness = classify(state.heard, state.last, head.number);
-        let Freshness::Fresh { missing, next } = freshness else {
-            return Arrival {
-                state: Depacketizer {
-                    state: later(state),
-                },
-                answer: Answer::Refused(Refusal {
-                    number: Refusal::LATE,
-                    index: 0,
-                }),
-            };
+        let freshness = place(state, head.number);
+        let Freshness::Fresh {
+            missing,
+            next,
+            from,
+        } = freshness
+        else {
+            return refuse(state, head.number, freshness);
         };
-        let decision = decide(state, next, summary, store.len());
+        let decision = decide(from, next, summary, store.len());
         if decision.append {
-            let at = state.cells;
+            let at = from.cells;
             read_records(layout, octets, outline, &mut store[at..]);
         }
         let answer = decision.answer;
         Arrival {
             state: Depacketizer {
-                state: after(state, head.number, decision, missing),
+                state: after(from, head.number, decision, missing),
             },
             answer,
         }

@@ -1,5 +1,5 @@
 -- A row that is a state has numbers that fit their values; the numbers of a state are that state again, and the other way about.
--- By the tests in their order, and by the phase and whether a packet was heard.
+-- By the tests in their order, by the phase, whether a packet was heard and whether a number is remembered.
 use mathlib.Core.Path.{_≡_, refl, sym}
 use mathlib.Core.Bool.{Bool, true, false, _&&_}
 use mathlib.Core.List.{List, _++_}
@@ -28,15 +28,19 @@ pub record RowFits (row : List ℕ) : Type 0 where
   pub last : at row 4 ≤ max32
   pub timestamp : at row 5 ≤ max32
   pub f : at row 6 ≤ max8
+  pub remembers : at row 12 ≤ 1
+  pub remembered : at row 13 ≤ max32
 
 pub fitting : (row : List ℕ) → isState row ≡ true → RowFits row
 unfolding isState
 fitting row h =
     let w = and-true (leb (at row 0) max32 && leb (at row 1) max8) _ h in
     let x = and-true (leb (at row 0) max32) (leb (at row 1) max8) (w .0) in
-    let y = and-true (leb (at row 2) 2 && (leb (at row 3) 1 && leb (at row 4) max32)) (leb (at row 5) max32 && leb (at row 6) max8) (w .1) in
+    let y = and-true (leb (at row 2) 2 && (leb (at row 3) 1 && leb (at row 4) max32)) ((leb (at row 5) max32 && leb (at row 6) max8) && (leb (at row 12) 1 && leb (at row 13) max32)) (w .1) in
     let p = and-true (leb (at row 2) 2) (leb (at row 3) 1 && leb (at row 4) max32) (y .0) in
-    let z = and-true (leb (at row 5) max32) (leb (at row 6) max8) (y .1) in
+    let q = and-true (leb (at row 5) max32 && leb (at row 6) max8) (leb (at row 12) 1 && leb (at row 13) max32) (y .1) in
+    let z = and-true (leb (at row 5) max32) (leb (at row 6) max8) (q .0) in
+    let m = and-true (leb (at row 12) 1) (leb (at row 13) max32) (q .1) in
     record {
       source = leb-true (at row 0) max32 (x .0);
       type = leb-true (at row 1) max8 (x .1);
@@ -45,6 +49,8 @@ fitting row h =
       last = leb-true (at row 4) max32 (and-true (leb (at row 3) 1) (leb (at row 4) max32) (p .1) .1);
       timestamp = leb-true (at row 5) max32 (z .0);
       f = leb-true (at row 6) max8 (z .1);
+      remembers = leb-true (at row 12) 1 (m .0);
+      remembered = leb-true (at row 13) max32 (m .1);
     }
 
 pub phase-known : (p : Phase) → phaseNumber p ≤ 2
@@ -70,8 +76,8 @@ pub state-again : (s : State) (rest : List ℕ) → RowFits (numbersOf s) → st
 unfolding isState
 state-again s rest v =
     rw
-    (le-leb (s .source) max32 (v .source), le-leb (s .«payload_type») max8 (v .type), le-leb (phaseNumber (s .phase)) 2 (v .phase), le-leb (bit (s .heard)) 1 (v .heard), le-leb (s .last .0) max32 (v .last), le-leb (s .timestamp .0) max32 (v .timestamp), le-leb (s .f) max8 (v .f))
-    (rw (phase-again (s .phase), heard-again (s .heard)))
+    (le-leb (s .source) max32 (v .source), le-leb (s .«payload_type») max8 (v .type), le-leb (phaseNumber (s .phase)) 2 (v .phase), le-leb (bit (s .heard)) 1 (v .heard), le-leb (s .last .0) max32 (v .last), le-leb (s .timestamp .0) max32 (v .timestamp), le-leb (s .f) max8 (v .f), le-leb (bit (s .remembers)) 1 (v .remembers), le-leb (s .remembered .0) max32 (v .remembered))
+    (rw (phase-again (s .phase), heard-again (s .heard), heard-again (s .remembers)))
 
 phase-number : (n : ℕ) → n ≤ 2 → phaseNumber (phaseIn n) ≡ n
 phase-number zero h = refl
@@ -83,4 +89,4 @@ phase-number (suc (suc (suc n))) h = absurd (omega arith)
 pub row-again : (row : List ℕ) → isState row ≡ true → stateSize ≤ length row → overwrite (numbersOf (stateAt row)) row ≡ row
 row-again row h l =
     let v = fitting row h in
-    rw (phase-number (at row 2) (v .phase), flag (at row 3) (omega (arith, v .heard))) (sym (drop-run 11 0 0 row l))
+    rw (phase-number (at row 2) (v .phase), flag (at row 3) (omega (arith, v .heard)), flag (at row 12) (omega (arith, v .remembers))) (sym (drop-run 13 0 0 row l))

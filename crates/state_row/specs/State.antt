@@ -1,4 +1,5 @@
--- A depacketizer's state as a row of twelve numbers: source, payload type, phase, heard, last, timestamp, F, records, cells, fresh, late, missing.
+-- A depacketizer's state as a row of fourteen numbers: source, payload type, phase, heard, last, timestamp, F, records, cells, fresh, late,
+-- missing, whether a number is remembered, and that number.
 use mathlib.Core.Bool.{Bool, cond, _&&_}
 use mathlib.Core.List.{List, [], _∷_}
 use Prim.Native.Nat.{ℕ, _-_, _^_}
@@ -13,7 +14,7 @@ use Rattle.state_row.specs.declared.state.Restored.the-variants as resto
 
 -- numbers that a state needs
 abbrev pub stateSize : ℕ
-stateSize = 12
+stateSize = 14
 
 -- a phase's number: lost 0, ready 1, filling 2
 abbrev pub phaseNumber : Phase → ℕ
@@ -40,6 +41,8 @@ numbersOf s =
     ∷ s .fresh
     ∷ s .late
     ∷ s .missing
+    ∷ bit (s .remembers)
+    ∷ s .remembered .0
     ∷ []
 
 -- the number of a row at an index
@@ -54,12 +57,13 @@ max32 = 2 ^ 32 - 1
 abbrev pub max8 : ℕ
 max8 = 2 ^ 8 - 1
 
--- is each number one that its value can have: source, last and timestamp 32 bits, payload type and F 8, a phase, and 0 or 1
+-- is each number one that its value can have: source, last, timestamp and the remembered number 32 bits, payload type and F 8, a phase, and
+-- 0 or 1 twice
 unfoldable pub isState : List ℕ → Bool
 isState row =
     (leb (at row 0) max32 && leb (at row 1) max8)
     && ((leb (at row 2) 2 && (leb (at row 3) 1 && leb (at row 4) max32))
-    && (leb (at row 5) max32 && leb (at row 6) max8))
+    && ((leb (at row 5) max32 && leb (at row 6) max8) && (leb (at row 12) 1 && leb (at row 13) max32)))
 
 -- the numbers of a row as a state
 abbrev pub stateAt : List ℕ → State
@@ -77,6 +81,8 @@ stateAt row =
       fresh = at row 9;
       late = at row 10;
       missing = at row 11;
+      remembers = eqb (at row 12) 1;
+      remembered = record { 0 = at row 13 };
     }
 
 -- the state that stands in a row, if one does

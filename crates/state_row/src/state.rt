@@ -1,5 +1,5 @@
 // A depacketizer's state as a row of numbers: source, payload type, phase, heard, last, timestamp, F, records, cells, fresh,
-// late, missing. Who reads or writes one asks that the row is long enough.
+// late, missing, whether a number is remembered, and that number. Who reads or writes one asks that the row is long enough.
 ghost use mathlib.Core.Path.{_≡_};
 ghost use Prim.Native.Nat.{_≤_};
 ghost use lib.ListN.{length};
@@ -46,7 +46,8 @@ fn phase_in(number: u64) -> Phase
     Phase::Filling
 }
 
-// Source, last and timestamp have 32 bits, payload type and F have 8; the phase is at most 2 and heard at most 1.
+// Source, last, timestamp and the remembered number have 32 bits, payload type and F have 8; the phase is at most 2, and heard and whether a
+// number is remembered are at most 1.
 fn is_state(row: &[u64]) -> bool
     requires { ⌜ stateSize ≤ length (now row) ⌝ }
     ensures { λ r. ⌜ r ≡ isState (now (row .entry)) ⌝ }
@@ -54,7 +55,8 @@ fn is_state(row: &[u64]) -> bool
     let identity = (row[0] <= MAX_32) & (row[1] <= MAX_8);
     let progress = (row[2] <= 2) & ((row[3] <= 1) & (row[4] <= MAX_32));
     let field = (row[5] <= MAX_32) & (row[6] <= MAX_8);
-    identity & (progress & field)
+    let memory = (row[12] <= 1) & (row[13] <= MAX_32);
+    identity & (progress & (field & memory))
 }
 
 // The state that stands in a row.
@@ -78,6 +80,8 @@ pub fn state_in(row: &[u64]) -> Restored
         fresh: row[9],
         late: row[10],
         missing: row[11],
+        remembers: row[12] == 1,
+        remembered: PacketNumber(row[13] as u32),
     })
 }
 
@@ -90,6 +94,7 @@ pub fn put_state(state: State, row: &mut [u64])
     let phase = state.phase;
     let last = state.last;
     let timestamp = state.timestamp;
+    let remembered = state.remembered;
     let numbers = [
         state.source as u64,
         state.payload_type as u64,
@@ -103,6 +108,8 @@ pub fn put_state(state: State, row: &mut [u64])
         state.fresh,
         state.late,
         state.missing,
+        flag(state.remembers),
+        remembered.0 as u64,
     ];
     put(&numbers, row);
 }

@@ -43,8 +43,8 @@ follow-appends (filling t f r c) p room = go (eqb t (p .timestamp) && eqb f (p .
 -- "Held and whole append their cells after the gathered ones; other answers write nothing."
 pub store-after : (st : State) (L : Layout) (octets store : List ℕ) → StoreAfter store (step st L octets store)
 store-after st L octets store =
-    step-is st L octets store (StoreAfter store) (λ x e. refl) (λ e. refl)
-    (λ k q h g m e. ap (λ (t : Bool). appended t g k store) (sym (follow-appends g (carried k) (length store)) ∙ e))
+    step-is st L octets store (StoreAfter store) (λ x e. refl) (λ e. refl) (λ n e. refl)
+    (λ from k q h g m e. ap (λ (t : Bool). appended t g k store) (sym (follow-appends g (carried k) (length store)) ∙ e))
 
 -- what a fresh packet leaves, marked or not
 record Leaves (marker : Bool) (x : Gather) : Type 0 where
@@ -87,6 +87,7 @@ pub phase-after : (st : State) (L : Layout) (octets store : List ℕ) (k : Conte
 phase-after st L octets store k e =
     step-is st L octets store (PhaseAfter k) (λ x. record { marked = λ f m. absurd (f x refl); unmarked = λ f m n. absurd (f x refl) })
     (record { marked = λ f m. absurd (f _ refl); unmarked = λ f m n. absurd (f _ refl) })
-    (λ k′ e′ h g m.
+    (λ n. record { marked = λ f m. absurd (f _ refl); unmarked = λ f m n. absurd (f _ refl) })
+    (λ from k′ e′ h g m.
     let q : k′ ≡ k = cc in
-    rw q (fresh-phase st g m k store))
+    rw q (fresh-phase from g m k store))

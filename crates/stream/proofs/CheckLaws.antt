@@ -39,8 +39,8 @@ follow-fits (filling t f r c) p room = go (eqb t (p .timestamp) && eqb f (p .f))
 
 sound-after : (st : State) (L : Layout) (octets store : List ℕ) → sound st (length store) ≡ true → sound (step st L octets store .state) (length store) ≡ true
 sound-after st L octets store e =
-    step-is st L octets store (λ (x : Step). sound (x .state) (length store) ≡ true) (λ x. e) e
-    (λ k q h g m.
+    step-is st L octets store (λ (x : Step). sound (x .state) (length store) ≡ true) (λ x. e) e (λ n. e)
+    (λ from k q h g m.
     sound-heard (follow g (carried k) (length store) .gathered) (length store) (follow-fits g (carried k) (length store)))
 
 sound-passes : (st : State) (store : List ℕ) → sound st (length store) ≡ true → Passes35 st store
@@ -66,8 +66,8 @@ appended-length false g k store e = refl
 -- a step keeps the store's length
 pub length-after : (st : State) (L : Layout) (octets store : List ℕ) → length (step st L octets store .store) ≡ length store
 length-after st L octets store =
-    step-is st L octets store (λ (x : Step). length (x .store) ≡ length store) (λ x. refl) refl
-    (λ k q h g m. appended-length _ g k store refl)
+    step-is st L octets store (λ (x : Step). length (x .store) ≡ length store) (λ x. refl) refl (λ n. refl)
+    (λ from k q h g m. appended-length _ g k store refl)
 
 -- from a state that 35 lets pass, a step gives a state that 35 lets pass with the store that the step leaves
 pub passes-after : (st : State) (L : Layout) (octets store : List ℕ) → Passes35 st store

@@ -16,7 +16,7 @@ use Rattle.wire.specs.Packet.{Content}
 use Rattle.wire.specs.Writing.{maxType}
 use Rattle.stream.specs.declared.state.Answer.the-variants as answer
 use Rattle.stream.specs.Step.{Step, packetStep, admit, admittedStep, openOf}
-use Rattle.stream.specs.Stream.{sent, Stream, contentAt, Fits, WellFormedStream, Arriving, other, packet, OfStream, Call, Calls, none, _before_, Proper, Handed, Run, octetsOf, layoutOf, done, callStep, runFrom, openRun, run, listed, arrived, listedFresh, fresh, span, Demand3After, Demand3}
+use Rattle.stream.specs.Stream.{sent, Stream, contentAt, Fits, WellFormedStream, Arriving, other, packet, OfStream, Call, Calls, none, _before_, Proper, Handed, Run, octetsOf, layoutOf, done, callStep, runFrom, openRun, run, listed, arrived, listedFresh, fresh, span, NearLast, Near, Demand3After, Demand3}
 use Rattle.stream.proofs.WalkLaws.{packetAt, handedBefore, handed-idle, handed-all}
 use Rattle.stream.proofs.NumberLaws.{admit-numbered}
 use Rattle.stream.proofs.StepLaws.{sound-step, admitted-not-35}
@@ -38,39 +38,41 @@ call-step s js l r c w e v =
     sound-step (r .state) L o t (sound-run s js l r (c .store) w e v)
     ∙ ap₂ (λ (source type : ℕ). admittedStep (r .state) (admit L source type o) t) (v .source) (v .type)
 
-invariant-packet : {earlier : List Handed} (s : Stream) (js l : List ℕ) (r : Run) (i : ℕ) (offered : List ℕ) → WellFormedStream s
+invariant-packet : {earlier : List Handed} (s : Stream) (js l : List ℕ) (r : Run) (i : ℕ) (offered : List ℕ) → NearLast (packet i) l → WellFormedStream s
     → i < length (sent (s .fields)) → Each (Fits offered) (s .fields) → Invariant s earlier js l r
     → Invariant s earlier (i ∷ js) (cond (allBelow i js) (i ∷ l) l)
     (done r (packetStep (r .state .heard) (r .state) (contentAt s i (packetAt (sent (s .fields)) i)) (storeIn r offered)))
-invariant-packet {earlier = earlier} s js l r i offered w h e v = go (leb (top l) i) refl
+invariant-packet {earlier = earlier} s js l r i offered near w h e v = go (leb (top l) i) refl
   where
     go : (t : Bool) → leb (top l) i ≡ t
         → Invariant s earlier (i ∷ js) (cond (allBelow i js) (i ∷ l) l)
         (done r (packetStep (r .state .heard) (r .state) (contentAt s i (packetAt (sent (s .fields)) i)) (storeIn r offered)))
-    go true q = rw (v .newer i, q) (invariant-fresh s js l r i offered w e v (leb-true (top l) i q) h)
+    go true q = rw (v .newer i, q) (invariant-fresh s js l r i offered w e v (leb-true (top l) i q) h near)
     go false q =
         let b : i < top l = leb-false (top l) i q in
-        rw (v .newer i, q, late-step s js l r i (storeIn r offered) w v b) (invariant-late s js l r i offered e b v)
+        rw (v .newer i, q, late-step s js l r i (storeIn r offered) v b near) (invariant-late s js l r i offered e b v)
 
-invariant-admitted : {earlier : List Handed} (s : Stream) (js l : List ℕ) (r : Run) (a : Arriving) (offered : List ℕ) → WellFormedStream s → OfStream s a
+invariant-admitted : {earlier : List Handed} (s : Stream) (js l : List ℕ) (r : Run) (a : Arriving) (offered : List ℕ) → NearLast a l → WellFormedStream s
+    → OfStream s a
     → Each (Fits offered) (s .fields) → Invariant s earlier js l r
     → Invariant s earlier (listed a js) (listedFresh a js l) (done r (admittedStep (r .state) (reading s a) (storeIn r offered)))
-invariant-admitted s js l r (other L o) offered w h e v = rw (h .1) (invariant-refused s js l r offered (h .0) e v)
-invariant-admitted s js l r (packet i) offered w h e v = rw (w .accepts i h) (invariant-packet s js l r i offered w h e v)
+invariant-admitted s js l r (other L o) offered near w h e v = rw (h .1) (invariant-refused s js l r offered (h .0) e v)
+invariant-admitted s js l r (packet i) offered near w h e v = rw (w .accepts i h) (invariant-packet s js l r i offered near w h e v)
 
 -- one call more, from any run
 pub invariant-call : {earlier : List Handed} (s : Stream) (js l : List ℕ) (r : Run) (c : Call) → WellFormedStream s → OfStream s (c .arriving)
-    → Each (Fits (c .store)) (s .fields) → Invariant s earlier js l r
+    → Each (Fits (c .store)) (s .fields) → NearLast (c .arriving) l → Invariant s earlier js l r
     → Invariant s earlier (listed (c .arriving) js) (listedFresh (c .arriving) js l) (done r (callStep s r c))
-invariant-call s js l r c w o e v = rw (call-step s js l r c w e v) (invariant-admitted s js l r (c .arriving) (c .store) w o e v)
+invariant-call s js l r c w o e near v =
+    rw (call-step s js l r c w e v) (invariant-admitted s js l r (c .arriving) (c .store) near w o e v)
 
--- the invariant holds after any proper calls
-pub invariant-run : (s : Stream) (store : List ℕ) (earlier : List Handed) (cs : Calls) → WellFormedStream s → Proper s cs
+-- the invariant holds after any proper calls, none far
+pub invariant-run : (s : Stream) (store : List ℕ) (earlier : List Handed) (cs : Calls) → WellFormedStream s → Proper s cs → Near cs
     → Invariant s earlier (arrived cs) (fresh cs) (runFrom (openRun s store earlier) s cs)
-invariant-run s store earlier none w p = invariant-open s store earlier
-invariant-run s store earlier (cs before c) w p =
-    invariant-call s (arrived cs) (fresh cs) (runFrom (openRun s store earlier) s cs) c w (p .1) (p .2)
-    (invariant-run s store earlier cs w (p .0))
+invariant-run s store earlier none w p near = invariant-open s store earlier
+invariant-run s store earlier (cs before c) w p near =
+    invariant-call s (arrived cs) (fresh cs) (runFrom (openRun s store earlier) s cs) c w (p .1) (p .2) (near .1)
+    (invariant-run s store earlier cs w (p .0) (near .0))
 
 counted-span : (l : List ℕ) (a : ℕ) → Counted l a → a ≡ span l
 counted-span [] a c = c
@@ -95,19 +97,20 @@ demand3-after {earlier = earlier} s cs r v =
     }
 
 -- demand 3 of a run of a depacketizer just opened, whatever was handed out before it
-pub demand3-from : (s : Stream) → WellFormedStream s → (store : List ℕ) (earlier : List Handed) (cs : Calls) → Proper s cs
+pub demand3-from : (s : Stream) → WellFormedStream s → (store : List ℕ) (earlier : List Handed) (cs : Calls) → Proper s cs → Near cs
     → Demand3After s earlier cs (runFrom (openRun s store earlier) s cs)
-demand3-from s w store earlier cs p = demand3-after s cs (runFrom (openRun s store earlier) s cs) (invariant-run s store earlier cs w p)
+demand3-from s w store earlier cs p near =
+    demand3-after s cs (runFrom (openRun s store earlier) s cs) (invariant-run s store earlier cs w p near)
 
 -- demand 3
 pub demand3 : Demand3
-demand3 s w cs p = demand3-from s w [] [] cs p
+demand3 s w cs p near = demand3-from s w [] [] cs p near
 
 -- in a run no call is refused by 35
-pub never-35 : (s : Stream) → WellFormedStream s → (cs : Calls) (c : Call) → Proper s (cs before c) → (x : Refusal)
+pub never-35 : (s : Stream) → WellFormedStream s → (cs : Calls) (c : Call) → Proper s (cs before c) → Near cs → (x : Refusal)
     → callStep s (run s cs) c .answer ≡ answer.Refused x → x .number ≡ 35 → ⊥
-never-35 s w cs c p x e n =
-    let v = invariant-run s [] [] cs w (p .0) in
+never-35 s w cs c p near x e n =
+    let v = invariant-run s [] [] cs w (p .0) near in
     let q = call-step s (arrived cs) (fresh cs) (run s cs) c w (p .2) v in
     admitted-not-35 (run s cs .state) (reading s (c .arriving)) (storeIn (run s cs) (c .store)) x
     (admit-numbered (layoutOf s (c .arriving)) (s .source) (s .type) (octetsOf s (c .arriving)))

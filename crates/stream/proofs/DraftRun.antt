@@ -60,4 +60,4 @@ unfolding toBits num bits bitsAt rowAt headerWord checksumWord ancSize ancRecord
 handed = refl
 
 pub demanded : Demand3After stream [] calls (run stream calls)
-demanded = demand3 stream formed calls proper
+demanded = demand3 stream formed calls proper (omega arith)

@@ -12,7 +12,7 @@ use Rattle.wire.specs.Anc.{Each}
 use Rattle.wire.specs.Packet.{Content}
 use Rattle.stream.specs.declared.state.State.{State}
 use Rattle.stream.specs.Step.{_⊞_, Gathered, lost, ready, filling, gatheredIn, gathered, phaseOf, timestampOf, fOf, gatheredRecords, gatheredCells, Gather, carried, follow, appended, classify, distance, classStep, freshStep, packetStep}
-use Rattle.stream.specs.Stream.{Field, cellsIn, Sent, isLast, sent, Stream, contentAt, Within, Fits, WellFormedStream, Handed, handedBy, onlyIf, Run, done}
+use Rattle.stream.specs.Stream.{Field, cellsIn, Sent, isLast, sent, Stream, contentAt, Within, Fits, WellFormedStream, packet, NearLast, Handed, handedBy, onlyIf, Run, done}
 use Rattle.stream.proofs.DistanceLaws.{classAhead, class-ahead}
 use Rattle.stream.proofs.WalkLaws.{packetAt, unbroken, handedBefore, NoneFrom, unbroken-below, handed-below, handed-idle, unbroken-idle}
 use Rattle.stream.proofs.PlaceLaws.{upTo, entering, leaving, Holds, part-at, field-at, followed-at, followed-holds}
@@ -28,11 +28,11 @@ abbrev missingBefore : List ℕ → ℕ → ℕ
 missingBefore [] i = 0
 missingBefore (m ∷ l) i = i - suc m
 
--- a sent packet that was sent later than all that arrived is fresh
-fresh-step : (s : Stream) (l : List ℕ) (st : State) (i : ℕ) (x : Sent) (store : List ℕ) → LastHeard s l (st .heard) (st .last .0) → top l ≤ i → i < 2 ^ 31
+-- a sent packet that was sent later than all that arrived, and not too far ahead of the last fresh one, is fresh
+fresh-step : (s : Stream) (l : List ℕ) (st : State) (i : ℕ) (x : Sent) (store : List ℕ) → LastHeard s l (st .heard) (st .last .0) → top l ≤ i → NearLast (packet i) l
     → packetStep (st .heard) st (contentAt s i x) store ≡ freshStep st (found l i (gathered st)) (missingBefore l i) (contentAt s i x) store
-fresh-step s [] st i x store v h b = ap (λ (t : Bool). packetStep t st (contentAt s i x) store) v
-fresh-step s (m ∷ l) st i x store v h b =
+fresh-step s [] st i x store v h near = ap (λ (t : Bool). packetStep t st (contentAt s i x) store) v
+fresh-step s (m ∷ l) st i x store v h near =
     ap (λ (t : Bool). packetStep t st (contentAt s i x) store) (v .0)
     ∙ ap (λ (n : ℕ). classStep (classify (distance n ((s .start + i) % 2 ^ 32))) st (contentAt s i x) store) (v .1)
     ∙ go (i - suc m) (omega arith)
@@ -49,7 +49,7 @@ fresh-step s (m ∷ l) st i x store v h b =
     go (suc d) e =
         let z : i - suc m ≡ suc d = omega arith in
         let c : classify (distance ((s .start + m) % 2 ^ 32) ((s .start + i) % 2 ^ 32)) ≡ classAhead (suc d) =
-        rw e (class-ahead (s .start) m (suc d) (omega arith)) in
+        rw e (class-ahead (s .start) m (suc d) (omega (arith, near .0))) in
         rw (ne-eqb i (suc m) (λ y. omega arith), z, c)
 
 unbroken-nil : (ps : List Sent) (i : ℕ) → unbroken ps [] i ≡ false
@@ -144,7 +144,7 @@ gathered-after lost = refl
 gathered-after ready = refl
 gathered-after (filling t f r c) = refl
 
-module _ {earlier : List Handed} (s : Stream) (js l : List ℕ) (r : Run) (i : ℕ) (offered : List ℕ) (w : WellFormedStream s) (e : Each (Fits offered) (s .fields)) (v : Invariant s earlier js l r) (h : top l ≤ i) (b : i < length (sent (s .fields))) where
+module _ {earlier : List Handed} (s : Stream) (js l : List ℕ) (r : Run) (i : ℕ) (offered : List ℕ) (w : WellFormedStream s) (e : Each (Fits offered) (s .fields)) (v : Invariant s earlier js l r) (h : top l ≤ i) (b : i < length (sent (s .fields))) (near : NearLast (packet i) l) where
   abbrev ps : List Sent
   ps = sent (s .fields)
 
@@ -171,7 +171,7 @@ module _ {earlier : List Handed} (s : Stream) (js l : List ℕ) (r : Run) (i : �
 
   steps : packetStep (r .state .heard) (r .state) k store ≡ freshStep (r .state) from (missingBefore l i) k store
   steps =
-      fresh-step s l (r .state) i x store (v .heard) h few
+      fresh-step s l (r .state) i x store (v .heard) h near
       ∙ ap (λ (g : Gathered). freshStep (r .state) g (missingBefore l i) k store)
       (ap (λ (g : Gathered). found l i g) (v .gathers) ∙ finds (s .fields) l i h b (v .noneAbove))
 

@@ -8,7 +8,7 @@ use native.Mathlib.Omega.{arith}
 use borrow.Author.Tests.{leb-true}
 use Rattle.wire.specs.Cells.{allBelow}
 use Rattle.wire.proofs.ResultLaws.{and-true}
-use Rattle.stream.specs.Stream.{Field, Sent, isLast, sent, Stream, WellFormedStream, Arriving, other, packet, Call, Calls, _before_, Proper, Handed, handedBy, callStep, run, arrived, listedFresh, fresh, elem, asSent, onlyIf}
+use Rattle.stream.specs.Stream.{Field, Sent, isLast, sent, Stream, WellFormedStream, Arriving, other, packet, Call, Calls, _before_, Proper, Near, Handed, handedBy, callStep, run, arrived, listedFresh, fresh, elem, asSent, onlyIf}
 use Rattle.stream.specs.Laws.{HandedAt}
 use Rattle.stream.proofs.WalkLaws.{packetAt, unbroken, handedBefore, handed-below, handed-idle}
 use Rattle.stream.proofs.RunInvariant.{top, Invariant}
@@ -58,10 +58,10 @@ module _ (s : Stream) (cs : Calls) (h : Handed) (v : Invariant s [] (arrived cs)
       go false b e = none-handed e (packet i)
 
 -- "A field is handed out by the answer whole to the fresh arrival of its last packet."
-pub handed-at : (s : Stream) → WellFormedStream s → (cs : Calls) (c : Call) → Proper s (cs before c) → (h : Handed)
+pub handed-at : (s : Stream) → WellFormedStream s → (cs : Calls) (c : Call) → Proper s (cs before c) → Near (cs before c) → (h : Handed)
     → handedBy (callStep s (run s cs) c .answer) (callStep s (run s cs) c .store) ≡ h ∷ [] → HandedAt s cs (c .arriving) h
-handed-at s w cs c p h e =
-    let v = invariant-run s [] [] cs w (p .0) in
-    let v′ = invariant-run s [] [] (cs before c) w p in
+handed-at s w cs c p near h e =
+    let v = invariant-run s [] [] cs w (p .0) (near .0) in
+    let v′ = invariant-run s [] [] (cs before c) w p near in
     arrival-handed s cs h v (c .arriving)
     (ap (λ (a : List Handed). a ++ (h ∷ [])) (sym (v .handed)) ∙ ap (λ (b : List Handed). run s cs .handed ++ b) (sym e) ∙ v′ .handed)

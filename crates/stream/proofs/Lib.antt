@@ -9,6 +9,8 @@ pub mod JoinLaws
 pub mod MarkedExamples
 pub mod NumberLaws
 pub mod PlaceLaws
+pub mod RestartLaws
+pub mod RestartExamples
 pub mod RunExamples
 pub mod RunInvariant
 pub mod StepLaws

@@ -1,7 +1,7 @@
--- The marked distances of 01, and the run of its `fieldlist` example over the real octets: demand 3 can be met, and is.
+-- The marked distances of 01 as 02 (K11) has them, and the run of its `fieldlist` example over the real octets: demand 3 can be met, and is.
 -- By computation, and by the theorem.
 use mathlib.Core.Path.{_≡_, refl}
-use mathlib.Core.Bool.{true}
+use mathlib.Core.Bool.{true, false}
 use mathlib.Core.List.{List, [], _∷_, _++_}
 use Prim.Native.Nat.{ℕ, zero, suc, _<_}
 use native.Mathlib.Omega.{arith}
@@ -19,19 +19,21 @@ use Rattle.wire.proofs.PacketExamples.{frame, frame7, frame7Octets, frame8, fra
 use Rattle.stream.specs.declared.state.Phase.the-variants as phase
 use Rattle.stream.specs.declared.state.Answer.{Answer}
 use Rattle.stream.specs.declared.state.Answer.the-variants as answer
-use Rattle.stream.specs.Step.{distance, late, next, gap, classify, admit, step}
-use Rattle.stream.specs.Stream.{Field, Stream, nth, contentAt, Fits, WellFormedStream, other, packet, Call, Calls, none, _before_, Proper, callStep, run, Demand3After}
+use Rattle.stream.specs.Step.{distance, late, next, far, ahead, classify, admit, step}
+use Rattle.stream.specs.Stream.{Field, Stream, nth, contentAt, Fits, WellFormedStream, other, packet, Call, Calls, none, _before_, Proper, Near, callStep, run, Demand3After}
 use Rattle.stream.proofs.Demand3.{demand3}
 
--- "Last FFFFFFFF: 0 is distance 1. Last 0: 7FFFFFFF is fresh, 80000000 is late."
+-- "Last FFFFFFFF: 0 is distance 1." The largest distance, and the most negative
 pub distances : (distance 0xFFFFFFFF 0 ≡ pos 1) × (distance 0 0x7FFFFFFF ≡ pos 0x7FFFFFFF)
     × (distance 0 0x80000000 ≡ negsuc 0x7FFFFFFF)
 distances = (refl, refl, refl)
 
--- the same, classified; and a packet is late after itself
-pub classes : (classify (distance 0xFFFFFFFF 0) ≡ next) × (classify (distance 0 0x7FFFFFFF) ≡ gap 0x7FFFFFFE)
-    × (classify (distance 0 0x80000000) ≡ late) × (classify (distance 7 7) ≡ late)
-classes = (refl, refl, refl, refl)
+-- the same, classified: "last 0 now reads: BB7 is fresh, BB8 is far, FFFFFF9D is late, FFFFFF9C is far"; both ends are far; a packet is late
+-- after itself
+pub classes : (classify (distance 0xFFFFFFFF 0) ≡ next) × (classify (distance 0 0xBB7) ≡ ahead 0xBB6)
+    × (classify (distance 0 0xBB8) ≡ far) × (classify (distance 0 0xFFFFFF9D) ≡ late) × (classify (distance 0 0xFFFFFF9C) ≡ far)
+    × (classify (distance 0 0x7FFFFFFF) ≡ far) × (classify (distance 0 0x80000000) ≡ far) × (classify (distance 7 7) ≡ late)
+classes = (refl, refl, refl, refl, refl, refl, refl, refl)
 
 -- packet 9, that never arrives: timestamp 4002, F 2
 abbrev pub frame9Octets : List ℕ
@@ -102,9 +104,13 @@ pub proper : Proper stream calls
 proper =
     (((((tt, omega arith, room), (record { number = 2; index = 0 }, refuses), room), omega arith, room), omega arith, room), omega arith, room)
 
+-- none is far
+pub near : Near calls
+near = omega arith
+
 -- so demand 3 holds of them
 pub kept : Demand3After stream [] calls (run stream calls)
-kept = demand3 stream formed calls proper
+kept = demand3 stream formed calls proper near
 
 -- handed out is the field of packet 8, alone
 pub handed : run stream calls .handed ≡ record { timestamp = 2501; f = 3; records = 1; cells = 8; content = listOf (a ∷ []) } ∷ []
@@ -141,6 +147,8 @@ pub answered : (answers stream calls
       fresh = 3;
       late = 1;
       missing = 1;
+      remembers = false;
+      remembered = record { 0 = 0 };
     })
 unfolding toBits num bits bitsAt rowAt headerWord checksumWord ancSize ancRecord headersOk rOk wordsOk checksumOk alignmentOk ancChecks readAnc readRun packetRead headerChecks paddingChecks payloadChecks readRecords readPacket readContent step
 answered = (refl, refl)

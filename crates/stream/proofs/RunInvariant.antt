@@ -17,7 +17,7 @@ use Rattle.stream.specs.declared.state.State.{State}
 use Rattle.stream.specs.declared.state.Phase.{Phase}
 use Rattle.stream.specs.declared.state.Phase.the-variants as phase
 use Rattle.stream.specs.Step.{maxCount, Gathered, lost, ready, filling, gatheredIn, gathered, phaseOf, gatheredRecords, gatheredCells, fits, isFilling, isLost, sound, classify, distance, classStep, lateStep, packetStep}
-use Rattle.stream.specs.Stream.{Field, cellsIn, Sent, sent, Stream, contentAt, Within, Fits, WellFormedStream, Handed, Run, openRun, storeFor, done, earliest}
+use Rattle.stream.specs.Stream.{Field, cellsIn, Sent, sent, Stream, contentAt, Within, Fits, WellFormedStream, packet, NearLast, Handed, Run, openRun, storeFor, done, earliest}
 use Rattle.stream.proofs.FitLaws.{gatheredFits, soundIn, sound-lost, sound-heard}
 use Rattle.stream.proofs.DistanceLaws.{class-late}
 use Rattle.stream.proofs.WalkLaws.{packetAt, unbroken, handedBefore, NoneFrom}
@@ -132,15 +132,15 @@ leb-and-less a b k h = go (leb a k) refl
     go true e = refl
     go false e = sym (lt-leb b k (omega (arith, leb-false a k e)))
 
--- a sent packet that is not sent later than all that arrived is late
-pub late-step : {earlier : List Handed} (s : Stream) (js l : List ℕ) (r : Run) (i : ℕ) (store : List ℕ) → WellFormedStream s → Invariant s earlier js l r → i < top l
+-- a sent packet that is not sent later than all that arrived, nor too long before the last fresh one, is late
+pub late-step : {earlier : List Handed} (s : Stream) (js l : List ℕ) (r : Run) (i : ℕ) (store : List ℕ) → Invariant s earlier js l r → i < top l → NearLast (packet i) l
     → packetStep (r .state .heard) (r .state) (contentAt s i (packetAt (sent (s .fields)) i)) store ≡ lateStep (r .state) store
-late-step s js [] r i store w v h = absurd (not-suc-le-zero h)
-late-step s js (m ∷ l) r i store w v h =
+late-step s js [] r i store v h near = absurd (not-suc-le-zero h)
+late-step s js (m ∷ l) r i store v h near =
     let k : Content = contentAt s i (packetAt (sent (s .fields)) i) in
     ap (λ (b : Bool). packetStep b (r .state) k store) (v .heard .0)
     ∙ ap (λ (n : ℕ). classStep (classify (distance n (k .number))) (r .state) k store) (v .heard .1)
-    ∙ rw (class-late (s .start) m i (omega arith) (omega (arith, w .few, v .sentBefore)))
+    ∙ rw (class-late (s .start) m i (omega arith) (near .1))
 
 -- a late packet
 pub invariant-late : {earlier : List Handed} (s : Stream) (js l : List ℕ) (r : Run) (i : ℕ) (offered : List ℕ) → Each (Fits offered) (s .fields) → i < top l

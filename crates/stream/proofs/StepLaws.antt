@@ -1,8 +1,10 @@
--- What a step does whatever the state: a refusal keeps the store and the state, but 32 counts one more as late.
+-- What a step does whatever the state: a refusal keeps the store and the state, but 32 counts one more as late, and 36 changes the
+-- remembered number.
 -- By the checks in their order: a fresh packet is never refused.
 use mathlib.Core.Path.{_≡_, refl, _∙_, ap, sym, subst}
 use mathlib.Core.Bool.{Bool, true, false, true≢false, cond, _&&_}
 use mathlib.Core.List.{List, [], _∷_}
+use mathlib.Core.Logic.{_⊎_, inl, inr}
 use Prim.Native.Nat.{ℕ, _+_}
 use native.Mathlib.Omega.{arith}
 use lib.Dec.{eqb}
@@ -15,7 +17,7 @@ use Rattle.stream.specs.declared.state.State.{State}
 use Rattle.stream.specs.declared.state.Field.{Field}
 use Rattle.stream.specs.declared.state.Answer.{Answer}
 use Rattle.stream.specs.declared.state.Answer.the-variants as answer
-use Rattle.stream.specs.Step.{Gathered, lost, ready, filling, gathered, Carried, wholeIfMarked, fieldWith, joinFits, joinIfFits, join, joinIfSame, follow, carried, Class, late, next, gap, classify, distance, Step, lateStep, freshStep, classStep, packetStep, openedChecks, admit, admission, admittedStep, sound, step}
+use Rattle.stream.specs.Step.{Gathered, lost, ready, filling, gathered, Carried, wholeIfMarked, fieldWith, joinFits, joinIfFits, join, joinIfSame, follow, carried, Class, late, next, far, ahead, classify, distance, Step, lateStep, freshStep, farStep, isRemembered, openState, farOrRestart, classStep, packetStep, openedChecks, admit, admission, admittedStep, sound, step}
 use Rattle.wire.proofs.ResultLaws.{Numbered, then-accepts, judge-accepts}
 use Rattle.stream.proofs.NumberLaws.{isAdmission, admit-numbered}
 
@@ -51,15 +53,24 @@ follow-answers (filling t f r c) p room = go (eqb t (p .timestamp) && eqb f (p .
 not-refused : (a : Answer) (x : Refusal) → isRefusal a ≡ false → a ≡ answer.Refused x → ⊥
 not-refused a x h e = true≢false (sym (ap isRefusal e) ∙ h)
 
-class-refuses : (c : Class) (st : State) (k : Content) (store : List ℕ) (x : Refusal) → classStep c st k store .answer ≡ answer.Refused x
-    → classStep c st k store ≡ lateStep st store
-class-refuses late st k store x e = refl
-class-refuses next st k store x e = absurd (not-refused _ x (follow-answers (gathered st) (carried k) (length store)) e)
-class-refuses (gap n) st k store x e = absurd (not-refused _ x (follow-answers lost (carried k) (length store)) e)
+-- a packet of the opened source and type is refused only where it is late or far
+abbrev Unfresh : State → Content → List ℕ → Step → Type 0
+Unfresh st k store z = (z ≡ lateStep st store) ⊎ (z ≡ farStep st (k .number) store)
 
--- a packet of the opened source and type is refused only where it is late
+far-refuses : (b : Bool) (st : State) (k : Content) (store : List ℕ) (x : Refusal) → farOrRestart b st k store .answer ≡ answer.Refused x
+    → Unfresh st k store (farOrRestart b st k store)
+far-refuses true st k store x e = absurd (not-refused _ x (follow-answers lost (carried k) (length store)) e)
+far-refuses false st k store x e = inr refl
+
+class-refuses : (c : Class) (st : State) (k : Content) (store : List ℕ) (x : Refusal) → classStep c st k store .answer ≡ answer.Refused x
+    → Unfresh st k store (classStep c st k store)
+class-refuses late st k store x e = inl refl
+class-refuses next st k store x e = absurd (not-refused _ x (follow-answers (gathered st) (carried k) (length store)) e)
+class-refuses far st k store x e = far-refuses (isRemembered st (k .number)) st k store x e
+class-refuses (ahead n) st k store x e = absurd (not-refused _ x (follow-answers lost (carried k) (length store)) e)
+
 packet-refuses : (b : Bool) (st : State) (k : Content) (store : List ℕ) (x : Refusal) → packetStep b st k store .answer ≡ answer.Refused x
-    → packetStep b st k store ≡ lateStep st store
+    → Unfresh st k store (packetStep b st k store)
 packet-refuses false st k store x e = absurd (not-refused _ x (follow-answers lost (carried k) (length store)) e)
 packet-refuses true st k store x e = class-refuses (classify (distance (st .last .0) (k .number))) st k store x e
 
@@ -70,40 +81,56 @@ refusal-inj e = cc
 abbrev pub unchanged : State → List ℕ → Refusal → Step
 unchanged st store x = record { answer = answer.Refused x; state = st; store = store }
 
--- a step that refuses: it changes nothing, or counts one more as late
-pub record Refuses (st : State) (store : List ℕ) (x : Refusal) (z : Step) : Type 0 where
-  pub other : (x .number ≡ 32 → ⊥) → z ≡ unchanged st store x
+-- a step that refuses: it changes nothing, or counts one more as late, or remembers the number after that of the packet, which `says` it
+pub record Refuses (st : State) (store : List ℕ) (says : Result Content) (x : Refusal) (z : Step) : Type 0 where
+  pub other : (x .number ≡ 32 → ⊥) → (x .number ≡ 36 → ⊥) → z ≡ unchanged st store x
   pub late : x .number ≡ 32 → z ≡ lateStep st store
+  pub far : x .number ≡ 36 → (k : Content) × (says ≡ accepted k) × (z ≡ farStep st (k .number) store)
 
-unchanged-refuses : (st : State) (store : List ℕ) (x y : Refusal) → (y .number ≡ 32 → ⊥) → unchanged st store y .answer ≡ answer.Refused x
-    → Refuses st store x (unchanged st store y)
-unchanged-refuses st store x y n e =
+-- not a number of `Refuses`' own cases
+abbrev Changeless : ℕ → Type 0
+Changeless n = (n ≡ 32 → ⊥) × (n ≡ 36 → ⊥)
+
+unchanged-refuses : (st : State) (store : List ℕ) (says : Result Content) (x y : Refusal) → Changeless (y .number)
+    → unchanged st store y .answer ≡ answer.Refused x → Refuses st store says x (unchanged st store y)
+unchanged-refuses st store says x y n e =
     let p : y ≡ x = refusal-inj e in
-    record { other = λ m. ap (unchanged st store) p; late = λ m. absurd (n (ap (λ (q : Refusal). q .number) p ∙ m)) }
+    let q : y .number ≡ x .number = ap (λ (z : Refusal). z .number) p in
+    record { other = λ m o. ap (unchanged st store) p; late = λ m. absurd (n .0 (q ∙ m)); far = λ m. absurd (n .1 (q ∙ m)) }
 
-late-refuses : (st : State) (store : List ℕ) (x : Refusal) (z : Step) → z ≡ lateStep st store → z .answer ≡ answer.Refused x
-    → Refuses st store x z
-late-refuses st store x z q e =
-    let p : lateStep st store .answer ≡ answer.Refused x = sym (ap (λ (y : Step). y .answer) q) ∙ e in
-    record { other = λ m. absurd (m (sym (ap (λ (y : Refusal). y .number) (refusal-inj p)))); late = λ m. q }
+-- the number that a step refuses by
+refused-by : (x y : Refusal) (z w : Step) → z ≡ w → w .answer ≡ answer.Refused y → z .answer ≡ answer.Refused x → y .number ≡ x .number
+refused-by x y z w q a e = ap (λ (v : Refusal). v .number) (refusal-inj (sym a ∙ sym (ap (λ (v : Step). v .answer) q) ∙ e))
 
-not-32 : (n : ℕ) → isAdmission n ≡ true → n ≡ 32 → ⊥
-not-32 n h e = true≢false (sym (subst (λ (m : ℕ). isAdmission m ≡ true) e h))
+unfresh-refuses : (st : State) (k : Content) (store : List ℕ) (x : Refusal) (z : Step) → Unfresh st k store z → z .answer ≡ answer.Refused x
+    → Refuses st store (accepted k) x z
+unfresh-refuses st k store x z (inl q) e =
+    let n : 32 ≡ x .number = refused-by x _ z (lateStep st store) q refl e in
+    record { other = λ m o. absurd (m (sym n)); late = λ m. q; far = λ m. absurd (omega arith) }
+unfresh-refuses st k store x z (inr q) e =
+    let n : 36 ≡ x .number = refused-by x _ z (farStep st (k .number) store) q refl e in
+    record { other = λ m o. absurd (o (sym n)); late = λ m. absurd (omega arith); far = λ m. (k, refl, q) }
+
+changeless : (n : ℕ) → isAdmission n ≡ true → Changeless n
+changeless n h =
+    (λ e. true≢false (sym (subst (λ (m : ℕ). isAdmission m ≡ true) e h)), λ e. true≢false (sym (subst (λ (m : ℕ). isAdmission m ≡ true) e h)))
 
 admitted-refuses : (st : State) (r : Result Content) (store : List ℕ) (x : Refusal) → Numbered isAdmission r
-    → admittedStep st r store .answer ≡ answer.Refused x → Refuses st store x (admittedStep st r store)
-admitted-refuses st (refused y) store x h e = unchanged-refuses st store x y (not-32 (y .number) h) e
-admitted-refuses st (accepted k) store x h e = late-refuses st store x _ (packet-refuses (st .heard) st k store x e) e
+    → admittedStep st r store .answer ≡ answer.Refused x → Refuses st store r x (admittedStep st r store)
+admitted-refuses st (refused y) store x h e = unchanged-refuses st store _ x y (changeless (y .number) h) e
+admitted-refuses st (accepted k) store x h e = unfresh-refuses st k store x _ (packet-refuses (st .heard) st k store x e) e
 
 checked-refuses : (b : Bool) (st : State) (r : Result Content) (store : List ℕ) (x : Refusal) → Numbered isAdmission r
     → admittedStep st (cond b r (refuse 35 0)) store .answer ≡ answer.Refused x
-    → Refuses st store x (admittedStep st (cond b r (refuse 35 0)) store)
+    → Refuses st store (cond b r (refuse 35 0)) x (admittedStep st (cond b r (refuse 35 0)) store)
 checked-refuses true st r store x h e = admitted-refuses st r store x h e
-checked-refuses false st r store x h e = unchanged-refuses st store x (record { number = 35; index = 0 }) (λ n. omega arith) e
+checked-refuses false st r store x h e =
+    unchanged-refuses st store _ x (record { number = 35; index = 0 }) (λ n. omega arith, λ n. omega arith) e
 
--- "Lent memory is unchanged, and so is the keeper's state, but 32 adds one to the late count": over any state
+-- "Lent memory is unchanged, and so is the keeper's state, but 32 adds one to the late count", and 36 "changes only the remembered number":
+-- over any state
 pub refused-keeps : (st : State) (L : Layout) (octets store : List ℕ) (x : Refusal) → step st L octets store .answer ≡ answer.Refused x
-    → Refuses st store x (step st L octets store)
+    → Refuses st store (admission st L (length store) octets) x (step st L octets store)
 unfolding step
 refused-keeps st L octets store x e =
     checked-refuses (sound st (length store)) st (admit L (st .source) (st .«payload_type») octets) store x
@@ -116,10 +143,15 @@ pub admitted-not-35 : (st : State) (r : Result Content) (store : List ℕ) (x : 
 admitted-not-35 st (refused y) store x h e n =
     let p : y .number ≡ 35 = ap (λ (q : Refusal). q .number) (refusal-inj e) ∙ n in
     true≢false (sym (subst (λ (m : ℕ). isAdmission m ≡ true) p h))
-admitted-not-35 st (accepted k) store x h e n =
-    let l = packet-refuses (st .heard) st k store x e in
-    let p : 32 ≡ x .number = ap (λ (y : Refusal). y .number) (refusal-inj (sym (ap (λ (y : Step). y .answer) l) ∙ e)) in
-    omega arith
+admitted-not-35 st (accepted k) store x h e n = go (packet-refuses (st .heard) st k store x e)
+  where
+    go : Unfresh st k store (packetStep (st .heard) st k store) → ⊥
+    go (inl q) =
+        let p : 32 ≡ x .number = refused-by x _ _ (lateStep st store) q refl e in
+        omega arith
+    go (inr q) =
+        let p : 36 ≡ x .number = refused-by x _ _ (farStep st (k .number) store) q refl e in
+        omega arith
 
 -- the step of a sound state
 pub sound-step : (st : State) (L : Layout) (octets store : List ℕ) → sound st (length store) ≡ true
@@ -146,18 +178,24 @@ module _ (st : State) (L : Layout) (s store : List ℕ) where
   unfolding step
   step-admitted k h = ap (λ (r : Result Content). admittedStep st r store) h
 
--- Every step refuses and changes nothing, or counts one more as late, or is that of a fresh packet. What holds of these three holds of
--- every step.
+-- Every step refuses and changes nothing, or counts one more as late, or remembers a number, or is that of a fresh packet, from the state
+-- or from one just opened. What holds of these four holds of every step.
 module _ (st : State) (L : Layout) (octets store : List ℕ) (P : Step → Type 0) (refuses : (x : Refusal) → P (unchanged st store x)) (lates : P (lateStep st store))
-    (freshens : (k : Content) → readContent L octets ≡ accepted k → sound st (length store) ≡ true → (found : Gathered) (missing : ℕ)
-    → P (freshStep st found missing k store)) where
+    (fars : (number : ℕ) → P (farStep st number store))
+    (freshens : (from : State) (k : Content) → readContent L octets ≡ accepted k → sound st (length store) ≡ true → (found : Gathered) (missing : ℕ)
+    → P (freshStep from found missing k store)) where
+  far-is : (b : Bool) (k : Content) → readContent L octets ≡ accepted k → sound st (length store) ≡ true → P (farOrRestart b st k store)
+  far-is true k e h = freshens (openState (st .source) (st .«payload_type»)) k e h lost 0
+  far-is false k e h = fars (k .number)
+
   class-is : (c : Class) (k : Content) → readContent L octets ≡ accepted k → sound st (length store) ≡ true → P (classStep c st k store)
   class-is late k e h = lates
-  class-is next k e h = freshens k e h (gathered st) 0
-  class-is (gap n) k e h = freshens k e h lost n
+  class-is next k e h = freshens st k e h (gathered st) 0
+  class-is far k e h = far-is (isRemembered st (k .number)) k e h
+  class-is (ahead n) k e h = freshens st k e h lost n
 
   packet-is : (b : Bool) (k : Content) → readContent L octets ≡ accepted k → sound st (length store) ≡ true → P (packetStep b st k store)
-  packet-is false k e h = freshens k e h lost 0
+  packet-is false k e h = freshens st k e h lost 0
   packet-is true k e h = class-is (classify (distance (st .last .0) (k .number))) k e h
 
   admitted-is : (r : Result Content) → admission st L (length store) octets ≡ r → P (admittedStep st r store)

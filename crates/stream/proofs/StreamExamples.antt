@@ -15,7 +15,7 @@ use Rattle.wire.specs.Cells.{listOf}
 use Rattle.wire.proofs.Examples.{a, aOctets}
 use Rattle.stream.specs.declared.state.Answer.the-variants as answer
 use Rattle.stream.specs.Step.{admit, step}
-use Rattle.stream.specs.Stream.{Part, Stream, nth, contentAt, Fits, WellFormedStream, Calls, Proper, run, Demand3After}
+use Rattle.stream.specs.Stream.{Part, Stream, nth, contentAt, Fits, WellFormedStream, Calls, Proper, Near, run, Demand3After}
 use Rattle.stream.proofs.Demand3.{demand3}
 use Rattle.stream.proofs.RunExamples.{store, lends, answers}
 
@@ -85,9 +85,12 @@ proper (i ∷ is) e = (proper is (e .1), e .0, room)
 abbrev pub calls : Calls
 calls = lends store (6 ∷ 5 ∷ 3 ∷ 1 ∷ 2 ∷ 1 ∷ 0 ∷ [])
 
+near : Near calls
+near = omega arith
+
 -- so demand 3 holds of them
 pub kept : Demand3After stream [] calls (run stream calls)
-kept = demand3 stream formed calls (proper (6 ∷ 5 ∷ 3 ∷ 1 ∷ 2 ∷ 1 ∷ 0 ∷ []) (omega arith))
+kept = demand3 stream formed calls (proper (6 ∷ 5 ∷ 3 ∷ 1 ∷ 2 ∷ 1 ∷ 0 ∷ []) (omega arith)) near
 
 -- handed out are the field that wraps, and the last; not the one that misses packet 2
 pub handed : run stream calls .handed

@@ -1,4 +1,4 @@
--- What the depacketizer does with one arrival (01, "The keeper").
+-- What the depacketizer does with one arrival (01, "The keeper"; encoders that restart: 02, K11).
 use mathlib.Core.Bool.{Bool, true, false, cond, _&&_, _||_}
 use mathlib.Core.List.{List, [], _∷_}
 use Prim.Native.Nat.{ℕ, zero, suc, _+_, _-_, _^_, _%_, min}
@@ -35,17 +35,25 @@ signed n = cond (ltb n (2 ^ 31)) (pos n) (negsuc (2 ^ 32 - suc n))
 abbrev pub distance : ℕ → ℕ → ℤ
 distance last number = signed ((number + (2 ^ 32 - last)) % 2 ^ 32)
 
--- what a distance says: late, the next packet, or a gap of so many missing packets
-pub data Class : Type 0 where
-  late next : Class
-  gap : ℕ → Class
+-- "ahead (2 to 2,999)" (RFC 3550, appendix A.1: MAX_DROPOUT less 1)
+abbrev pub maxAhead : ℕ
+maxAhead = 2999
 
--- "Zero or negative is late."
+-- "late (0 to -99)" (RFC 3550, appendix A.1: MAX_MISORDER less 1)
+abbrev pub maxBehind : ℕ
+maxBehind = 99
+
+-- what a distance says: late, the next packet, ahead with so many missing before it, or far
+pub data Class : Type 0 where
+  late next far : Class
+  ahead : ℕ → Class
+
+-- "The distance now says next (1), ahead (2 to 2,999), late (0 to -99) or far (anything else)."
 abbrev pub classify : ℤ → Class
-classify (negsuc n) = late
+classify (negsuc n) = cond (leb (suc n) maxBehind) late far
 classify (pos zero) = late
 classify (pos (suc zero)) = next
-classify (pos (suc (suc n))) = gap (suc n)
+classify (pos (suc (suc n))) = cond (leb (suc (suc n)) maxAhead) (ahead (suc n)) far
 
 -- "The keeper is lost, ready or filling." What is gathered: nothing, and no field can start; nothing, and the next packet starts
 -- one; part of a field
@@ -179,7 +187,7 @@ pub record Step : Type 0 where
   pub store : List ℕ
 
 -- the state after a fresh packet, with so many more missing, and what is then gathered flat. "Counts: fresh; late; missing, the sum
--- of distance - 1."
+-- of distance - 1." "Any fresh arrival clears the memory."
 abbrev pub afterWith : State → (number : ℕ) → Phase → (timestamp f records cells missing : ℕ) → State
 afterWith st number p t f r c missing =
     record {
@@ -195,12 +203,34 @@ afterWith st number p t f r c missing =
       fresh = st .fresh ⊞ 1;
       late = st .late;
       missing = st .missing ⊞ missing;
+      remembers = false;
+      remembered = record { 0 = 0 };
     }
 
 -- the same, with what is then gathered
 abbrev pub after : State → (number : ℕ) → Gathered → (missing : ℕ) → State
 after st number g missing =
     afterWith st number (phaseOf g) (timestampOf g) (fOf g) (gatheredRecords g) (gatheredCells g) missing
+
+-- 36 "changes only the remembered number"
+abbrev pub remembering : State → ℕ → State
+remembering st number =
+    record {
+      source = st .source;
+      «payload_type» = st .«payload_type»;
+      phase = st .phase;
+      heard = st .heard;
+      last = st .last;
+      timestamp = st .timestamp;
+      f = st .f;
+      records = st .records;
+      cells = st .cells;
+      fresh = st .fresh;
+      late = st .late;
+      missing = st .missing;
+      remembers = true;
+      remembered = record { 0 = number };
+    }
 
 -- "Held and whole append their cells after the gathered ones; other answers write nothing."
 abbrev pub appended : Bool → Gathered → Content → List ℕ → List ℕ
@@ -228,6 +258,8 @@ later st =
       fresh = st .fresh;
       late = st .late ⊞ 1;
       missing = st .missing;
+      remembers = st .remembers;
+      remembered = st .remembered;
     }
 
 -- 32: late
@@ -235,11 +267,54 @@ abbrev pub lateStep : State → List ℕ → Step
 lateStep st store =
     record { answer = answer.Refused (record { number = 32; index = 0 }); state = later st; store = store }
 
+-- "A keeper just opened is lost, has no last fresh number, and its counts are 0."
+abbrev pub openState : (source type : ℕ) → State
+openState source type =
+    record {
+      source = source;
+      «payload_type» = type;
+      phase = phase.Lost;
+      heard = false;
+      last = record { 0 = 0 };
+      timestamp = record { 0 = 0 };
+      f = 0;
+      records = 0;
+      cells = 0;
+      fresh = 0;
+      late = 0;
+      missing = 0;
+      remembers = false;
+      remembered = record { 0 = 0 };
+    }
+
+-- "the number after it is remembered"
+abbrev pub numberAfter : ℕ → ℕ
+numberAfter number = (number + 1) % 2 ^ 32
+
+-- 36: "A far arrival is refused, and the number after it is remembered."
+abbrev pub farStep : State → (number : ℕ) → List ℕ → Step
+farStep st number store =
+    record { answer = answer.Refused (record { number = 36; index = 0 }); state = remembering st (numberAfter number); store = store }
+
+-- a number is "the remembered number"
+abbrev pub isRemembered : State → (number : ℕ) → Bool
+isRemembered st number = st .remembers && eqb (st .remembered .0) number
+
+-- "the keeper restarts: counts return to zero, and it is treated as a first arrival": in a state just opened, which is lost
+abbrev pub restartStep : State → Content → List ℕ → Step
+restartStep st k store = freshStep (openState (st .source) (st .«payload_type»)) lost 0 k store
+
+-- "If a far arrival has the remembered number, the keeper restarts"; any other is refused
+abbrev pub farOrRestart : Bool → State → Content → List ℕ → Step
+farOrRestart true st k store = restartStep st k store
+farOrRestart false st k store = farStep st (k .number) store
+
 -- "First, or distance over 1: answer skipped; what was gathered is dropped": as if lost
 abbrev pub classStep : Class → State → Content → List ℕ → Step
 classStep late st k store = lateStep st store
 classStep next st k store = freshStep st (gathered st) 0 k store
-classStep (gap n) st k store = freshStep st lost n k store
+classStep far st k store = farOrRestart (isRemembered st (k .number)) st k store
+classStep (ahead n) st k store = freshStep st lost n k store
 
 -- "The first is always fresh."
 abbrev pub packetStep : Bool → State → Content → List ℕ → Step
@@ -283,27 +358,10 @@ sound st room =
 abbrev pub admission : State → Layout → (room : ℕ) → List ℕ → Result Content
 admission st L room octets = judge 0 ((sound st room, 35) ∷ []) (admit L (st .source) (st .«payload_type») octets)
 
--- ".. 32": one arrival, of octets in a layout that the caller tells (02, K3). "Lent memory is unchanged, and so is the keeper's state, but 32 adds one to the late count."
+-- ".. 32" or 36, "in the place of 32": one arrival, of octets in a layout that the caller tells (02, K3). "Lent memory is unchanged, and so
+-- is the keeper's state, but 32 adds one to the late count."
 unfoldable pub step : State → Layout → List ℕ → List ℕ → Step
 step st L octets store = admittedStep st (admission st L (length store) octets) store
-
--- "A keeper just opened is lost, has no last fresh number, and its counts are 0."
-abbrev pub openState : (source type : ℕ) → State
-openState source type =
-    record {
-      source = source;
-      «payload_type» = type;
-      phase = phase.Lost;
-      heard = false;
-      last = record { 0 = 0 };
-      timestamp = record { 0 = 0 };
-      f = 0;
-      records = 0;
-      cells = 0;
-      fresh = 0;
-      late = 0;
-      missing = 0;
-    }
 
 -- "Opened with source and payload type (24 if over 127)."
 abbrev pub openOf : (source type : ℕ) → Result State

@@ -15,7 +15,7 @@ use Rattle.wire.specs.Writing.{maxFieldRecords, maxFieldCells}
 use Rattle.stream.specs.declared.state.State.{State}
 use Rattle.stream.specs.declared.state.Answer.{Answer}
 use Rattle.stream.specs.declared.state.Answer.the-variants as answer
-use Rattle.stream.specs.Step.{maxCount, Gathered, lost, ready, filling, gathered, Step, step, admit, openState}
+use Rattle.stream.specs.Step.{maxCount, maxAhead, maxBehind, Gathered, lost, ready, filling, gathered, Step, step, admit, openState, sound, classify, distance, far, isRemembered}
 
 -- What one packet carries: its octets, and the records in them.
 pub record Part : Type 0 where
@@ -268,6 +268,18 @@ abbrev pub span : List ℕ → ℕ
 span [] = 0
 span (m ∷ l) = suc m - earliest m l
 
+-- "Demand 3 now needs that no arrival of a sent packet in the run lies over 2,999 ahead of the last fresh one, or 100 or more behind" (02,
+-- K11). The fresh packets before it are `l`; the first has none before it.
+abbrev pub NearLast : Arriving → (fresh : List ℕ) → Type 0
+NearLast (other L o) l = Unit {0}
+NearLast (packet i) [] = Unit {0}
+NearLast (packet i) (m ∷ l) = (i ≤ m + maxAhead) × (m ≤ i + maxBehind)
+
+-- and so does each of the calls
+abbrev pub Near : Calls → Type 0
+Near none = Unit {0}
+Near (cs before c) = Near cs × NearLast (c .arriving) (fresh cs)
+
 -- Demand 3 of a run `r` that made these calls, where `earlier` had been handed out before them.
 pub record Demand3After (s : Stream) (earlier : List Handed) (cs : Calls) (r : Run) : Type 0 where
   -- "A field is handed out exactly when .."
@@ -281,4 +293,32 @@ pub record Demand3After (s : Stream) (earlier : List Handed) (cs : Calls) (r : R
 
 -- Demand 3. It is said of every list of calls, so of every first part of one: a field is handed out at the call that completes it.
 abbrev pub Demand3 : Type 0
-Demand3 = (s : Stream) → WellFormedStream s → (cs : Calls) → Proper s cs → Demand3After s [] cs (run s cs)
+Demand3 = (s : Stream) → WellFormedStream s → (cs : Calls) → Proper s cs → Near cs → Demand3After s [] cs (run s cs)
+
+-- A call that restarts: "a far arrival has the remembered number".
+pub record Restarts (st : State) (L : Layout) (octets store : List ℕ) : Type 0 where
+  pub passes : sound st (length store) ≡ true
+  pub heard : st .heard ≡ true
+  pub says : Content
+  pub accepts : admit L (st .source) (st .«payload_type») octets ≡ accepted says
+  pub isFar : classify (distance (st .last .0) (says .number)) ≡ far
+  pub remembered : isRemembered st (says .number) ≡ true
+
+-- "treated as a first arrival": what a restarting call does is what it does in a state just opened
+abbrev pub RestartOpens : Type 0
+RestartOpens = (st : State) (L : Layout) (octets store : List ℕ) → Restarts st L octets store
+    → step st L octets store ≡ step (openState (st .source) (st .«payload_type»)) L octets store
+
+-- one call, and then others
+infixl 20 _andThen_
+abbrev pub _andThen_ : Call → Calls → Calls
+c andThen none = none before c
+c andThen (cs before d) = (c andThen cs) before d
+
+-- "it holds again from the restarting packet on, as from a keeper just opened": whatever the run `r` was before, and so after each restart
+abbrev pub Demand3Again : Type 0
+Demand3Again = (s : Stream) → WellFormedStream s → (r : Run) (c : Call) (cs : Calls)
+    → r .state .source ≡ s .source → r .state .«payload_type» ≡ s .type
+    → Restarts (r .state) (layoutOf s (c .arriving)) (octetsOf s (c .arriving)) (storeFor (gathered (r .state)) (r .store) (c .store))
+    → Proper s (c andThen cs) → Near (c andThen cs)
+    → Demand3After s (r .handed) (c andThen cs) (runFrom r s (c andThen cs))

@@ -10,7 +10,8 @@ pub enum Phase {
     Filling,
 }
 
-// Flat, so that a state that refusal 35 names can be said. Not filling, `timestamp`, `f`, `records` and `cells` are 0.
+// Flat, so that a state that refusal 35 names can be said. Not filling, `timestamp`, `f`, `records` and `cells` are 0; so is
+// `remembered` where no number is remembered.
 pub struct State {
     pub source: u32,
     pub payload_type: u8,
@@ -25,6 +26,9 @@ pub struct State {
     pub fresh: u64,
     pub late: u64,
     pub missing: u64,
+    // Whether an arrival was far and none was fresh since; the number after the last such one is `remembered` (02, K11).
+    pub remembers: bool,
+    pub remembered: PacketNumber,
 }
 
 // A whole field: its records are the first `cells` cells of the store.

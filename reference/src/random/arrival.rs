@@ -62,7 +62,12 @@ pub fn state(r: &mut Random) -> State {
         fresh: count64(r),
         late: count64(r),
         missing: count64(r),
+        remembered: None,
     };
+    if r.one_in(2) {
+        let far = state.last.wrapping_add(far(r));
+        state.remembered = Some(far.wrapping_add(1));
+    }
     if phase == FILLING {
         state.timestamp = r.below(3) as u32;
         state.f = r.pick(&[0, 2, 3]);
@@ -86,11 +91,29 @@ pub(super) fn spoil_state(r: &mut Random, state: &mut State) {
     }
 }
 
-/// A packet that comes near what the state waits for.
+/// How many packets away a far one is: near the borders, or anywhere.
+pub fn far(r: &mut Random) -> u32 {
+    let near = r.below(4) as u32;
+    match r.below(4) {
+        0 => 3_000 + near,
+        1 => 0_u32.wrapping_sub(100 + near),
+        2 => 0x7FFF_FFFE + near,
+        _ => 3_000 + r.number32() % 0xFFFF_F000,
+    }
+}
+
+/// A packet that comes near what the state waits for, or has the number that
+/// it remembers.
 pub(super) fn arrival_at(r: &mut Random, layout: Layout, state: &State) -> Vec<u8> {
-    let away = match r.below(8) {
-        0 => r.pick(&[0, u32::MAX, 0x7FFF_FFFF, 0x8000_0000, 0x8000_0001]),
-        1 => r.below(5) as u32,
+    let away = match r.below(16) {
+        0 => r.pick(&[0, u32::MAX, 2_998, 2_999, 2_u32.wrapping_sub(100)]),
+        1 => 0_u32.wrapping_sub(97 + r.below(5) as u32),
+        2 => far(r),
+        3 => r.below(5) as u32,
+        4..7 => match state.remembered {
+            Some(number) => number.wrapping_sub(state.last),
+            None => 1,
+        },
         _ => 1,
     };
     let head = Head {
@@ -130,13 +153,26 @@ pub struct Stream {
 /// A stream of that many fields, each of one to `most` packets; it often
 /// starts near the wrap of the number.
 pub fn stream(r: &mut Random, layout: Layout, fields: usize, most: usize) -> Stream {
-    let mut stream = Stream {
+    let (source, payload_type) = (r.number32(), r.below(128) as u8);
+    let empty = Stream {
         layout,
-        source: r.number32(),
-        payload_type: r.below(128) as u8,
+        source,
+        payload_type,
         sent: Vec::new(),
     };
     let start = packet_number(r);
+    stream_from(r, empty, start, fields, most)
+}
+
+/// The same of a source and type, from a number on.
+pub fn stream_from(
+    r: &mut Random,
+    mut stream: Stream,
+    start: u32,
+    fields: usize,
+    most: usize,
+) -> Stream {
+    let layout = stream.layout;
     let mut timestamp = r.number32();
     for field in 0..fields {
         let packets = 1 + r.below(most);
@@ -231,6 +267,36 @@ pub fn arrivals(r: &mut Random, stream: &Stream) -> Vec<Arrival> {
     arrivals
 }
 
+/// What arrives from an encoder that restarts: streams of one source and type,
+/// each with what arrives of it. A new one starts at a low number, or far from
+/// the last number of the one before, or not quite.
+pub fn cycles(r: &mut Random, layout: Layout) -> Vec<(Stream, Vec<Arrival>)> {
+    let fields = 1 + r.below(6);
+    let first = stream(r, layout, fields, 3);
+    let mut cycles = vec![first];
+    for _ in 0..r.below(4) {
+        let before = &cycles[cycles.len() - 1];
+        let last = before.sent[before.sent.len() - 1].head.number;
+        let empty = Stream {
+            sent: Vec::new(),
+            ..before.clone()
+        };
+        let start = match r.below(6) {
+            0 => r.below(3) as u32,
+            1 => last.wrapping_add(2_990 + r.below(20) as u32),
+            2 => last.wrapping_sub(90 + r.below(20) as u32),
+            _ => last.wrapping_add(far(r)),
+        };
+        let fields = 1 + r.below(6);
+        cycles.push(stream_from(r, empty, start, fields, 3));
+    }
+    let mut arriving = |stream: Stream| {
+        let arrivals = arrivals(r, &stream);
+        (stream, arrivals)
+    };
+    cycles.into_iter().map(&mut arriving).collect()
+}
+
 /// Octets of another source or type, damaged ones that are refused, or a sent
 /// packet's told the other layout.
 pub(super) fn foreign(r: &mut Random, stream: &Stream, near: usize) -> Option<Arrival> {
@@ -255,13 +321,21 @@ pub(super) fn foreign(r: &mut Random, stream: &Stream, near: usize) -> Option<Ar
 }
 
 /// Packets of one source that need not be in well-formed fields: timestamps
-/// and F change before a mark, fields pass the limits.
+/// and F change before a mark, fields pass the limits, numbers jump.
 pub fn wild_packets(r: &mut Random, layout: Layout, count: usize) -> Vec<Vec<u8>> {
     let mut head = head(r);
     let mut packets = Vec::new();
     let heavy = r.one_in(6);
     for _ in 0..count {
-        let step = r.pick(&[1, 1, 1, 1, 1, 1, 1, 1, 2, 0, u32::MAX, 300]);
+        let step = match r.below(24) {
+            0 => r.pick(&[2_998, 2_999, 0_u32.wrapping_sub(98), 0_u32.wrapping_sub(99)]),
+            1 => far(r),
+            2..4 => 2,
+            4..6 => 0,
+            6 => u32::MAX,
+            7 => 300,
+            _ => 1,
+        };
         head.number = head.number.wrapping_add(step);
         head.marker = r.one_in(3);
         if packets.is_empty() || r.one_in(6) {

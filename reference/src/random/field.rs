@@ -132,20 +132,31 @@ pub fn field_case(r: &mut Random) -> FieldCase {
     }
 }
 
-/// An input of `fieldlist`: a stream with trouble, or packets that need not
-/// be in well-formed fields; the last frame broken at times.
+/// An input of `fieldlist`: a stream with trouble, one whose encoder restarts,
+/// or packets that need not be in well-formed fields; the last frame broken at
+/// times.
 pub fn framed(r: &mut Random, layout: Layout) -> Vec<u8> {
     let mut out = Vec::new();
-    if r.one_in(2) {
-        let fields = r.below(12);
-        let stream = stream(r, layout, fields, 4);
-        for arrival in arrivals(r, &stream) {
-            put_frame(stream.octets(&arrival), &mut out);
+    match r.below(4) {
+        0 => {
+            let fields = r.below(12);
+            let stream = stream(r, layout, fields, 4);
+            for arrival in arrivals(r, &stream) {
+                put_frame(stream.octets(&arrival), &mut out);
+            }
         }
-    } else {
-        let count = r.below(24);
-        for packet in wild_packets(r, layout, count) {
-            put_frame(&packet, &mut out);
+        1 => {
+            for (stream, arrivals) in cycles(r, layout) {
+                for arrival in &arrivals {
+                    put_frame(stream.octets(arrival), &mut out);
+                }
+            }
+        }
+        _ => {
+            let count = r.below(24);
+            for packet in wild_packets(r, layout, count) {
+                put_frame(&packet, &mut out);
+            }
         }
     }
     match r.below(8) {

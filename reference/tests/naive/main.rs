@@ -396,26 +396,31 @@ fn naive_arrive(
     if p.payload_type != s.payload_type {
         return (s, Err((31, 0)), unchanged);
     }
+    // Steps ahead modulo 2^32, of which the last 99 are behind.
     let away = (p.number as i64 - s.last as i64).rem_euclid(1 << 32);
-    let signed = if away < 1 << 31 {
-        away
-    } else {
-        away - (1 << 32)
-    };
     let mut after = s;
-    if s.heard && signed <= 0 {
+    if s.heard && (away == 0 || away > (1 << 32) - 100) {
         after.late = s.late.saturating_add(1);
         return (after, Err((32, 0)), unchanged);
     }
+    if s.heard && away >= 3_000 {
+        if s.remembered == Some(p.number) {
+            let opened = just_opened(s.source, s.payload_type);
+            return naive_arrive(opened, layout, octets, store);
+        }
+        after.remembered = Some(((p.number as u64 + 1) % (1 << 32)) as u32);
+        return (after, Err((36, 0)), unchanged);
+    }
+    after.remembered = None;
     after.heard = true;
     after.last = p.number;
     after.fresh = s.fresh.saturating_add(1);
     if s.heard {
-        after.missing = s.missing.saturating_add(signed as u64 - 1);
+        after.missing = s.missing.saturating_add(away as u64 - 1);
     }
     (after.timestamp, after.f, after.records, after.cells) = (0, 0, 0, 0);
     after.phase = if p.marker { READY } else { LOST };
-    if !s.heard || signed > 1 || s.phase == LOST {
+    if !s.heard || away > 1 || s.phase == LOST {
         return (after, Ok(Answer::Skipped), unchanged);
     }
     if s.phase == FILLING && (p.timestamp, p.f) != (s.timestamp, s.f) {
@@ -496,6 +501,7 @@ fn just_opened(source: u32, payload_type: u8) -> State {
         fresh: 0,
         late: 0,
         missing: 0,
+        remembered: None,
     }
 }
 

@@ -4,7 +4,7 @@ use borrow.Author.Needs.{needs}
 use mathlib.Core.Path.{_≡_, refl, ap, sym, _∙_}
 use mathlib.Core.Bool.{Bool, true, false, cond}
 use mathlib.Core.List.{List}
-use mathlib.Core.Logic.{⊎-elim}
+use mathlib.Core.Logic.{_⊎_, inl, inr, ⊎-elim}
 use Prim.Native.Nat.{ℕ, _+_, _-_, _≤_}
 use native.Mathlib.Omega.{arith}
 use lib.ListN.{length, take, drop, length-take, length-drop}
@@ -18,15 +18,18 @@ use Rattle.rtp.specs.declared.packet.Outline.{Outline}
 use Rattle.rtp.specs.declared.packet.Summary.{Summary}
 use Rattle.rtp.specs.declared.packet.Checked.the-variants as checked
 use Rattle.rtp.proofs.ReadLaws.{Found, found, summary-is}
-use Rattle.stream.specs.declared.state.Answer.the-variants as answer
 use Rattle.stream.specs.declared.state.State.{State}
-use Rattle.depacketizer.specs.declared.distance.Freshness.the-variants as freshness
-use Rattle.stream.specs.Step.{Step, step, gathered, lost, carried, follow, sound, admission, classify, distance}
-use Rattle.depacketizer.specs.Answers.{freshnessOf, carriedBy, decisionOf, afterOf, arrivalOf}
+use denote.Enum.Declared.{tagOf}
+use Rattle.freshness.specs.declared.place.Freshness.{Freshness}
+use Rattle.freshness.specs.declared.place.Freshness.the-variants as freshness
+use Rattle.freshness.proofs.place.Freshness.{the-type}
+use Rattle.stream.specs.Step.{Step, step, gathered, lost, carried, follow, sound, admission}
+use Rattle.freshness.specs.Answers.{freshnessOf}
+use Rattle.depacketizer.specs.Answers.{carriedBy, decisionOf, afterOf, arrivalOf, refusedOf}
 use Rattle.stream.proofs.StepLaws.{passed, step-admitted}
-use Rattle.depacketizer.proofs.AdmitLaws.{packet-late}
-use Rattle.depacketizer.proofs.DecideLaws.{Sound, sound-is}
-use Rattle.depacketizer.proofs.ArriveLaws.{refused-step, fresh-step, fresh-room}
+use Rattle.depacketizer.proofs.AdmitLaws.{isFresh, packet-refused}
+use Rattle.depacketizer.proofs.DecideLaws.{Sound}
+use Rattle.depacketizer.proofs.ArriveLaws.{refused-step, fresh-sound, fresh-step, fresh-room}
 use Rattle.depacketizer.proofs.state.Depacketizer.arrive.Statement.{statement}
 use Rattle.depacketizer.proofs.state.Depacketizer.arrive.Tie as tie
 
@@ -50,29 +53,35 @@ said c = summary-is _ _ _ (passes (c .before) .1) (c .summary-at .ensures)
 number-is : (c : tie.After-summary-at) → c .summary-at .result .head .number .0 ≡ says (c .before) .says .number
 number-is c = ap (λ (y : Summary). y .head .number .0) (sym (said c))
 
-is-sound : (c : tie.After-known-told) → let a = c .before .before .before .before .before .before .before .args in
-    Sound (a .self .state) (length (a .store .now))
-is-sound c = let a = c .before .before .before .before .before .before .before .args in sound-is (a .self .state) (length (a .store .now)) (passes c .0)
+-- where the packet stands, and the state that it is fresh to
+abbrev from : (c : tie.After-known-told2) → State
+from c = c .before .freshness .given .0 .1 .1 .0
 
--- where the packet stands
 placed : (c : tie.After-known-told2)
     → let a = c .before .before .before .before .before .before .before .before .before .before .before .before .before .args in
-    freshnessOf (a .self .state .heard) (classify (distance (a .self .state .last .0) (says (c .before .before .before .before .before .before) .says .number)))
-    ≡ freshness.Fresh (c .before .freshness .given .0 .0) (c .before .freshness .given .0 .1 .0)
+    freshnessOf (a .self .state .heard) (a .self .state) (says (c .before .before .before .before .before .before) .says .number)
+    ≡ freshness.Fresh (c .before .freshness .given .0 .0) (c .before .freshness .given .0 .1 .0) (from c)
 placed c =
     let a = c .before .before .before .before .before .before .before .before .before .before .before .before .before .args in
-    ap (λ (x : ℕ). freshnessOf (a .self .state .heard) (classify (distance (a .self .state .last .0) x))) (sym (number-is (c .before .before .before .before .before)))
-    ∙ sym (c .before .before .before .classify .ensures) ∙ c .before .freshness .given .1
+    ap (λ (x : ℕ). freshnessOf (a .self .state .heard) (a .self .state) x) (sym (number-is (c .before .before .before .before .before)))
+    ∙ sym (c .before .before .before .place .ensures) ∙ c .before .freshness .given .1
+
+is-sound : (c : tie.After-known-told2) → Sound (from c) (length (c .before .before .before .before .before .before .before .before .before .before .before .before .before .args .store .now))
+is-sound c =
+    let a = c .before .before .before .before .before .before .before .before .before .before .before .before .before .args in
+    let f = says (c .before .before .before .before .before .before) in
+    fresh-sound (a .self .state) (a .layout) (a .octets .now) (a .store .now) (f .says) (f .reads) (c .before .freshness .given .0 .0) (c .before .freshness .given .0 .1 .0)
+    (from c) (placed c)
 
 -- what is decided, of what the packet says
 decided : (c : tie.After-decide)
     → let a = c .before .before .before .before .before .before .before .before .before .before .before .before .before .before .args in
     c .decide .result
-    ≡ decisionOf (follow (cond (c .before .before .freshness .given .0 .1 .0) (gathered (a .self .state)) lost) (carried (says (c .before .before .before .before .before .before .before) .says)) (length (a .store .now)))
+    ≡ decisionOf (follow (cond (c .before .before .freshness .given .0 .1 .0) (gathered (from (c .before))) lost) (carried (says (c .before .before .before .before .before .before .before) .says)) (length (a .store .now)))
 decided c =
     let a = c .before .before .before .before .before .before .before .before .before .before .before .before .before .before .args in
     c .decide .ensures
-    ∙ ap (λ (x : Summary). decisionOf (follow (cond (c .before .before .freshness .given .0 .1 .0) (gathered (a .self .state)) lost) (carriedBy x) (length (a .store .now)))) (sym (said (c .before .before .before .before .before .before)))
+    ∙ ap (λ (x : Summary). decisionOf (follow (cond (c .before .before .freshness .given .0 .1 .0) (gathered (from (c .before))) lost) (carriedBy x) (length (a .store .now)))) (sym (said (c .before .before .before .before .before .before)))
 
 -- the whole step
 stepped : (c : tie.After-decide)
@@ -81,45 +90,45 @@ stepped : (c : tie.After-decide)
     step (a .self .state) (a .layout) (a .octets .now) (a .store .now)
     ≡ record {
       answer = c .decide .result .answer;
-      state = afterOf (a .self .state) (k .number) (c .decide .result) (c .before .before .freshness .given .0 .0);
-      store = cond (c .decide .result .append) (splice (a .store .now) (a .self .state .cells) (listOf (k .records))) (a .store .now);
+      state = afterOf (from (c .before)) (k .number) (c .decide .result) (c .before .before .freshness .given .0 .0);
+      store = cond (c .decide .result .append) (splice (a .store .now) (from (c .before) .cells) (listOf (k .records))) (a .store .now);
     }
 stepped c =
     let a = c .before .before .before .before .before .before .before .before .before .before .before .before .before .before .args in
     let f = says (c .before .before .before .before .before .before .before) in
     fresh-step (a .self .state) (a .layout) (a .octets .now) (a .store .now) (f .says) (f .reads) (c .before .before .freshness .given .0 .0) (c .before .before .freshness .given .0 .1 .0)
-    (placed (c .before)) (c .decide .result) (decided c)
+    (from (c .before)) (placed (c .before)) (c .decide .result) (decided c)
 
 -- appended cells have room
 roomy : (c : tie.After-decide) → let a = c .before .before .before .before .before .before .before .before .before .before .before .before .before .before .args in
     c .decide .result .append ≡ true
-    → a .self .state .cells + length (listOf (says (c .before .before .before .before .before .before .before) .says .records)) ≤ length (a .store .now)
+    → from (c .before) .cells + length (listOf (says (c .before .before .before .before .before .before .before) .says .records)) ≤ length (a .store .now)
 roomy c =
     let a = c .before .before .before .before .before .before .before .before .before .before .before .before .before .before .args in
     let f = says (c .before .before .before .before .before .before .before) in
     fresh-room (a .self .state) (a .layout) (a .octets .now) (a .store .now) (f .says) (f .reads) (c .before .before .freshness .given .0 .0) (c .before .before .freshness .given .0 .1 .0)
-    (placed (c .before)) (c .decide .result) (decided c)
+    (from (c .before)) (placed (c .before)) (c .decide .result) (decided c)
 
 -- what the store then holds
 written : (c : tie.After-after)
     → let a = c .before .before .before .before .before .before .before .before .before .before .before .before .before .before .before .before .args in
-    c .before .if1 .store ≡ cond (c .before .before .decide .result .append) (splice (a .store .now) (a .self .state .cells) (listOf (says (c .before .before .before .before .before .before .before .before .before) .says .records))) (a .store .now)
+    c .before .if1 .store ≡ cond (c .before .before .decide .result .append) (splice (a .store .now) (from (c .before .before .before) .cells) (listOf (says (c .before .before .before .before .before .before .before .before .before) .says .records))) (a .store .now)
 written c =
     let a = c .before .before .before .before .before .before .before .before .before .before .before .before .before .before .before .before .args in
     let p = c .before .before .before .before .before .before .before .before .before in
     let x = listOf (says p .says .records) in
     ⊎-elim
     (λ w.
-    w .5 ∙ part-written (a .self .state .cells) (a .store .now) x _ (w .2 .ensures ∙ ap (λ (r : Result Content). cellsAfter r (take (length (a .store .now) - a .self .state .cells) (drop (a .self .state .cells) (a .store .now)))) (passes p .1))
-    ∙ ap (λ (b : Bool). cond b (splice (a .store .now) (a .self .state .cells) x) (a .store .now)) (sym (w .0 .taken)))
-    (λ w. w .1 ∙ ap (λ (b : Bool). cond b (splice (a .store .now) (a .self .state .cells) x) (a .store .now)) (sym (w .0 .left)))
+    w .5 ∙ part-written (from (c .before .before .before) .cells) (a .store .now) x _ (w .2 .ensures ∙ ap (λ (r : Result Content). cellsAfter r (take (length (a .store .now) - from (c .before .before .before) .cells) (drop (from (c .before .before .before) .cells) (a .store .now)))) (passes p .1))
+    ∙ ap (λ (b : Bool). cond b (splice (a .store .now) (from (c .before .before .before) .cells) x) (a .store .now)) (sym (w .0 .taken)))
+    (λ w. w .1 ∙ ap (λ (b : Bool). cond b (splice (a .store .now) (from (c .before .before .before) .cells) x) (a .store .now)) (sym (w .0 .left)))
     (c .before .if1 .came)
 
 same-size : (c : tie.After-after) → length (c .before .if1 .store) ≡ length (c .before .before .before .before .before .before .before .before .before .before .before .before .before .before .before .before .args .store .now)
 same-size c =
     let a = c .before .before .before .before .before .before .before .before .before .before .before .before .before .before .before .before .args in
     let x = listOf (says (c .before .before .before .before .before .before .before .before .before) .says .records) in
-    ap length (written c) ∙ kept (c .before .before .decide .result .append) (a .store .now) (a .self .state .cells) x (roomy (c .before .before))
+    ap length (written c) ∙ kept (c .before .before .decide .result .append) (a .store .now) (from (c .before .before .before) .cells) x (roomy (c .before .before))
 
 returns : tie.Need-returns
 returns c =
@@ -128,15 +137,28 @@ returns c =
     let e = refused-step (a .self .state) (a .layout) (a .octets .now) (a .store .now) _ _ (c .before .before .before .admit .ensures) (t .1) in
     rw (c .refusal .ensures, t .1) (ap arrivalOf (sym e), ap (λ (x : Step). x .store) (sym e))
 
+-- one that is not fresh
+unfresh : (f : Freshness) → (tagOf the-type f ≡ 0) ⊎ (tagOf the-type f ≡ 1) → isFresh f ≡ false
+unfresh freshness.Late h = refl
+unfresh freshness.Far h = refl
+unfresh (freshness.Fresh m n x) (inl e) = absurd (omega arith)
+unfresh (freshness.Fresh m n x) (inr e) = absurd (omega arith)
+
 returns-2 : tie.Need-returns-2
 returns-2 c =
-    let a = c .before .before .before .before .before .before .before .before .before .before .before .before .before .args in
-    let p = c .before .before .before .before .before .before in
+    let a = c .before .before .before .before .before .before .before .before .before .before .before .before .args in
+    let p = c .before .before .before .before .before in
     let k = says p .says in
-    let e = step-admitted (a .self .state) (a .layout) (a .octets .now) (a .store .now) k (says p .reads)
-    ∙ packet-late (a .self .state) k (a .store .now) (a .self .state .heard)
-    (ap (λ (x : ℕ). freshnessOf (a .self .state .heard) (classify (distance (a .self .state .last .0) x))) (sym (number-is (c .before .before .before .before .before))) ∙ sym (c .before .before .before .classify .ensures) ∙ c .before .enum-told2 .given .1) in
-    (ap (λ (x : State). record { state = record { state = x }; answer = answer.Refused (record { number = 32; index = 0 }) }) (c .later .ensures) ∙ ap arrivalOf (sym e), ap (λ (x : Step). x .store) (sym e))
+    let f = c .before .before .place .result in
+    let q = c .before .before .place .ensures ∙ ap (λ (x : ℕ). freshnessOf (a .self .state .heard) (a .self .state) x) (number-is (c .before .before .before .before)) in
+    let e = step-admitted (a .self .state) (a .layout) (a .octets .now) (a .store .now) k (says p .reads) in
+    let r = packet-refused (a .self .state) k (a .store .now) (a .self .state .heard) (ap isFresh (sym q) ∙ unfresh f (c .before .match2 .keys2)) in (
+      c .refuse .ensures
+          ∙ (λ i. refusedOf (q i) (a .self .state) (number-is (c .before .before .before .before) i))
+          ∙ sym (r .0)
+          ∙ ap arrivalOf (sym e),
+      sym (r .1) ∙ ap (λ (x : Step). x .store) (sym e),
+    )
 
 summary-at-requires : tie.Need-summary-at-requires
 summary-at-requires c κs =
@@ -144,16 +166,16 @@ summary-at-requires c κs =
     ap (checkedOf (a .layout) (a .octets .now)) (passes c .1) ∙ ap checked.Packet (says c .outline)
 
 decide-requires : tie.Need-decide-requires
-decide-requires c κs = let s = is-sound (c .before .before .before .before .before .before) in (s .fitting .records, s .fitting .cells)
+decide-requires c κs = let s = is-sound c in (s .fitting .records, s .fitting .cells)
 
 mul-read-records : tie.Need-mul-read-records
-mul-read-records c = record { fits = omega (arith, is-sound (c .before .before .before .before .before .before .before .before) .fitting .cells) }
+mul-read-records c = record { fits = omega (arith, is-sound (c .before .before) .fitting .cells) }
 
 sub-read-records : tie.Need-sub-read-records
-sub-read-records c = is-sound (c .before .before .before .before .before .before .before .before) .fitting .enough
+sub-read-records c = is-sound (c .before .before) .fitting .enough
 
 part-read-records-start : tie.Need-part-read-records-start
-part-read-records-start c = omega (arith, is-sound (c .before .before .before .before .before .before .before .before) .fitting .enough)
+part-read-records-start c = omega (arith, is-sound (c .before .before) .fitting .enough)
 
 read-records-requires : tie.Need-read-records-requires
 read-records-requires c κs =
@@ -171,12 +193,12 @@ returns-3 c =
     let p = c .before .before .before .before .before .before .before .before .before in
     let d = c .before .before in
     let a = c .before .before .before .before .before .before .before .before .before .before .before .before .before .before .before .before .args in
-    let e = ap (λ (x : ℕ). afterOf (a .self .state) x (d .decide .result) (d .before .before .freshness .given .0 .0)) (number-is (c .before .before .before .before .before .before .before .before)) in
+    let e = ap (λ (x : ℕ). afterOf (from (d .before)) x (d .decide .result) (d .before .before .freshness .given .0 .0)) (number-is (c .before .before .before .before .before .before .before .before)) in
     ((λ i. record { state = record { state = (c .after .ensures ∙ e) i }; answer = d .decide .result .answer }) ∙ ap arrivalOf (sym (stepped d)), written c ∙ ap (λ (x : Step). x .store) (sym (stepped d)))
 
 pub arrive-spec : {M : Type 1} → statement M
 arrive-spec =
     tie.close
     (tie.spec (λ c κs. search needs) (λ c. search needs) (λ c. search needs) (λ c κs. search needs) returns summary-at-requires (λ c κs. search needs) (λ c. search needs)
-    (λ c. search needs) (λ c κs. search needs) returns-2 decide-requires mul-read-records sub-read-records part-read-records-start (λ c. search needs)
+    (λ c κs. search needs) returns-2 decide-requires mul-read-records sub-read-records part-read-records-start (λ c. search needs)
     read-records-requires (λ c κs. search needs) same-length returns-3)

@@ -4,9 +4,9 @@ use borrow.Author.Needs.{needs}
 use mathlib.Core.Path.{_∙_, sym}
 use native.Mathlib.Omega.{arith}
 use borrow.Author.Tests.{ltb-true, ltb-false}
-use Rattle.depacketizer.proofs.SignedLaws.{less-fits, less-cast, less-signed, signed-small, distance-of}
-use Rattle.depacketizer.proofs.distance.distance.Statement.{statement}
-use Rattle.depacketizer.proofs.distance.distance.Tie as tie
+use Rattle.freshness.proofs.SignedLaws.{less-fits, less-cast, less-signed, signed-small, distance-of}
+use Rattle.freshness.proofs.distance.distance.Statement.{statement}
+use Rattle.freshness.proofs.distance.distance.Tie as tie
 
 sub-result : tie.Need-sub-result
 sub-result c = less-fits (c .before .wrapping-sub-u32 .result) (omega arith)

@@ -1,0 +1,119 @@
+-- A restart is a first arrival, and demand 3 holds again from it on (02, K11).
+-- A restarting call leaves what it leaves in a state just opened, but for the store, which nothing reads then.
+use mathlib.Core.Path.{_≡_, refl, _∙_, ap, ap₂, sym, subst}
+use mathlib.Core.Bool.{Bool, true, false}
+use mathlib.Core.List.{List, [], _∷_}
+use Prim.Native.Nat.{ℕ}
+use native.Mathlib.Omega.{arith}
+use lib.ListN.{length}
+use borrow.Author.Tests.{le-leb}
+use Rattle.wire.specs.Layout.{Layout}
+use Rattle.wire.specs.Result.{accepted}
+use Rattle.wire.specs.Packet.{Content}
+use Rattle.stream.specs.declared.state.State.{State}
+use Rattle.stream.specs.declared.state.Answer.the-variants as answer
+use Rattle.stream.specs.Step.{Step, step, admit, openState, freshStep, lost, gathered, marked, dropped, after, sound}
+use Rattle.stream.specs.Stream.{Field, Stream, sent, WellFormedStream, Call, Calls, none, _before_, _andThen_, Proper, Near, Run, runFrom, openRun, done, callStep, storeFor, octetsOf, layoutOf, arrived, fresh, Handed, Restarts, RestartOpens, Demand3Again}
+use Rattle.stream.proofs.PlaceLaws.{Holds}
+use Rattle.stream.proofs.StepLaws.{sound-step}
+use Rattle.stream.proofs.RunInvariant.{Invariant, invariant-open, cellsAfter}
+use Rattle.stream.proofs.Demand3.{invariant-call, demand3-after}
+
+-- a state just opened passes 35, whatever it is lent
+pub open-sound : (source type room : ℕ) → sound (openState source type) room ≡ true
+open-sound source type room = rw (le-leb 0 room (omega arith))
+
+pub restart-opens : RestartOpens
+unfolding step
+restart-opens st L octets store h =
+    rw (h .passes, h .accepts, h .heard, h .isFar, h .remembered, open-sound (st .source) (st .«payload_type») (length store))
+
+-- a first arrival
+open-step : (source type : ℕ) (L : Layout) (octets store : List ℕ) (k : Content) → admit L source type octets ≡ accepted k
+    → step (openState source type) L octets store ≡ freshStep (openState source type) lost 0 k store
+open-step source type L octets store k h =
+    sound-step (openState source type) L octets store (open-sound source type (length store)) ∙ rw h
+
+-- nothing is gathered after it
+first-holds : (xs : List Field) (st : State) (k : Content) (store new c : List ℕ) → Holds xs (gathered (freshStep st lost 0 k store .state)) new c
+first-holds xs st k store new c = go (marked k)
+  where
+    go : (b : Bool) → Holds xs (gathered (after st (k .number) (dropped answer.Skipped b .gathered) 0)) new c
+    go true = tt
+    go false = tt
+
+-- so another store does as well
+other-store : {earlier : List Handed} (s : Stream) (js l : List ℕ) (st : State) (handed : List Handed) (old new : List ℕ)
+    → Holds (s .fields) (gathered st) new (cellsAfter (sent (s .fields)) l)
+    → Invariant s earlier js l (record { state = st; store = old; handed = handed })
+    → Invariant s earlier js l (record { state = st; store = new; handed = handed })
+other-store s js l st handed old new h v =
+    record {
+      sentBefore = v .sentBefore;
+      newer = v .newer;
+      noneAbove = v .noneAbove;
+      source = v .source;
+      type = v .type;
+      heard = v .heard;
+      records = v .records;
+      cells = v .cells;
+      gathers = v .gathers;
+      holds = h;
+      handed = v .handed;
+      fresh = v .fresh;
+      missing = v .missing;
+      older = v .older;
+      olderIs = v .olderIs;
+      late = v .late;
+    }
+
+module _ (s : Stream) (w : WellFormedStream s) (r : Run) (c : Call) (source : r .state .source ≡ s .source) (type : r .state .«payload_type» ≡ s .type)
+    (h : Restarts (r .state) (layoutOf s (c .arriving)) (octetsOf s (c .arriving)) (storeFor (gathered (r .state)) (r .store) (c .store))) where
+  abbrev lent : List ℕ
+  lent = storeFor (gathered (r .state)) (r .store) (c .store)
+
+  abbrev L : Layout
+  L = layoutOf s (c .arriving)
+
+  abbrev o : List ℕ
+  o = octetsOf s (c .arriving)
+
+  abbrev opened : Run
+  opened = openRun s [] (r .handed)
+
+  abbrev first : List ℕ → Step
+  first store = freshStep (openState (s .source) (s .type)) lost 0 (h .says) store
+
+  admits : admit L (s .source) (s .type) o ≡ accepted (h .says)
+  admits = sym (ap₂ (λ (a b : ℕ). admit L a b o) source type) ∙ h .accepts
+
+  restarts : callStep s r c ≡ first lent
+  restarts =
+      restart-opens (r .state) L o lent h
+      ∙ ap₂ (λ (a b : ℕ). step (openState a b) L o lent) source type
+      ∙ open-step (s .source) (s .type) L o lent (h .says) admits
+
+  opens : callStep s opened c ≡ first (c .store)
+  opens = open-step (s .source) (s .type) L o (c .store) (h .says) admits
+
+  invariant-first : (p : Proper s (none before c)) → Near (none before c)
+      → Invariant s (r .handed) (arrived (none before c)) (fresh (none before c)) (done r (callStep s r c))
+  invariant-first p near =
+      let v = invariant-call s [] [] opened c w (p .1) (p .2) (near .1) (invariant-open s [] (r .handed)) in
+      let v′ = subst (λ (x : Step). Invariant s (r .handed) (arrived (none before c)) (fresh (none before c)) (done opened x)) opens v in
+      rw restarts
+      (other-store s (arrived (none before c)) (fresh (none before c)) (first lent .state) _ (c .store) lent
+      (first-holds (s .fields) (openState (s .source) (s .type)) (h .says) lent lent _)
+      v′)
+
+  invariant-again : (cs : Calls) → Proper s (c andThen cs) → Near (c andThen cs)
+      → Invariant s (r .handed) (arrived (c andThen cs)) (fresh (c andThen cs)) (runFrom r s (c andThen cs))
+  invariant-again none p near = invariant-first p near
+  invariant-again (cs before d) p near =
+      invariant-call s (arrived (c andThen cs)) (fresh (c andThen cs)) (runFrom r s (c andThen cs)) d w (p .1) (p .2) (near .1)
+      (invariant-again cs (p .0) (near .0))
+
+-- demand 3, from the restarting packet on
+pub demand3-again : Demand3Again
+demand3-again s w r c cs source type h p near =
+    demand3-after s (c andThen cs) (runFrom r s (c andThen cs)) (invariant-again s w r c source type h cs p near)
