@@ -10,6 +10,7 @@ pub mod behind;
 pub mod call;
 pub mod inputs;
 pub mod model;
+pub mod program;
 
 pub use archive::Archive;
 pub use behind::Behind;

@@ -3,13 +3,11 @@
 //! names, with `old` before it and without. The program is the one that
 //! FIELDLIST names, otherwise `../target/bin/fieldlist`.
 
-use std::env;
 use std::fs;
-use std::io::Write;
-use std::path::{Path, PathBuf};
-use std::process::{Command, Output, Stdio};
-use std::thread;
+use std::path::Path;
+use std::process::{Command, Stdio};
 
+use differential::program::{from_file, piped, program, same, told, unwritable};
 use reference::frames::put_frame;
 use reference::packet::{self, Head};
 use reference::random::{carried, framed, record, Parts, Random};
@@ -17,78 +15,15 @@ use reference::realistic::Packets;
 use reference::runs::{A, HEAD};
 use reference::Layout;
 
-fn program() -> PathBuf {
-    let built = Path::new(env!("CARGO_MANIFEST_DIR")).join("../target/bin/fieldlist");
-    let path = env::var_os("FIELDLIST").map_or(built, PathBuf::from);
-    assert!(path.is_file(), "no program {}", path.display());
-    path
-}
-
-/// Through a pipe, that many octets at a time.
-fn piped(command: &mut Command, input: &[u8], piece: usize) -> Output {
-    let mut child = command
-        .stdin(Stdio::piped())
-        .stdout(Stdio::piped())
-        .stderr(Stdio::piped())
-        .spawn()
-        .unwrap();
-    let mut pipe = child.stdin.take().unwrap();
-    let pieces: Vec<Vec<u8>> = input.chunks(piece).map(<[u8]>::to_vec).collect();
-    // A program that ends early closes the pipe; its output tells.
-    let writer = thread::spawn(move || pieces.iter().try_for_each(|piece| pipe.write_all(piece)));
-    let output = child.wait_with_output().unwrap();
-    let _ = writer.join();
-    output
-}
-
-/// The program, told a layout.
-fn told(layout: Layout) -> Command {
-    let mut command = Command::new(program());
-    if layout == Layout::Draft2015 {
-        command.arg("old");
-    }
-    command
-}
-
-/// From a file named for the test that made it.
-fn from_file(layout: Layout, input: &[u8], name: &str) -> Output {
-    let path = Path::new(env!("CARGO_TARGET_TMPDIR")).join(name);
-    fs::write(&path, input).unwrap();
-    let output = told(layout)
-        .arg(&path)
-        .stdin(Stdio::null())
-        .output()
-        .unwrap();
-    fs::remove_file(&path).unwrap();
-    output
-}
-
-/// The first line that differs is told, and no more of it than fits.
-fn same(output: Output, expected: &str, what: &str) {
-    let errors = String::from_utf8_lossy(&output.stderr);
-    assert!(
-        output.status.success(),
-        "{what}: {:?} {errors}",
-        output.status
-    );
-    assert_eq!(errors, "", "{what}");
-    let printed = String::from_utf8_lossy(&output.stdout);
-    if printed != expected {
-        let (mut ours, mut theirs) = (printed.split('\n'), expected.split('\n'));
-        let lines = || (ours.next(), theirs.next());
-        let (ours, theirs) = std::iter::repeat_with(lines).find(|(a, b)| a != b).unwrap();
-        let cut = |line: &str| line.chars().take(200).collect::<String>();
-        let (ours, theirs) = (ours.map(cut), theirs.map(cut));
-        panic!("{what}: printed {ours:?}, expected {theirs:?}");
-    }
-}
+const FIELDLIST: &str = "fieldlist";
 
 /// The listing where that layout is told, from a pipe and from a file.
 fn compare(layout: Layout, input: &[u8], piece: usize, name: &str) -> String {
     let expected = reference::fieldlist(layout, input);
-    let output = piped(&mut told(layout), input, piece);
+    let output = piped(&mut told(FIELDLIST, layout), input, piece);
     same(output, &expected, &format!("{name}, {layout:?}, piped"));
-    let output = from_file(layout, input, name);
+    let path = Path::new(env!("CARGO_TARGET_TMPDIR")).join(name);
+    let output = from_file(&mut told(FIELDLIST, layout), input, &path);
     same(output, &expected, &format!("{name}, {layout:?}, a file"));
     expected
 }
@@ -192,7 +127,7 @@ fn arguments() {
         for made in Layout::ALL {
             let input = example(made);
             fs::write(folder.join(file), &input).unwrap();
-            let output = Command::new(program())
+            let output = Command::new(program(FIELDLIST))
                 .args(arguments)
                 .current_dir(&folder)
                 .stdin(Stdio::null())
@@ -314,25 +249,10 @@ fn fields_of_the_limit() {
     }
 }
 
-/// A write that fails is told, once, and ends the run.
+/// Its first line already cannot be written.
 #[test]
 fn output_that_cannot_be_written() {
-    let full = fs::OpenOptions::new()
-        .write(true)
-        .open("/dev/full")
-        .unwrap();
-    let mut child = Command::new(program())
-        .stdin(Stdio::piped())
-        .stdout(full)
-        .stderr(Stdio::piped())
-        .spawn()
-        .unwrap();
-    // It ends without waiting for its input.
-    let pipe = child.stdin.take();
-    let output = child.wait_with_output().unwrap();
-    drop(pipe);
-    let errors = String::from_utf8_lossy(&output.stderr);
-    assert_eq!(errors, "write: No space left on device\n");
+    unwritable(FIELDLIST, &[]);
 }
 
 /// Of either layout, told each.
@@ -362,7 +282,7 @@ fn a_long_input_in_little_memory() {
         limited
             .arg("-c")
             .arg(format!("ulimit -v 8192 && exec \"$0\"{arguments}"))
-            .arg(program());
+            .arg(program(FIELDLIST));
         let output = piped(&mut limited, &input, 1 << 16);
         let expected = reference::fieldlist(layout, &input);
         assert!(expected.contains(" whole "));

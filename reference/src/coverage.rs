@@ -6,6 +6,7 @@ use crate::depacketizer::{arrive, distance, open, Answer, Distance, State};
 use crate::packet::{self, check};
 use crate::random::*;
 use crate::refusal::Refusal;
+use crate::streamcheck::{findings, Finding};
 use crate::{file, frames, outlet, sdi, sdp};
 
 /// How often each entry point gave each refusal (number, index) or, under
@@ -81,6 +82,7 @@ pub fn cover(seed: u64, rounds: usize) -> Coverage {
     }
     for _ in 0..rounds / 8 {
         cover_frames(&mut r, &mut c);
+        cover_recording(&mut r, &mut c);
     }
     c
 }
@@ -159,6 +161,30 @@ fn cover_outlet(r: &mut Random, c: &mut Coverage) {
             "take",
             outlet::take(case.state, &case.memory, &mut vec![0; room]),
         ),
+    }
+}
+
+/// What `streamcheck` finds; a recording without a finding is clean.
+fn cover_recording(r: &mut Random, c: &mut Coverage) {
+    let layout = r.layout();
+    let input = recording(r, layout);
+    let found = findings(layout, &input);
+    if found.is_empty() {
+        *c.answers.entry(("recording", "clean")).or_default() += 1;
+    }
+    for (_, finding) in found {
+        let name = match finding {
+            Finding::Refused(refusal) => {
+                c.add::<()>("recording", Err(refusal));
+                continue;
+            }
+            Finding::Cut => "cut",
+            Finding::Number => "number",
+            Finding::Change => "change",
+            Finding::Reserved => "reserved",
+            Finding::Raster => "raster",
+        };
+        *c.answers.entry(("recording", name)).or_default() += 1;
     }
 }
 

@@ -2,7 +2,7 @@
 
 use std::fmt::Write;
 
-use crate::anc::{Limits, RECORD_HEAD};
+use crate::anc::{records, Limits, RECORD_HEAD};
 use crate::depacketizer::{arrive, open, Answer, State};
 use crate::frames::{Frame, Frames};
 use crate::layout::Layout;
@@ -93,11 +93,8 @@ impl Listing {
     }
 
     fn records(&mut self, cells: usize) {
-        let mut left = &self.store[..cells];
-        while let Some((head, rest)) = left.split_first_chunk::<RECORD_HEAD>() {
-            let (words, after) = rest.split_at(head[7] as usize);
+        for (head, words) in records(&self.store[..cells]) {
             write_record(&mut self.text, head, words);
-            left = after;
         }
     }
 

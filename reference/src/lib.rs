@@ -16,13 +16,16 @@ pub mod frames;
 pub mod layout;
 pub mod outlet;
 pub mod packet;
+pub mod program;
 pub mod random;
 pub mod realistic;
 pub mod refusal;
 pub mod runs;
 pub mod sdi;
 pub mod sdp;
+pub mod streamcheck;
 
 pub use fieldlist::fieldlist;
 pub use layout::Layout;
 pub use refusal::Refusal;
+pub use streamcheck::streamcheck;

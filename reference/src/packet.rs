@@ -55,6 +55,8 @@ impl Summary {
 #[derive(Clone, Copy, Debug, PartialEq, Eq)]
 pub struct Accepted<'a> {
     pub summary: Summary,
+    /// The payload header's 22 reserved bits; the drafts have none.
+    pub reserved: u32,
     pub run: Run<'a>,
 }
 
@@ -95,9 +97,9 @@ fn examine<'a>(
     };
     let length = be16(head, 2);
     let count = head[4];
-    let f = match layout {
-        Layout::Rfc8331 => head[5] >> 6,
-        Layout::Draft2015 => 0,
+    let (f, reserved) = match layout {
+        Layout::Rfc8331 => (head[5] >> 6, be32(head, 4) & 0x3F_FFFF),
+        Layout::Draft2015 => (0, 0),
     };
     if f == 1 {
         return Err(Refusal::plain(6));
@@ -123,7 +125,11 @@ fn examine<'a>(
         cells: run.cells(),
         left_out: run.left_out() as u8,
     };
-    Ok(Accepted { summary, run })
+    Ok(Accepted {
+        summary,
+        reserved,
+        run,
+    })
 }
 
 /// What follows the RTP header, less the padding: 1, 2, 3, 2, 4.

@@ -12,12 +12,14 @@ fn every_number_is_reached() {
     let reads: Vec<u8> = (0..=10).chain(12..=16).collect();
     let arrivals: Vec<u8> = (0..=13).chain([15, 16, 30, 31, 32, 35, 36]).collect();
     let frames: Vec<u8> = (2..=13).chain([0, 15, 16, 30, 31, 32, 36]).collect();
-    let expected: [(&str, &[u8]); 15] = [
+    let recordings: Vec<u8> = (2..=13).chain([15, 16, 30, 31]).collect();
+    let expected: [(&str, &[u8]); 16] = [
         ("read", &reads),
         ("read strict", &strict),
         ("write", &[0, 16, 20, 21, 23, 24, 25]),
         ("arrive", &arrivals),
         ("frames", &frames),
+        ("recording", &recordings),
         ("open", &[0, 24]),
         ("sdp read", &[0, 40, 41, 42, 43, 44]),
         ("sdp write", &[0, 41, 43, 44]),
@@ -47,6 +49,9 @@ fn every_number_is_reached() {
         assert_eq!(others.count(), 0, "{entry}");
     }
     assert!(coverage.answers[&("read", "left out")] > 100);
+    for kind in ["clean", "cut", "number", "change", "reserved", "raster"] {
+        assert!(coverage.answers[&("recording", kind)] > 20, "{kind}");
+    }
     for answer in ["skipped", "held", "mixed", "overfull", "whole", "restarted"] {
         for entry in ["arrive", "frames"] {
             assert!(

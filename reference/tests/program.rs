@@ -1,4 +1,4 @@
-//! The program `fieldlist`: its arguments and its input.
+//! The programs that read frames: their arguments and their input.
 
 use std::fs;
 use std::io::Write;
@@ -8,7 +8,7 @@ use std::process::{Command, Stdio};
 use reference::frames::put_frame;
 use reference::packet::Head;
 use reference::random::Parts;
-use reference::{fieldlist, Layout};
+use reference::{fieldlist, streamcheck, Layout};
 
 fn input(layout: Layout) -> Vec<u8> {
     let mut input = Vec::new();
@@ -27,8 +27,11 @@ fn input(layout: Layout) -> Vec<u8> {
     input
 }
 
-fn run(arguments: &[&str], input: &[u8]) -> String {
-    let mut child = Command::new(env!("CARGO_BIN_EXE_fieldlist"))
+const FIELDLIST: &str = env!("CARGO_BIN_EXE_fieldlist");
+const STREAMCHECK: &str = env!("CARGO_BIN_EXE_streamcheck");
+
+fn run(program: &str, arguments: &[&str], input: &[u8]) -> String {
+    let mut child = Command::new(program)
         .args(arguments)
         .stdin(Stdio::piped())
         .stdout(Stdio::piped())
@@ -56,8 +59,27 @@ fn arguments() {
             };
             let listing = fieldlist(told, &input);
             assert_eq!(listing.contains("8 whole"), told == made);
-            assert_eq!(run(old, &input), listing);
-            assert_eq!(run(&[old, &[path]].concat(), &[]), listing);
+            let report = streamcheck(told, &input);
+            assert_eq!(report.is_empty(), told == made);
+            for (program, text) in [(FIELDLIST, listing), (STREAMCHECK, report)] {
+                assert_eq!(run(program, old, &input), text);
+                assert_eq!(run(program, &[old, &[path]].concat(), &[]), text);
+            }
+        }
+    }
+}
+
+/// A file that can't be opened is told on standard error.
+#[test]
+fn no_file() {
+    for program in [FIELDLIST, STREAMCHECK] {
+        for arguments in [&["/nowhere/frames"][..], &["old", "/nowhere/old"]] {
+            let output = Command::new(program)
+                .args(arguments)
+                .stdin(Stdio::null())
+                .output()
+                .unwrap();
+            assert!(output.stdout.is_empty() && !output.stderr.is_empty());
         }
     }
 }

@@ -20,9 +20,7 @@ use Rattle.lines.specs.Room.{lineRoom}
 use Rattle.record_lines.specs.Records.{cellRoom}
 use Rattle.listing.specs.declared.session.Session.{Session}
 use Rattle.listing.specs.declared.session.Session.the-variants as session
-use Rattle.frames.specs.Frames.{Front, end, cut, frame}
-use Rattle.listing.specs.Session.{isBroken, numberOf, entered, layoutIn, turn, turnBy, arrived}
-use Rattle.frames.specs.Answers.{frontOf, isCut}
+use Rattle.listing.specs.Session.{numberOf, entered, layoutIn, turn, turnBy, arrived}
 
 module _ (v : Session) (octets store : List ℕ) (o : Opened) (entry : o ≡ entered v (readContent (layoutIn v) octets)) where
   abbrev content : Result Content
@@ -39,12 +37,6 @@ module _ (v : Session) (octets store : List ℕ) (o : Opened) (entry : o ≡ ent
   -- one that is open
   pub turn-arrived : (d : Depacketizer) → o ≡ opened.Open d → turn v octets store ≡ arrived (layoutIn v) (numberOf content) (step (d .state) (layoutIn v) octets store)
   turn-arrived d e = by (opened.Open d) e
-
--- a frame is broken exactly where the code says that it is cut
-pub cut-is : (f : Front) → isCut (frontOf f) ≡ isBroken f
-cut-is end = refl
-cut-is cut = refl
-cut-is (frame p rest) = refl
 
 -- the test for room, by division
 pub divided : (s o : ℕ) → lineRoom ≤ o → leb s ((o - lineRoom) / cellRoom) ≡ leb (lineRoom + cellRoom * s) o

@@ -12,7 +12,7 @@ use Rattle.stream.specs.Step.{Step, step, openOf}
 use Rattle.text.specs.Text.{ascii}
 use Rattle.listing.specs.declared.session.Session.{Session}
 use Rattle.listing.specs.declared.session.Session.the-variants as session
-use Rattle.frames.specs.Frames.{Frames, Front, end, cut, frame, frames}
+use Rattle.frames.specs.Frames.{Frames, frames}
 use Rattle.lines.specs.Lines.{answerText, refusedText, countsText}
 
 -- the number of a packet, for its line
@@ -77,12 +77,6 @@ countsOf (session.Open L d) = countsText (d .state .fresh) (d .state .late) (d .
 -- "`cut` for a broken last frame, before the counts"
 unfoldable pub cutText : Bool → List ℕ
 cutText broken = cond broken (ascii "cut\n") []
-
--- whether a frame is broken off there
-abbrev pub isBroken : Front → Bool
-isBroken end = false
-isBroken cut = true
-isBroken (frame p rest) = false
 
 -- the last lines
 abbrev pub endText : Bool → Session → List ℕ

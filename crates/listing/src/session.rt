@@ -9,7 +9,7 @@ ghost use Rattle.rtp.specs.Answers.{checkedOf};
 ghost use Rattle.text.specs.Put.{Put};
 ghost use Rattle.listing.specs.Answers.{ListedFits, TextFits, listedOf, openedRefusal, outAfter, storeAfter, textAfter, textOf};
 ghost use Rattle.frames.specs.Answers.{isCut};
-ghost use Rattle.frames.specs.Frames.{front};
+ghost use Rattle.frames.specs.Frames.{front, isBroken};
 ghost use Rattle.lines.specs.Room.{countsRoom, lineRoom, roomy};
 ghost use Rattle.record_lines.specs.Records.{cellRoom};
 ghost use Rattle.listing.specs.Session as listing;
@@ -238,8 +238,8 @@ fn put_counts_of(out: &mut [u8], at: usize, session: Session) -> usize
 
 // The last lines; `rest` is what is left of the input behind its whole frames.
 pub fn finish(session: Session, rest: &[u8], out: &mut [u8]) -> Text
-    ensures { λ r. ⌜ r ≡ textOf (leb lineRoom (length (now (out .entry)))) (listing.endText (listing.isBroken (front (now (rest .entry)))) session) ⌝ }
-    ensures { λ r. ⌜ now (out .exit) ≡ textAfter (leb lineRoom (length (now (out .entry)))) (listing.endText (listing.isBroken (front (now (rest .entry)))) session) (now (out .entry)) ⌝ }
+    ensures { λ r. ⌜ r ≡ textOf (leb lineRoom (length (now (out .entry)))) (listing.endText (isBroken (front (now (rest .entry)))) session) ⌝ }
+    ensures { λ r. ⌜ now (out .exit) ≡ textAfter (leb lineRoom (length (now (out .entry)))) (listing.endText (isBroken (front (now (rest .entry)))) session) (now (out .entry)) ⌝ }
     ensures { λ r. ⌜ TextFits r (length (now (out .entry))) ⌝ }
 {
     if out.len() < LINE_ROOM {

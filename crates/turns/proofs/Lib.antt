@@ -1,2 +1,2 @@
-pub mod PrintedLaws
+pub mod RunLaws
 pub mod TurnLaws

@@ -149,11 +149,23 @@ impl Run<'_> {
         let Some(cells) = cells.get_mut(..self.cells) else {
             return Err(Refusal::plain(14));
         };
+        self.read_all(cells);
+        Ok(())
+    }
+
+    /// The records in a list of their own.
+    pub fn list(&self) -> Vec<u16> {
+        let mut cells = vec![0; self.cells];
+        self.read_all(&mut cells);
+        cells
+    }
+
+    #[inline(always)]
+    fn read_all(&self, cells: &mut [u16]) {
         match self.layout {
             Layout::Rfc8331 => self.read_packets::<Rfc8331>(cells),
             Layout::Draft2015 => self.read_packets::<Draft2015>(cells),
         }
-        Ok(())
     }
 
     #[inline(always)]
@@ -234,6 +246,16 @@ fn check_record(left: &[u16]) -> Option<(usize, bool)> {
     let met = |met, &word| met | is_protected(word);
     let clear = !words.iter().fold(false, met);
     (clear || words.iter().all(|&word| word <= 0x3FF)).then_some((n, clear))
+}
+
+/// Head and words of each record of a well-formed list.
+pub fn records(mut cells: &[u16]) -> impl Iterator<Item = (&[u16; RECORD_HEAD], &[u16])> {
+    std::iter::from_fn(move || {
+        let (head, rest) = cells.split_first_chunk()?;
+        let (words, left) = rest.split_at(head[7] as usize);
+        cells = left;
+        Some((head, words))
+    })
 }
 
 impl List<'_> {

@@ -9,6 +9,7 @@ mod line;
 mod list;
 mod outlet;
 mod packet;
+mod recording;
 mod text;
 
 pub use anc::*;
@@ -18,6 +19,7 @@ pub use line::*;
 pub use list::*;
 pub use outlet::*;
 pub use packet::*;
+pub use recording::*;
 pub use text::*;
 
 use crate::layout::Layout;

@@ -9,6 +9,7 @@ use reference::{file, Layout, Refusal};
 mod outlet;
 mod sdi;
 mod sdp;
+mod streamcheck;
 
 type Refused<T> = Result<T, (u8, usize)>;
 
@@ -526,21 +527,26 @@ fn naive_record(record: &[u16]) -> String {
     line
 }
 
-fn naive_listing(layout: Layout, mut input: &[u8]) -> String {
+/// The packets of RFC 4571 frames, and whether the last frame is broken.
+fn naive_frames(mut input: &[u8]) -> (Vec<&[u8]>, bool) {
+    let mut packets = Vec::new();
+    while input.len() >= 2 {
+        let size = 256 * input[0] as usize + input[1] as usize;
+        if input.len() < 2 + size {
+            break;
+        }
+        packets.push(&input[2..2 + size]);
+        input = &input[2 + size..];
+    }
+    (packets, !input.is_empty())
+}
+
+fn naive_listing(layout: Layout, input: &[u8]) -> String {
     let mut lines = vec!["fieldlist 1".to_string()];
     let mut depacketizer: Option<State> = None;
     let mut store = vec![0; 32_768];
-    while !input.is_empty() {
-        let size = match input.len() {
-            1 => usize::MAX,
-            _ => bits(input, 0, 16) as usize,
-        };
-        if input.len() - 1 <= size {
-            lines.push("cut".to_string());
-            break;
-        }
-        let packet = &input[2..2 + size];
-        input = &input[2 + size..];
+    let (packets, cut) = naive_frames(input);
+    for packet in packets {
         let number = match naive_check(layout, Way::Strict, packet) {
             Err((code, index)) => {
                 lines.push(format!("refused {code} {index}"));
@@ -570,6 +576,9 @@ fn naive_listing(layout: Layout, mut input: &[u8]) -> String {
             }
             Ok(other) => lines.push(format!("{number} {other:?}").to_lowercase()),
         }
+    }
+    if cut {
+        lines.push("cut".to_string());
     }
     let counts = depacketizer.map_or((0, 0, 0), |state| (state.fresh, state.late, state.missing));
     lines.push(format!(

@@ -13,7 +13,7 @@ use Rattle.frames.specs.Answers.{isCut}
 use Rattle.lines.specs.Room.{lineRoom}
 use Rattle.listing.specs.declared.session.Text.the-variants as text
 use Rattle.frames.specs.declared.Front.{Front as FrontFound}
-use Rattle.listing.proofs.TurnLaws.{cut-is}
+use Rattle.frames.proofs.FrameLaws.{cut-is}
 use Rattle.listing.proofs.session.finish.Statement.{statement}
 use Rattle.listing.proofs.session.finish.Tie as tie
 

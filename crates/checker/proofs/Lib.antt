@@ -1,0 +1,2 @@
+pub mod ReservedLaws
+pub mod PacketLaws

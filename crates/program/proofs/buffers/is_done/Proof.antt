@@ -1,0 +1,12 @@
+-- `is_done` tells whether the input has ended and no text waits.
+-- By the test.
+use borrow.Author.Needs.{needs}
+use Rattle.program.proofs.buffers.is_done.Statement.{statement}
+use Rattle.program.proofs.buffers.is_done.Tie as tie
+
+returns-2 : tie.Need-returns-2
+returns-2 c = rw (c .before .if1 .left)
+
+pub is-done-spec : {M : Type 1} → statement M
+is-done-spec = tie.close
+    (tie.spec (λ c. search needs) returns-2)

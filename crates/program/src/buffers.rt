@@ -1,0 +1,169 @@
+// What a program does between two frames: it writes the text that waits, and reads more behind what is left. Each function asks that places lie within
+// the buffers.
+ghost use Prim.Native.Nat.{_+_, _-_, _^_, _<_, _≤_};
+ghost use mathlib.Core.Bool.{cond};
+ghost use mathlib.Core.Path.{_≡_};
+ghost use lib.ListN.{length};
+ghost use Rattle.program.specs.Buffers.{Flushed, InBounds, Interrupted, ReadMore, Refilled, WrittenOf, advanced, begun, ended, isDone};
+use frames::move_to_front;
+use libc::EINTR;
+use libc::STDOUT_FILENO;
+
+// The octets from `at` to `end` of the input are still to be used, and the first `filled` of the text to be written.
+pub struct Buffers {
+    pub at: usize,
+    pub end: usize,
+    pub filled: usize,
+    // Whether there may be more.
+    pub open: bool,
+}
+
+// All of so many octets were written, or a write failed.
+pub enum Written {
+    All(usize),
+    Failed,
+}
+
+// Nothing is read; so much text is to be written.
+pub fn begin(filled: usize) -> Buffers
+    ensures { λ r. ⌜ r ≡ begun filled ⌝ }
+{
+    Buffers {
+        at: 0,
+        end: 0,
+        filled,
+        open: true,
+    }
+}
+
+// Behind a frame that was used, with its text.
+pub fn advance(buffers: Buffers, used: usize, length: usize) -> Buffers
+    requires { ⌜ (buffers .at + used ≤ buffers .end) × (buffers .filled + length < 2 ^ 64) ⌝ }
+    ensures { λ r. ⌜ r ≡ advanced buffers used length ⌝ }
+{
+    Buffers {
+        at: buffers.at + used,
+        end: buffers.end,
+        filled: buffers.filled + length,
+        open: true,
+    }
+}
+
+// The input has ended; so much text is to be written.
+pub fn finish(buffers: Buffers, filled: usize) -> Buffers
+    ensures { λ r. ⌜ r ≡ ended buffers filled ⌝ }
+{
+    Buffers {
+        at: buffers.at,
+        end: buffers.end,
+        filled,
+        open: false,
+    }
+}
+
+// Every write goes through here; one that fails is told.
+fn write_text(text: &[u8]) -> Written
+    ensures { λ r. ⌜ WrittenOf r (length (now (text .entry))) ⌝ }
+{
+    if io::write_all(STDOUT_FILENO, text) {
+        return Written::All(text.len());
+    }
+    os::fail(b"write");
+    Written::Failed
+}
+
+// Writes the text that waits. Where that fails it still waits, and the run ends.
+pub fn flush(buffers: Buffers, out: &[u8]) -> Buffers
+    requires { ⌜ buffers .filled ≤ length (now out) ⌝ }
+    ensures { λ r. ⌜ Flushed buffers r ⌝ }
+{
+    let at = buffers.at;
+    let end = buffers.end;
+    let filled = buffers.filled;
+    let written = write_text(&out[..filled]);
+    match written {
+        Written::All(n) => Buffers {
+            at,
+            end,
+            filled: filled - n,
+            open: buffers.open,
+        },
+        Written::Failed => Buffers {
+            at,
+            end,
+            filled,
+            open: false,
+        },
+    }
+}
+
+// Whether a signal interrupted a read, which is then tried again; any other that failed is told.
+fn is_interrupted(got: isize) -> bool
+    ensures { λ r. ⌜ Interrupted got r ⌝ }
+{
+    if got >= 0 {
+        return false;
+    }
+    if os::errno() == EINTR {
+        return true;
+    }
+    os::fail(b"read");
+    false
+}
+
+// Moves what is left to the front, and reads more behind it. There must be room, as a read without any is like one at the end.
+fn read_more(fd: i32, buffers: Buffers, input: &mut [u8]) -> Buffers
+    requires { ⌜ InBounds buffers (length (now input)) (buffers .filled) ⌝ }
+    requires { ⌜ buffers .end - buffers .at < length (now input) ⌝ }
+    ensures { λ r. ⌜ ReadMore buffers (now (input .entry)) r (now (input .exit)) ⌝ }
+{
+    let at = buffers.at;
+    let end = buffers.end;
+    move_to_front(&mut input[..end], at);
+    let rest = end - at;
+    let got = libc::read(fd, &mut input[rest..]);
+    let n = io::count(got, &input[rest..]);
+    let interrupted = is_interrupted(got);
+    Buffers {
+        at: 0,
+        end: rest + n,
+        filled: buffers.filled,
+        open: (n > 0) | interrupted,
+    }
+}
+
+// Writes first, so that nothing waits for more input.
+pub fn refill(fd: i32, buffers: Buffers, input: &mut [u8], out: &[u8]) -> Buffers
+    requires { ⌜ InBounds buffers (length (now input)) (length (now out)) ⌝ }
+    requires { ⌜ buffers .end - buffers .at < length (now input) ⌝ }
+    ensures { λ r. ⌜ Refilled buffers (now (input .entry)) r (now (input .exit)) ⌝ }
+{
+    let flushed = flush(buffers, out);
+    let open = flushed.open;
+    if !open {
+        return flushed;
+    }
+    read_more(fd, flushed, input)
+}
+
+// Whether the input has ended and all text is written.
+pub fn is_done(buffers: Buffers) -> bool
+    ensures { λ r. ⌜ r ≡ isDone buffers ⌝ }
+{
+    let open = buffers.open;
+    if open {
+        return false;
+    }
+    buffers.filled == 0
+}
+
+// The turns that are left: a proved loop ends, and nothing says that a stream does, so they are counted down from a number that no run uses up.
+pub fn turns_left(turns: u64, open: bool) -> u64
+    requires { ⌜ 0 < turns ⌝ }
+    ensures { λ r. ⌜ r ≡ cond «open» (turns - 1) 0 ⌝ }
+{
+    if open {
+        return turns - 1;
+    }
+    0
+}

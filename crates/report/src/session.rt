@@ -1,0 +1,150 @@
+// A session: frames in order, what is carried from packet to packet, and the lines of each.
+ghost use Prim.Native.Nat.{_≤_};
+ghost use mathlib.Core.Path.{_≡_};
+ghost use lib.Dec.{leb};
+ghost use lib.ListN.{length};
+ghost use Rattle.wire.specs.Packet.{maxPacket, readContent};
+ghost use Rattle.rtp.specs.Answers.{cellsAfter};
+ghost use Rattle.text.specs.Put.{Put};
+ghost use Rattle.frames.specs.Answers.{isCut};
+ghost use Rattle.frames.specs.Frames.{front, isBroken};
+ghost use Rattle.conformance.specs.Code.{turn};
+ghost use Rattle.report_lines.specs.Lines.{cutText, linesRoom};
+ghost use Rattle.report.specs.Answers.{ReportedFits, TextFits, begun, cellsThen, outThen, packetText, reportedOf, roomy, textAfter, textOf};
+use checker::packet::check_packet;
+use checker::step::open;
+use conformance::checker::Checker;
+use frames::Front;
+use frames::LENGTH_SIZE;
+use frames::frame_at;
+use report_lines::put_if;
+use report_lines::put_outcome;
+use wire::layout::Layout;
+use wire::limit::MAX_PACKET;
+use wire::refusal::Refusal;
+
+// Octets of the lines of one packet.
+pub const LINES_ROOM: usize = 120;
+
+// All packets are in one layout; the index is that of the next frame.
+pub struct Session {
+    pub layout: Layout,
+    pub index: u64,
+    pub checker: Checker,
+}
+
+// What a frame gave: the state behind its packet, the octets of the frame and of its lines.
+pub struct Turn {
+    pub checker: Checker,
+    pub used: usize,
+    pub length: usize,
+}
+
+pub enum Reported {
+    Frame(Turn),
+    // No whole frame stands at the front.
+    NoFrame,
+    Refused(Refusal),
+}
+
+pub enum Text {
+    Octets(usize),
+    Refused(Refusal),
+}
+
+// The state behind a packet, and the octets of its lines.
+pub struct Reply {
+    pub checker: Checker,
+    pub length: usize,
+}
+
+// Before the first frame, packets being told this layout.
+pub fn begin(layout: Layout) -> Session
+    ensures { λ r. ⌜ r ≡ begun layout ⌝ }
+{
+    Session {
+        layout,
+        index: 0,
+        checker: open(),
+    }
+}
+
+fn is_roomy(cells: usize, octets: usize) -> bool
+    ensures { λ r. ⌜ r ≡ roomy cells octets ⌝ }
+{
+    (MAX_PACKET <= cells) & (LINES_ROOM <= octets)
+}
+
+fn report_packet(session: Session, octets: &[u8], cells: &mut [u16], out: &mut [u8]) -> Reply
+    requires { ⌜ (maxPacket ≤ length (now cells)) × (linesRoom ≤ length (now out)) ⌝ }
+    ensures { λ r. ⌜ r .checker ≡ turn (session .layout) (session .checker) (now (octets .entry)) .checker ⌝ }
+    ensures { λ r. ⌜ now (cells .exit) ≡ cellsAfter (readContent (session .layout) (now (octets .entry))) (now (cells .entry)) ⌝ }
+    ensures { λ r. ⌜ Put (now (out .entry)) 0 (packetText session (now (octets .entry))) (now (out .exit)) (r .length) ⌝ }
+{
+    let layout = session.layout;
+    let checker = session.checker;
+    let step = check_packet(layout, checker, octets, cells);
+    let outcome = step.outcome;
+    let next = step.checker;
+    let length = put_outcome(out, session.index, outcome);
+    Reply {
+        checker: next,
+        length,
+    }
+}
+
+// The frame at the front of the octets: its packet is checked, and its lines go to the first octets of `out`.
+pub fn check_frame(session: Session, octets: &[u8], cells: &mut [u16], out: &mut [u8]) -> Reported
+    ensures { λ r. ⌜ r ≡ reportedOf (roomy (length (now (cells .entry))) (length (now (out .entry)))) session (front (now (octets .entry))) ⌝ }
+    ensures { λ r. ⌜ now (cells .exit) ≡ cellsThen (roomy (length (now (cells .entry))) (length (now (out .entry)))) session (front (now (octets .entry))) (now (cells .entry)) ⌝ }
+    ensures { λ r. ⌜ now (out .exit) ≡ outThen (roomy (length (now (cells .entry))) (length (now (out .entry)))) session (front (now (octets .entry))) (now (out .entry)) ⌝ }
+    ensures { λ r. ⌜ ReportedFits r (length (now (octets .entry))) (length (now (out .entry))) ⌝ }
+{
+    if !is_roomy(cells.len(), out.len()) {
+        return Reported::Refused(Refusal {
+            number: Refusal::ROOM_TOO_SMALL,
+            index: 0,
+        });
+    }
+    let front = frame_at(octets);
+    match front {
+        Front::End => Reported::NoFrame,
+        Front::Cut => Reported::NoFrame,
+        Front::Packet(size) => {
+            let end = LENGTH_SIZE + size;
+            let reply = report_packet(session, &octets[LENGTH_SIZE..end], cells, out);
+            let next = reply.checker;
+            Reported::Frame(Turn {
+                checker: next,
+                used: end,
+                length: reply.length,
+            })
+        }
+    }
+}
+
+fn is_cut(here: Front) -> bool
+    ensures { λ r. ⌜ r ≡ isCut here ⌝ }
+{
+    match here {
+        Front::Cut => true,
+        Front::End => false,
+        Front::Packet(_) => false,
+    }
+}
+
+// The last line, where the frame there is cut; `rest` is what is left of the input behind its whole frames.
+pub fn finish(index: u64, rest: &[u8], out: &mut [u8]) -> Text
+    ensures { λ r. ⌜ r ≡ textOf (leb linesRoom (length (now (out .entry)))) (cutText (isBroken (front (now (rest .entry)))) index) ⌝ }
+    ensures { λ r. ⌜ now (out .exit) ≡ textAfter (leb linesRoom (length (now (out .entry)))) (cutText (isBroken (front (now (rest .entry)))) index) (now (out .entry)) ⌝ }
+    ensures { λ r. ⌜ TextFits r (length (now (out .entry))) ⌝ }
+{
+    if out.len() < LINES_ROOM {
+        return Text::Refused(Refusal {
+            number: Refusal::ROOM_TOO_SMALL,
+            index: 0,
+        });
+    }
+    let broken = is_cut(frame_at(rest));
+    Text::Octets(put_if(out, 0, broken, index, b" cut\n"))
+}

@@ -1,0 +1,47 @@
+// Reports where the recorded output of an encoder, RTP packets in frames of RFC 4571, breaks the rules (02, K12), from standard input or from the
+// file that its argument names. The frames and the lines are the library's; this program moves octets.
+ghost use lib.ListN.{length};
+ghost use Rattle.report_turns.specs.Turns.{Ended, Enough};
+use frames::MAX_FRAME;
+use program::arguments::layout_told;
+use program::arguments::open_input;
+use program::buffers::is_done;
+use program::buffers::turns_left;
+use report::session::LINES_ROOM;
+use report_turns::close;
+use report_turns::start;
+use report_turns::turn;
+use wire::layout::Layout;
+use wire::limit::MAX_PACKET;
+
+// Octets of the buffers: some frames are read at once, and lines of many packets wait to be written together.
+const INPUT_SIZE: usize = 4 * MAX_FRAME;
+
+const TEXT_SIZE: usize = 512 * LINES_ROOM;
+
+// Whether the report was written whole.
+fn report(layout: Layout, fd: i32, input: &mut [u8], cells: &mut [u16], out: &mut [u8]) -> bool
+    requires { ⌜ Enough (length (now input)) (length (now cells)) (length (now out)) ⌝ }
+    ensures { λ r. ⌜ Ended layout (now (out .exit)) r ⌝ }
+{
+    let mut run = start(layout);
+    let mut turns = u64::MAX;
+    while turns > 0 {
+        run = turn(fd, run, input, cells, out);
+        let buffers = run.buffers;
+        turns = turns_left(turns, buffers.open);
+    }
+    is_done(close(run, input, out))
+}
+
+fn main() {
+    let layout = layout_told();
+    let fd = open_input(layout);
+    if fd < 0 {
+        return;
+    }
+    let mut input = [0u8; INPUT_SIZE];
+    let mut cells = [0u16; MAX_PACKET];
+    let mut out = [0u8; TEXT_SIZE];
+    report(layout, fd, &mut input, &mut cells, &mut out);
+}
