@@ -16,6 +16,10 @@
  *
  * A pointer and its length must name memory that may be read, or written where it is not const; memory that is written must not overlap
  * any other that is lent to the same call. Where the length is 0, the pointer is not followed, but it must not be null.
+ *
+ * Records stand in cells of sixteen bits, one behind the other: C, line, offset, S, StreamNum, DID, SDID, n, the index of the record's packet within
+ * its field, then n words. The readers of packets, lines and files give index 0, and `jibhotran_arrive` the packet's, from 0; who takes cells
+ * checks the index (20 where it is over 4,095) and makes no other use of it.
  */
 #ifndef JIBHOTRAN_H
 #define JIBHOTRAN_H
@@ -29,7 +33,7 @@ extern "C" {
 
 /* Numbers that an answer needs, and a state. */
 #define JIBHOTRAN_ANSWER 9
-#define JIBHOTRAN_STATE 14
+#define JIBHOTRAN_STATE 15
 
 /* Numbers that an outlet's state needs, octets of the memory that it is lent, and the most octets of a packet that it takes. */
 #define JIBHOTRAN_OUTLET_STATE 145
@@ -80,11 +84,11 @@ uint8_t jibhotran_write(uint8_t layout, uint32_t source, uint8_t payload_type, u
 uint8_t jibhotran_open(uint32_t source, uint8_t payload_type, uint64_t *state, size_t state_len, uint64_t *answer, size_t answer_len);
 
 /*
- * One arrival, a packet of the layout. answer: one of JIBHOTRAN_SKIPPED to JIBHOTRAN_WHOLE, timestamp, F, records, cells; the last four
- * are 0 unless the field is whole.
+ * One arrival, a packet of the layout. answer: one of JIBHOTRAN_SKIPPED to JIBHOTRAN_WHOLE, timestamp, F, records, cells, packets; the last five
+ * are 0 unless the field is whole. A packet without records counts among the packets and leaves no cell.
  * While a field is gathered, each call is lent the same store, untouched.
  * state: source, payload type, phase (0 lost, 1 ready, 2 filling), heard (0 or 1), last, timestamp, F, records, cells, fresh, late, missing,
- * whether a number is remembered (0 or 1), that number (0 where none is). Numbers that no state has are refused by 35.
+ * whether a number is remembered (0 or 1), that number (0 where none is), packets. Numbers that no state has are refused by 35.
  * An arrival over 2,999 ahead of the last fresh one, or 100 or more behind, is refused by 36, and the number after it is remembered until an
  * arrival is fresh. One as far that has the remembered number restarts the depacketizer: it is a first arrival, and the counts begin anew.
  */

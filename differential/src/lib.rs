@@ -19,7 +19,7 @@ pub use model::Model;
 /// Numbers that an answer row needs.
 pub const ANSWER: usize = 9;
 /// Numbers that a state row needs.
-pub const STATE: usize = 14;
+pub const STATE: usize = 15;
 /// Numbers that an outlet's state row needs.
 pub const OUTLET_STATE: usize = 145;
 /// Octets of the memory that an outlet is lent.

@@ -55,6 +55,7 @@ pub fn row_of(state: &State) -> [u64; STATE] {
         state.missing,
         state.remembered.is_some() as u64,
         state.remembered.unwrap_or(0) as u64,
+        state.packets as u64,
     ]
 }
 
@@ -72,6 +73,7 @@ pub fn state_of(row: &[u64]) -> Option<State> {
         f: row[6].try_into().ok()?,
         records: row[7].try_into().ok()?,
         cells: row[8].try_into().ok()?,
+        packets: row[14].try_into().ok()?,
         fresh: row[9],
         late: row[10],
         missing: row[11],
@@ -79,9 +81,9 @@ pub fn state_of(row: &[u64]) -> Option<State> {
     })
 }
 
-/// Kind, then timestamp, F, records and cells, which are 0 unless whole.
-fn values_of(answer: Answer) -> Result<[u64; 5], Refusal> {
-    let kind = |kind| Ok([kind, 0, 0, 0, 0]);
+/// Kind, then timestamp, F, records, cells and packets, which are 0 unless whole.
+fn values_of(answer: Answer) -> Result<[u64; 6], Refusal> {
+    let kind = |kind| Ok([kind, 0, 0, 0, 0, 0]);
     match answer {
         Answer::Skipped => kind(SKIPPED),
         Answer::Held => kind(HELD),
@@ -92,12 +94,14 @@ fn values_of(answer: Answer) -> Result<[u64; 5], Refusal> {
             f,
             records,
             cells,
+            packets,
         } => Ok([
             WHOLE,
             timestamp as u64,
             f as u64,
             records as u64,
             cells as u64,
+            packets as u64,
         ]),
         Answer::Refused(refusal) => Err(refusal),
     }

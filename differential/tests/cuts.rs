@@ -1,15 +1,16 @@
 //! The same fields cut into packets in two ways (02, K8): each delivered
 //! entirely and in order to a depacketizer just opened, after one marked
-//! packet numbered just before. Both hand out equal fields, one by one, and
-//! they are the fields that were cut.
+//! packet numbered just before. Both hand out fields that are equal, one by
+//! one, apart from the ninth cell (02, K13) and the number of packets, and each
+//! is the field that was cut, with the index of each record's packet.
 
 use differential::call::{compare, Call, Lengths, Lent, Memory};
 use differential::model::number_of;
 use differential::{ANSWER, HELD, SKIPPED, STATE, WHOLE};
 use reference::anc::Limits;
 use reference::packet::Head;
-use reference::random::{carried, dress, head, list, list_of_cells, record, split_records};
-use reference::random::{Parts, Random};
+use reference::random::{carried, dress, head, indexed, list, list_of_cells, record};
+use reference::random::{split_records, Parts, Random};
 use reference::Layout;
 
 /// A field as a sender has it, before it is cut.
@@ -27,17 +28,34 @@ struct Handed {
     f: u64,
     records: u64,
     cells: u64,
+    packets: u64,
     content: Vec<u16>,
 }
 
 impl Field {
-    fn as_sent(&self) -> Handed {
+    /// As it was cut into these packets.
+    fn as_sent(&self, packets: &[Vec<u16>]) -> Handed {
+        let numbered = packets.iter().enumerate();
         Handed {
             timestamp: self.timestamp as u64,
             f: self.f as u64,
             records: split_records(&self.cells).len() as u64,
             cells: self.cells.len() as u64,
-            content: self.cells.clone(),
+            packets: packets.len() as u64,
+            content: numbered
+                .flat_map(|(index, cells)| indexed(cells, index as u16))
+                .collect(),
+        }
+    }
+}
+
+impl Handed {
+    /// Apart from the ninth cell and from what tells the cut.
+    fn apart(&self) -> Handed {
+        Handed {
+            packets: 0,
+            content: indexed(&self.content, 0),
+            ..self.clone()
         }
     }
 }
@@ -209,12 +227,13 @@ fn deliver(
             assert_eq!(kind, if last { WHOLE } else { HELD });
             let store = memory.cells.get();
             met.store_just_enough += usize::from(last && store.len() == field.cells.len());
-            if let [WHOLE, timestamp, f, records, cells, ..] = *memory.answer.get() {
+            if let [WHOLE, timestamp, f, records, cells, packets, ..] = *memory.answer.get() {
                 handed.push(Handed {
                     timestamp,
                     f,
                     records,
                     cells,
+                    packets,
                     content: store[..cells as usize].to_vec(),
                 });
             }
@@ -242,10 +261,13 @@ fn the_same_fields_cut_in_two_ways() {
         }
         met.two_layouts += usize::from(layouts[0] != layouts[1]);
         met.both_old += usize::from(layouts == [Layout::Draft2015; 2]);
-        let handed = deliver(&mut r, layouts[0], &one, &mut met);
-        assert_eq!(handed, deliver(&mut r, layouts[1], &other, &mut met));
-        let sent: Vec<Handed> = fields.iter().map(Field::as_sent).collect();
-        assert_eq!(handed, sent);
+        let handed = [(layouts[0], &one), (layouts[1], &other)].map(|(layout, cut)| {
+            let handed = deliver(&mut r, layout, cut, &mut met);
+            let sent = cut.iter().map(|(field, packets)| field.as_sent(packets));
+            assert_eq!(handed, sent.collect::<Vec<_>>());
+            handed.iter().map(Handed::apart).collect::<Vec<_>>()
+        });
+        assert_eq!(handed[0], handed[1]);
     }
     println!("{met:?}");
     assert!(met.cut_differently > met.fields / 2, "{met:?}");

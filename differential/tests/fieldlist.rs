@@ -209,7 +209,7 @@ fn fill(parts: &mut Parts) {
     assert_eq!(parts.assemble().len(), 65_535);
 }
 
-/// The limits of a field, each in 17 packets: 4,095 records of 32,768 cells in
+/// The limits of a field, each in 17 packets: 4,095 records of 36,864 cells in
 /// all are one; a cell more is overfull, and so is a record more.
 #[test]
 fn fields_of_the_limit() {
@@ -218,9 +218,9 @@ fn fields_of_the_limit() {
         let words = |k| if k == 0 { first } else { 0 };
         (0..count).map(|k| record(&mut r, words(k))).collect()
     };
-    let fields = [records(8, 4_095), records(9, 4_095), records(0, 4_096)];
+    let fields = [records(9, 4_095), records(10, 4_095), records(0, 4_096)];
     let sizes = fields.each_ref().map(|field| field.concat().len());
-    assert_eq!(sizes, [32_768, 32_769, 32_768]);
+    assert_eq!(sizes, [36_864, 36_865, 36_864]);
     for (layout, f) in [(Layout::Rfc8331, 2), (Layout::Draft2015, 0)] {
         let mut input = Vec::new();
         let mut expected = vec!["7 skipped".to_string()];

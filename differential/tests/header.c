@@ -29,7 +29,7 @@ static octet (*const outlet_open)(number *, size_t) = jibhotran_outlet_open;
 static octet (*const outlet_offer)(number *, size_t, octet, const octet *, size_t, octet *, size_t, number *, size_t) = jibhotran_outlet_offer;
 static octet (*const outlet_take)(number *, size_t, const octet *, size_t, octet *, size_t, number *, size_t) = jibhotran_outlet_take;
 
-static const cell record_a[8] = {0, 9, 0, 0, 0, 0x41, 0x05, 0};
+static const cell record_a[9] = {0, 9, 0, 0, 0, 0x41, 0x05, 0, 3};
 static number answer[JIBHOTRAN_ANSWER];
 
 static void numbers(const char *name, const number *row, size_t count) {
@@ -50,42 +50,47 @@ static void cells(const char *name, const cell *row, size_t count) {
     printf("\n");
 }
 
-/* The result and the first values of the answer, which is then set to a number that no call gives. */
+/* A number that no call gives. */
+static void forget(void) {
+    for (size_t i = 0; i < JIBHOTRAN_ANSWER; i++) answer[i] = 77;
+}
+
+/* The result and the first values of the answer, which is then forgotten. */
 static void result(const char *name, octet given, size_t values) {
     printf("%s %d, ", name, given);
     numbers("answer", answer, values);
-    for (size_t i = 0; i < JIBHOTRAN_ANSWER; i++) answer[i] = 77;
+    forget();
 }
 
 static void packets(octet packet[2][32]) {
     const octet rfc = JIBHOTRAN_RFC8331;
-    cell back[8];
-    result("write 7", packet_write(rfc, 1, 112, 1, 7, 1000, 2, record_a, 8, packet[0], 32, answer, JIBHOTRAN_ANSWER), 2);
+    cell back[9];
+    result("write 7", packet_write(rfc, 1, 112, 1, 7, 1000, 2, record_a, 9, packet[0], 32, answer, JIBHOTRAN_ANSWER), 2);
     octets("packet", packet[0], 32);
-    result("write 8", packet_write(rfc, 1, 112, 1, 8, 2501, 3, record_a, 8, packet[1], 32, answer, JIBHOTRAN_ANSWER), 2);
-    result("read", packet_read(rfc, packet[0], 32, back, 8, answer, JIBHOTRAN_ANSWER), 9);
-    cells("cells", back, 8);
+    result("write 8", packet_write(rfc, 1, 112, 1, 8, 2501, 3, record_a, 9, packet[1], 32, answer, JIBHOTRAN_ANSWER), 2);
+    result("read", packet_read(rfc, packet[0], 32, back, 9, answer, JIBHOTRAN_ANSWER), 9);
+    cells("cells", back, 9);
     packet[0][28] ^= 1;
-    result("checksum wrong, read", packet_read(rfc, packet[0], 32, back, 8, answer, JIBHOTRAN_ANSWER), 9);
-    result("read strict", packet_read_strict(rfc, packet[0], 32, back, 8, answer, JIBHOTRAN_ANSWER), 2);
+    result("checksum wrong, read", packet_read(rfc, packet[0], 32, back, 9, answer, JIBHOTRAN_ANSWER), 9);
+    result("read strict", packet_read_strict(rfc, packet[0], 32, back, 9, answer, JIBHOTRAN_ANSWER), 2);
     packet[0][28] ^= 1;
-    result("read strict", packet_read_strict(rfc, packet[0], 32, back, 8, answer, JIBHOTRAN_ANSWER), 9);
-    result("read 11 octets", packet_read(rfc, packet[0], 11, back, 8, answer, JIBHOTRAN_ANSWER), 2);
-    result("short row", packet_read(rfc, packet[0], 32, back, 8, answer, JIBHOTRAN_ANSWER - 1), 2);
-    result("no layout", packet_read(2, packet[0], 32, back, 8, answer, JIBHOTRAN_ANSWER), 2);
-    result("no layout", packet_write(2, 1, 112, 1, 7, 1000, 2, record_a, 8, packet[0], 32, answer, JIBHOTRAN_ANSWER), 2);
+    result("read strict", packet_read_strict(rfc, packet[0], 32, back, 9, answer, JIBHOTRAN_ANSWER), 9);
+    result("read 11 octets", packet_read(rfc, packet[0], 11, back, 9, answer, JIBHOTRAN_ANSWER), 2);
+    result("short row", packet_read(rfc, packet[0], 32, back, 9, answer, JIBHOTRAN_ANSWER - 1), 2);
+    result("no layout", packet_read(2, packet[0], 32, back, 9, answer, JIBHOTRAN_ANSWER), 2);
+    result("no layout", packet_write(2, 1, 112, 1, 7, 1000, 2, record_a, 9, packet[0], 32, answer, JIBHOTRAN_ANSWER), 2);
 }
 
 /* The same record in a packet of the drafts, which carries no F. */
 static void old_packets(octet packet[26]) {
     const octet drafts = JIBHOTRAN_DRAFTS;
-    cell back[8];
-    result("old write", packet_write(drafts, 1, 112, 1, 9, 4002, 2, record_a, 8, packet, 26, answer, JIBHOTRAN_ANSWER), 2);
-    result("old write", packet_write(drafts, 1, 112, 1, 9, 4002, 0, record_a, 8, packet, 26, answer, JIBHOTRAN_ANSWER), 2);
+    cell back[9];
+    result("old write", packet_write(drafts, 1, 112, 1, 9, 4002, 2, record_a, 9, packet, 26, answer, JIBHOTRAN_ANSWER), 2);
+    result("old write", packet_write(drafts, 1, 112, 1, 9, 4002, 0, record_a, 9, packet, 26, answer, JIBHOTRAN_ANSWER), 2);
     octets("packet", packet, 26);
-    result("old read", packet_read(drafts, packet, 26, back, 8, answer, JIBHOTRAN_ANSWER), 9);
-    cells("cells", back, 8);
-    result("read", packet_read(JIBHOTRAN_RFC8331, packet, 26, back, 8, answer, JIBHOTRAN_ANSWER), 2);
+    result("old read", packet_read(drafts, packet, 26, back, 9, answer, JIBHOTRAN_ANSWER), 9);
+    cells("cells", back, 9);
+    result("read", packet_read(JIBHOTRAN_RFC8331, packet, 26, back, 9, answer, JIBHOTRAN_ANSWER), 2);
 }
 
 static void depacketizer(octet packet[2][32], octet old[26]) {
@@ -95,15 +100,42 @@ static void depacketizer(octet packet[2][32], octet old[26]) {
     result("short state", opened(1, 112, state, JIBHOTRAN_STATE - 1, answer, JIBHOTRAN_ANSWER), 1);
     result("open", opened(1, 112, state, JIBHOTRAN_STATE, answer, JIBHOTRAN_ANSWER), 1);
     numbers("state", state, JIBHOTRAN_STATE);
-    result("arrive 7", arrive(rfc, state, JIBHOTRAN_STATE, packet[0], 32, store, 16, answer, JIBHOTRAN_ANSWER), 6);
-    result("arrive 8", arrive(rfc, state, JIBHOTRAN_STATE, packet[1], 32, store, 16, answer, JIBHOTRAN_ANSWER), 6);
-    cells("store", store, 8);
+    result("arrive 7", arrive(rfc, state, JIBHOTRAN_STATE, packet[0], 32, store, 16, answer, JIBHOTRAN_ANSWER), 7);
+    result("arrive 8", arrive(rfc, state, JIBHOTRAN_STATE, packet[1], 32, store, 16, answer, JIBHOTRAN_ANSWER), 7);
+    cells("store", store, 9);
     result("arrive 8", arrive(rfc, state, JIBHOTRAN_STATE, packet[1], 32, store, 16, answer, JIBHOTRAN_ANSWER), 2);
     numbers("state", state, JIBHOTRAN_STATE);
     result("no layout", arrive(2, state, JIBHOTRAN_STATE, old, 26, store, 16, answer, JIBHOTRAN_ANSWER), 2);
     result("arrive 9", arrive(rfc, state, JIBHOTRAN_STATE, old, 26, store, 16, answer, JIBHOTRAN_ANSWER), 2);
-    result("old arrive 9", arrive(JIBHOTRAN_DRAFTS, state, JIBHOTRAN_STATE, old, 26, store, 16, answer, JIBHOTRAN_ANSWER), 6);
+    result("old arrive 9", arrive(JIBHOTRAN_DRAFTS, state, JIBHOTRAN_STATE, old, 26, store, 16, answer, JIBHOTRAN_ANSWER), 7);
     numbers("state", state, JIBHOTRAN_STATE);
+}
+
+/* A field of three packets, one of them without records, sent on in the packets that it arrived in, by the answer and the store alone: packet k has the
+ * records with index k, and the last is marked. */
+static void sent_on(uint32_t empty) {
+    const octet rfc = JIBHOTRAN_RFC8331;
+    octet packet[4][32], out[32];
+    size_t sizes[4];
+    number state[JIBHOTRAN_STATE];
+    cell store[18];
+    opened(1, 112, state, JIBHOTRAN_STATE, answer, JIBHOTRAN_ANSWER);
+    for (uint32_t k = 0; k < 4; k++) {
+        packet_write(rfc, 1, 112, k == 0 || k == 3, 7 + k, 1000, 2, record_a, k == empty + 1 ? 0 : 9, packet[k], 32, answer, JIBHOTRAN_ANSWER);
+        sizes[k] = (size_t)answer[0];
+        arrive(rfc, state, JIBHOTRAN_STATE, packet[k], sizes[k], store, 18, answer, JIBHOTRAN_ANSWER);
+    }
+    const number timestamp = answer[1], f = answer[2], cells_used = answer[4], packets_told = answer[5];
+    for (size_t at = 0, k = 0; k < packets_told; k++) {
+        size_t end = at;
+        while (end < cells_used && store[end + 8] == k) end += 9 + (size_t)store[end + 7];
+        packet_write(rfc, 1, 112, k + 1 == packets_told, 8 + (uint32_t)k, (uint32_t)timestamp, (octet)f, store + at, end - at, out, 32, answer,
+                     JIBHOTRAN_ANSWER);
+        const int same = answer[0] == sizes[k + 1] && memcmp(out, packet[k + 1], sizes[k + 1]) == 0;
+        printf("packet %zu of %" PRIu64 ", %zu cells: %s\n", k, packets_told, end - at, same ? "as it arrived" : "otherwise");
+        at = end;
+    }
+    forget();
 }
 
 static void parameters(void) {
@@ -122,23 +154,23 @@ static void parameters(void) {
 
 static void file(void) {
     octet out[24];
-    cell back[8];
+    cell back[9];
     result("file begin", file_begin(out, 24, answer, JIBHOTRAN_ANSWER), 2);
-    result("file write", file_write(2501, 3, record_a, 8, out + 5, 19, answer, JIBHOTRAN_ANSWER), 2);
+    result("file write", file_write(2501, 3, record_a, 9, out + 5, 19, answer, JIBHOTRAN_ANSWER), 2);
     octets("file", out, 24);
-    result("file read", file_read(out, 24, 5, back, 8, answer, JIBHOTRAN_ANSWER), 6);
-    cells("cells", back, 8);
-    result("file read", file_read(out, 24, 24, back, 8, answer, JIBHOTRAN_ANSWER), 2);
+    result("file read", file_read(out, 24, 5, back, 9, answer, JIBHOTRAN_ANSWER), 6);
+    cells("cells", back, 9);
+    result("file read", file_read(out, 24, 24, back, 9, answer, JIBHOTRAN_ANSWER), 2);
 }
 
 static void lines(void) {
-    cell line[10] = {1, 2, 3, 4, 5, 6, 7, 8, 9, 10}, back[8];
-    result("line write", line_write(line, 10, 4, record_a, 8, answer, JIBHOTRAN_ANSWER), 2);
-    result("line write", line_write(line, 10, 2, record_a, 8, answer, JIBHOTRAN_ANSWER), 2);
+    cell line[10] = {1, 2, 3, 4, 5, 6, 7, 8, 9, 10}, back[9];
+    result("line write", line_write(line, 10, 4, record_a, 9, answer, JIBHOTRAN_ANSWER), 2);
+    result("line write", line_write(line, 10, 2, record_a, 9, answer, JIBHOTRAN_ANSWER), 2);
     cells("line", line, 10);
-    result("line read", line_read(line, 10, 2, 1, 0x7FF, 0xFFF, 1, 127, back, 8, answer, JIBHOTRAN_ANSWER), 4);
-    cells("cells", back, 8);
-    result("line read", line_read(line, 10, 2, 2, 0, 0, 0, 0, back, 8, answer, JIBHOTRAN_ANSWER), 2);
+    result("line read", line_read(line, 10, 2, 1, 0x7FF, 0xFFF, 1, 127, back, 9, answer, JIBHOTRAN_ANSWER), 4);
+    cells("cells", back, 9);
+    result("line read", line_read(line, 10, 2, 2, 0, 0, 0, 0, back, 9, answer, JIBHOTRAN_ANSWER), 2);
 }
 
 /* One channel reloads, another offers one packet, and each gets its turn. */
@@ -177,6 +209,7 @@ int main(void) {
     packets(packet);
     old_packets(old);
     depacketizer(packet, old);
+    for (uint32_t empty = 0; empty < 3; empty++) sent_on(empty);
     parameters();
     file();
     lines();

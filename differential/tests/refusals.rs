@@ -7,7 +7,7 @@ use std::collections::BTreeSet;
 use differential::call::{compare, Call, Lengths, Memory};
 use differential::model::{number_of, row_of};
 use differential::{Head, ANSWER, NO_VPID, STATE};
-use reference::anc::Limits;
+use reference::anc::{Limits, RECORD_HEAD};
 use reference::depacketizer::{open, State, FILLING, LOST, READY};
 use reference::file::Version;
 use reference::packet;
@@ -47,7 +47,8 @@ fn sound() -> State {
         timestamp: HEAD.timestamp,
         f: HEAD.f,
         records: 1,
-        cells: 8,
+        cells: RECORD_HEAD,
+        packets: 1,
         late: 3,
         ..open(HEAD.source, HEAD.payload_type).unwrap()
     }
@@ -55,7 +56,10 @@ fn sound() -> State {
 
 /// A packet of records of so many words each.
 fn parts(layout: Layout, counts: &[usize]) -> Parts {
-    let list: Vec<u16> = counts.iter().flat_map(|&n| cells(8 + n)).collect();
+    let list: Vec<u16> = counts
+        .iter()
+        .flat_map(|&n| cells(RECORD_HEAD + n))
+        .collect();
     Parts::of(layout, HEAD, &list)
 }
 
@@ -148,8 +152,8 @@ fn protected_packets(layout: Layout) -> Vec<Octets> {
     let damaged = |counts: &[usize], damage: &dyn Fn(&mut Parts)| damaged(layout, counts, damage);
     let word = |index: usize, place: usize, word: u16| move |p: &mut Parts| p.anc[index].words[3 + place] = word;
     let summed = |index: usize, place: usize, word: u16| move |p: &mut Parts| {
-        let mut list = cells(8 + p.anc[index].words.len() - 4);
-        list[8 + place] = word;
+        let mut list = cells(RECORD_HEAD + p.anc[index].words.len() - 4);
+        list[RECORD_HEAD + place] = word;
         p.anc[index] = Anc::of(&list);
     };
     vec![
@@ -241,7 +245,7 @@ fn of_packets(layout: Layout) -> Vec<Refused> {
         table.push(refused(number, what, arrival, 3_000, index));
     }
     let octets = parts(layout, &[3, 4]).assemble();
-    table.push(refused(14, "22 cells", read(octets), 22, 0));
+    table.push(refused(14, "24 of 25 cells", read(octets), 24, 0));
     for (number, what, octets, index) in packets(layout) {
         if number != 11 {
             let tolerant = Call::Read {
@@ -283,8 +287,8 @@ fn field(f: u8, cells: Vec<u16>) -> Call {
 /// Lists with one record of many wrong.
 fn lists() -> Vec<(&'static str, Vec<u16>, u64)> {
     let with = |before: usize, at: usize, cell: u16| {
-        let mut list = [records(before), cells(8 + 3)].concat();
-        list[8 * before + at] = cell;
+        let mut list = [records(before), cells(RECORD_HEAD + 3)].concat();
+        list[RECORD_HEAD * before + at] = cell;
         list
     };
     vec![
@@ -296,9 +300,12 @@ fn lists() -> Vec<(&'static str, Vec<u16>, u64)> {
         ("DID 256", with(5, 5, 256), 5),
         ("SDID 256", with(6, 6, 256), 6),
         ("n 256", with(7, 7, 256), 7),
+        ("index 4,096", with(8, 8, 4_096), 8),
+        ("index 65,535", with(0, 8, 65_535), 0),
         ("a word 1,024", with(8, 10, 1024), 8),
         ("words cut", with(9, 7, 4), 9),
         ("head cut", [records(10), A[..7].to_vec()].concat(), 10),
+        ("no index", [records(11), A[..8].to_vec()].concat(), 11),
         ("over 255 records", with(300, 0, 2), 300),
     ]
 }
@@ -307,9 +314,9 @@ fn lists() -> Vec<(&'static str, Vec<u16>, u64)> {
 /// list, with the record's index.
 fn protected_lists() -> Vec<(u8, &'static str, Vec<u16>, u64)> {
     let with = |before: usize, n: usize, words: &[(usize, u16)]| {
-        let mut list = [records(before), cells(8 + n)].concat();
+        let mut list = [records(before), cells(RECORD_HEAD + n)].concat();
         for &(place, word) in words {
-            list[8 * (before + 1) + place] = word;
+            list[RECORD_HEAD * (before + 1) + place] = word;
         }
         list
     };
@@ -327,8 +334,8 @@ fn protected_lists() -> Vec<(u8, &'static str, Vec<u16>, u64)> {
         (
             16,
             "over the cells",
-            [cells(32_768), protected(0)].concat(),
-            125,
+            [cells(36_864), protected(0)].concat(),
+            140,
         ),
         (20, "a cut record behind", [protected(6), cut].concat(), 7),
         (20, "a word too large", with(7, 9, &[(0, 3), (8, 1024)]), 7),
@@ -351,7 +358,7 @@ fn of_written(layout: Layout, a: usize, empty: usize) -> Vec<Refused> {
     };
     let mut table = vec![
         of(21, "256 records", 112, 0, records(256), 9, 0),
-        of(21, "32,769 cells", 112, 0, cells(32_769), 9, 0),
+        of(21, "36,865 cells", 112, 0, cells(36_865), 9, 0),
         of(23, "record A, an octet too few", 112, 0, A.to_vec(), a - 1, 0),
         of(23, "an empty list, an octet too few", 112, 0, Vec::new(), empty - 1, 0),
         of(23, "no octets", 112, 0, A.to_vec(), 0, 0),
@@ -376,11 +383,11 @@ fn of_written(layout: Layout, a: usize, empty: usize) -> Vec<Refused> {
 fn of_not_carried() -> Vec<Refused> {
     let with = |at: usize, cell: u16| {
         let mut list = records(5);
-        list[8 * 3 + at] = cell;
+        list[RECORD_HEAD * 3 + at] = cell;
         list
     };
-    let protected = || [&A[..7], &[1, 0x3FF]].concat();
-    let cut = |list: Vec<u16>| list[..39].to_vec();
+    let protected = || [&A[..7], &[1, 0, 0x3FF]].concat();
+    let cut = |list: Vec<u16>| list[..44].to_vec();
     let many = |list: Vec<u16>| [list, records(251)].concat();
     let of = |number, what, f, list, index| {
         refused(number, what, write(Draft2015, 112, f, list), 0, index)
@@ -419,7 +426,7 @@ fn of_fields() -> Vec<Refused> {
     }
     table.extend([
         refused(21, "4,096 records", field(2, records(4_096)), 9, 0),
-        refused(21, "32,769 cells", field(2, cells(32_769)), 9, 0),
+        refused(21, "36,865 cells", field(2, cells(36_865)), 9, 0),
         refused(23, "18 of 19 octets", field(2, A.to_vec()), 18, 0),
         refused(23, "4 of 5 octets", Call::FileBegin, 4, 0),
         refused(53, "F 1", field(1, vec![9]), 0, 0),
@@ -440,6 +447,7 @@ fn of_opened() -> Vec<Refused> {
 fn states() -> Vec<(u8, &'static str, State)> {
     let good = sound();
     let bare = State { records: 0, cells: 0, ..good };
+    let none = State { packets: 0, ..bare };
     let late = |last| State { last, ..good };
     vec![
         (30, "other source", State { source: 2, payload_type: 3, ..good }),
@@ -452,12 +460,16 @@ fn states() -> Vec<(u8, &'static str, State)> {
         (36, "the most negative distance", late(HEAD.number + 0x8000_0000)),
         (36, "the far number again", State { last: HEAD.number + 100, remembered: Some(HEAD.number + 1), ..good }),
         (35, "4,096 records", State { records: 4_096, ..good }),
-        (35, "32,769 cells", State { cells: 32_769, ..good }),
+        (35, "36,865 cells", State { cells: 36_865, ..good }),
         (35, "more cells than the store", State { cells: 101, ..good }),
-        (35, "records when ready", State { phase: READY, records: 1, ..bare }),
-        (35, "cells when lost", State { phase: LOST, cells: 1, ..bare }),
-        (35, "ready before a first", State { phase: READY, heard: false, ..bare }),
+        (35, "records when ready", State { phase: READY, records: 1, ..none }),
+        (35, "cells when lost", State { phase: LOST, cells: 1, ..none }),
+        (35, "ready before a first", State { phase: READY, heard: false, ..none }),
         (35, "filling before a first", State { heard: false, ..bare }),
+        (35, "4,097 packets", State { packets: 4_097, ..good }),
+        (35, "no packet when filling", none),
+        (35, "a packet when ready", State { phase: READY, ..bare }),
+        (35, "a packet when lost", State { phase: LOST, ..bare }),
     ]
 }
 
@@ -470,7 +482,7 @@ fn of_states(layout: Layout) -> Vec<Refused> {
             35 => changed(&a, a.len() - 1, 1),
             _ => a,
         };
-        let store = if state.cells == 32_769 { 40_000 } else { 100 };
+        let store = if state.cells == 36_865 { 40_000 } else { 100 };
         let layout = number_of(layout);
         Refused {
             state,
@@ -525,10 +537,10 @@ fn of_files(version: Version) -> Vec<Refused> {
     let good = file_of(2, 3, &|_| {});
     let end = good.len();
     let head = version.field_head();
-    let long = file_of(2, 125, &|p| p.anc = parts_of_cells(32_769));
-    let protected = file_of(2, 125, &|p| {
-        p.anc = parts_of_cells(32_769);
-        p.anc[124].words[3] = 0;
+    let long = file_of(2, 140, &|p| p.anc = parts_of_cells(36_865));
+    let protected = file_of(2, 140, &|p| {
+        p.anc = parts_of_cells(36_865);
+        p.anc[139].words[3] = 0;
     });
     vec![
         read(9, &good[..end - 1], 5, 99, 2),
@@ -547,7 +559,7 @@ fn of_files(version: Version) -> Vec<Refused> {
             99,
             2,
         ),
-        read(16, &protected, 5, 0, 124),
+        read(16, &protected, 5, 0, 139),
         read(14, &good, 5, 41, 0),
         read(21, &long, 5, 0, 0),
         read(50, b"AN", 0, 99, 0),
@@ -576,7 +588,7 @@ fn of_lines_written() -> Vec<Refused> {
     let of = |number, what, start, cells, lent, index| {
         refused(number, what, Call::LineWrite { start, cells }, lent, index)
     };
-    let protected = [&A[..7], &[1, 0x3FC]].concat();
+    let protected = [&A[..7], &[1, 0, 0x3FC]].concat();
     let mut table = vec![
         of(70, "4,097 words, nothing to write", 0, Vec::new(), 4_097, 0),
         of(70, "before 71 and 20", 5_000, vec![9], 4_097, 0),
@@ -611,7 +623,7 @@ fn of_lines_read() -> Vec<Refused> {
         refused(number, what, Call::LineRead { line, start, place }, 50, index)
     };
     // A, and a packet of three words from word 7 on.
-    let line = stretch(&[&A[..], &cells(8 + 3)].concat());
+    let line = stretch(&[&A[..], &cells(RECORD_HEAD + 3)].concat());
     let with = |changes: &[(usize, u16)]| {
         let mut line = line.clone();
         changes.iter().for_each(|&(at, word)| line[at] = word);
@@ -644,7 +656,7 @@ fn of_lines_read() -> Vec<Refused> {
         of(11, "before 14", with(&[(16, 0x200)]), 0, here, 1),
     ];
     let (start, place) = (0, here);
-    table.push(refused(14, "18 of 19 cells", Call::LineRead { line, start, place }, 18, 0));
+    table.push(refused(14, "20 of 21 cells", Call::LineRead { line, start, place }, 20, 0));
     table
 }
 
@@ -687,7 +699,7 @@ fn every_number_with_its_index() {
         let state = memory.state.get_mut();
         state[10] += (case.number == 32) as u64;
         if case.number == 36 {
-            state[12..].copy_from_slice(&[1, HEAD.number as u64 + 1]);
+            state[12..14].copy_from_slice(&[1, HEAD.number as u64 + 1]);
         }
         let what = case.what;
         assert_eq!(number, case.number, "{what}: {:?}", case.call);
@@ -714,11 +726,11 @@ fn the_longest_packets_are_written() {
     let Limits { records, cells } = Limits::PACKET;
     let mut longest = 0;
     for (n, layout) in (0..256).flat_map(|n| Layout::ALL.map(|layout| (n, layout))) {
-        let records = records.min(cells / (8 + n));
-        let last = (n + cells - records * (8 + n)).min(255);
+        let records = records.min(cells / (RECORD_HEAD + n));
+        let last = (n + cells - records * (RECORD_HEAD + n)).min(255);
         let record = |n: usize| {
-            let mut cells = vec![0, 9, 0, 0, 0, 0x61, 0x02, n as u16];
-            cells.resize(8 + n, 0x155);
+            let mut cells = vec![0, 9, 0, 0, 0, 0x61, 0x02, n as u16, 0];
+            cells.resize(RECORD_HEAD + n, 0x155);
             cells
         };
         let list = [record(n).repeat(records - 1), record(last)].concat();

@@ -9,7 +9,7 @@ use reference::depacketizer::{open, State, FILLING, LOST, READY};
 use reference::packet::Head;
 use reference::random::{Parts, Random};
 
-const A: [u16; 8] = [0, 9, 0, 0, 0, 0x41, 0x05, 0];
+const A: [u16; 9] = [0, 9, 0, 0, 0, 0x41, 0x05, 0, 0];
 
 fn packet(source: u32, number: u32, marker: bool) -> Vec<u8> {
     let head = Head {
@@ -33,7 +33,8 @@ fn heard(last: u32, phase: u8, remembered: Option<u32>) -> State {
         timestamp: if filling { 9 } else { 0 },
         f: if filling { 2 } else { 0 },
         records: if filling { 2 } else { 0 },
-        cells: if filling { 16 } else { 0 },
+        cells: if filling { 18 } else { 0 },
+        packets: if filling { 2 } else { 0 },
         fresh: 70,
         late: 8,
         missing: 500,
@@ -97,11 +98,12 @@ fn distances_around_the_borders() {
                 if given == 36 {
                     let (kept, row) = (memory.state.get(), after.state.get());
                     assert_eq!(row[..12], kept[..12]);
-                    assert_eq!(row[12..], [1, number.wrapping_add(1) as u64]);
+                    assert_eq!(row[12..14], [1, number.wrapping_add(1) as u64]);
+                    assert_eq!(row[14], kept[14]);
                     assert_eq!(after.cells, memory.cells);
                 }
                 if given == 0 {
-                    assert_eq!(after.state.get()[12..], [0, 0]);
+                    assert_eq!(after.state.get()[12..14], [0, 0]);
                 }
             }
         }
@@ -176,7 +178,7 @@ fn power_cycles() {
             let (given, after) = compare(&call, &memory);
             if given == 0 && before[3] == 1 && is_far(before[4], arriving) {
                 met.add(&before, &since);
-                assert_eq!(after.state.get()[9..], [1, 0, 0, 0, 0]);
+                assert_eq!(after.state.get()[9..], [1, 0, 0, 0, 0, 0]);
             }
             match given {
                 0 | 36 => since.clear(),

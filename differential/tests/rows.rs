@@ -291,6 +291,7 @@ fn largest_numbers_of_a_state() {
         (13, u32::MAX as u64, 0),
         (5, u32::MAX as u64, 0),
         (6, 255, 0),
+        (14, 0, 0),
     ] {
         let mut memory = lent(ANSWER, STATE, &mut r);
         memory.state.get_mut()[at] = number;

@@ -69,9 +69,9 @@ fn the_text_is_the_same() {
     .text();
     assert_eq!(ours, reference_text());
     assert_eq!(ours.lines().count(), 5 + 8 * A_OCTETS);
-    let begins = "records 255: written 3080 read 255 2040 20145\nrecords 256: refused 21 0\n";
+    let begins = "records 255: written 3080 read 255 2295 20145\nrecords 256: refused 21 0\n";
     assert!(ours.starts_with(begins));
-    assert!(ours.contains("\ncells 32769: refused 21 0\npadding 0: refused 4 0\n"));
+    assert!(ours.contains("\ncells 36865: refused 21 0\npadding 0: refused 4 0\n"));
 }
 
 fn lent(cells: usize, octets: usize, r: &mut Random) -> Memory {
@@ -96,7 +96,7 @@ fn packet_and_back(layout: Layout, list: &[u16], r: &mut Random) -> [u8; 2] {
     let (written, after) = compare(&call, &lent(0, 60_000, r));
     let size = after.answer.get()[0] as usize;
     let octets = after.octets.get()[..size].to_vec();
-    let (read, back) = compare(&Call::Read { layout, octets }, &lent(32_770, 0, r));
+    let (read, back) = compare(&Call::Read { layout, octets }, &lent(36_870, 0, r));
     assert!(read != 0 || back.cells.get()[..list.len()] == *list);
     [written, read]
 }
@@ -112,7 +112,7 @@ fn field_and_back(list: &[u16], r: &mut Random) -> [u8; 2] {
     let (written, after) = compare(&call, &lent(0, 60_000, r));
     let size = after.answer.get()[0] as usize;
     let file = [b"ANF\0\x02", &after.octets.get()[..size]].concat();
-    let (read, back) = compare(&Call::FileRead { file, at: 5 }, &lent(32_770, 0, r));
+    let (read, back) = compare(&Call::FileRead { file, at: 5 }, &lent(36_870, 0, r));
     assert!(read != 0 || back.cells.get()[..list.len()] == *list);
     [written, read]
 }
@@ -126,8 +126,8 @@ fn the_limits_of_a_list() {
         (records(256), false, true),
         (records(4_095), false, true),
         (records(4_096), false, false),
-        (cells(32_768), true, true),
-        (cells(32_769), false, false),
+        (cells(36_864), true, true),
+        (cells(36_865), false, false),
     ] {
         for layout in Layout::ALL {
             let expected = if in_packet { [0, 0] } else { [21, 2] };
@@ -170,10 +170,10 @@ fn arrive(layout: Layout, octets: Vec<u8>, memory: &Memory) -> (u8, Memory) {
 fn the_limits_of_a_field() {
     let mut r = Random::new(402);
     for (list, store, kind) in [
-        (records(255), 2_040, 4),
-        (records(255), 2_039, 3),
-        (cells(32_768), 32_768, 4),
-        (cells(32_768), 32_767, 3),
+        (records(255), 2_295, 4),
+        (records(255), 2_294, 3),
+        (cells(36_864), 36_864, 4),
+        (cells(36_864), 36_863, 3),
     ] {
         for layout in Layout::ALL {
             let octets = written(layout, &head(layout), &list);
@@ -191,7 +191,7 @@ fn the_records_of_a_field() {
         .into_iter()
         .flat_map(|layout| [(layout, 15, 4), (layout, 16, 3)])
     {
-        let mut memory = ready(32_768, &mut r);
+        let mut memory = ready(36_864, &mut r);
         for k in 0..17 {
             let (number, marker) = (HEAD.number + k, k == 16);
             let head = packet::Head {

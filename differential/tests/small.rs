@@ -4,6 +4,7 @@
 use differential::call::{compare, compare_wanted, Call, Lengths, Memory};
 use differential::model::{number_of, row_of};
 use differential::{Head, Pair, ANSWER, DRAFTS, LAYOUT, RFC8331, STATE};
+use reference::anc::RECORD_HEAD;
 use reference::depacketizer::open;
 use reference::file::Version;
 use reference::random::{anc_of, carried, file_field, record, Parts, Random};
@@ -74,8 +75,8 @@ fn is_protected(word: u16) -> bool {
 
 /// A record of `n` words, 0x155 each but one.
 fn with_word(n: usize, place: usize, word: u16) -> Vec<u16> {
-    let mut cells = [&A[..7], &[n as u16], &vec![0x155; n][..]].concat();
-    cells[8 + place] = word;
+    let mut cells = [&A[..7], &[n as u16, 0], &vec![0x155; n][..]].concat();
+    cells[RECORD_HEAD + place] = word;
     cells
 }
 
@@ -130,7 +131,7 @@ fn every_place_of_a_protected_word() {
     for n in 1..256 {
         for place in 0..n {
             for word in [0x003, 0x004, 0x3FB, 0x3FC] {
-                let memory = lent(8 + n, 0);
+                let memory = lent(RECORD_HEAD + n, 0);
                 let cells = with_word(n, place, word);
                 let number = if is_protected(word) { 16 } else { 0 };
                 for layout in Layout::ALL {
@@ -177,10 +178,13 @@ fn every_count_of_words() {
             let octets = Parts::of(layout, HEAD, &cells).assemble();
             let size = 12 + layout.payload_header() + layout.packet_octets(n);
             assert_eq!(octets.len(), size);
-            assert_eq!(read(layout, octets.clone(), &lent(8 + n, 0)), 0);
-            assert_eq!(read(layout, octets.clone(), &lent(7 + n, 0)), 14);
+            assert_eq!(read(layout, octets.clone(), &lent(RECORD_HEAD + n, 0)), 0);
+            assert_eq!(
+                read(layout, octets.clone(), &lent(RECORD_HEAD - 1 + n, 0)),
+                14
+            );
             let cut = octets[..size - 1].to_vec();
-            assert_eq!(read(layout, cut, &lent(8 + n, 0)), 7);
+            assert_eq!(read(layout, cut, &lent(RECORD_HEAD + n, 0)), 7);
             let f = if layout == Layout::Rfc8331 { 2 } else { 0 };
             fits(&write(layout, 112, f, cells), size);
         }
@@ -321,7 +325,7 @@ fn every_word_of_a_line() {
     let list = [&A[..], &with_word(2, 0, 0x2AA)].concat();
     let mut line = vec![0x155; 20];
     assert_eq!(reference::sdi::write(&mut line, 2, &list), Ok(18));
-    let (memory, place) = (lent(18, 0), [1, 2, 3, 1, 5]);
+    let (memory, place) = (lent(20, 0), [1, 2, 3, 1, 5]);
     for at in 0..line.len() {
         for word in (0..1024).chain([0x400, 0x7FF, 0x8000, 0xFFFF]) {
             let mut line = line.clone();
@@ -351,8 +355,8 @@ fn every_count_in_a_line() {
             let line = after.cells.get()[start..].to_vec();
             let (start, place) = (0, [1, 0x7FF, 0xFFF, 1, 127]);
             let call_read = Call::LineRead { line, start, place };
-            assert_eq!(compare(&call_read, &lent(8 + n, 0)).0, 0);
-            assert_eq!(compare(&call_read, &lent(7 + n, 0)).0, 14);
+            assert_eq!(compare(&call_read, &lent(RECORD_HEAD + n, 0)).0, 0);
+            assert_eq!(compare(&call_read, &lent(RECORD_HEAD - 1 + n, 0)).0, 14);
         }
         let call = Call::LineWrite { start: 5, cells };
         assert_eq!(compare(&call, &lent(5 + 6 + n, 0)).0, 72);
@@ -512,7 +516,7 @@ fn kept_files_of_version_1() {
         let mut at = 5;
         for _ in 0..fields {
             let file = file.to_vec();
-            let (number, after) = compare(&Call::FileRead { file, at }, &lent(32_768, 0));
+            let (number, after) = compare(&Call::FileRead { file, at }, &lent(36_864, 0));
             assert_eq!(number, 0);
             at = after.answer.get()[4] as usize;
         }

@@ -41,7 +41,7 @@ enum Store {
 fn length(store: Store, r: &mut Random) -> usize {
     match store {
         Store::Fixed(length) => length,
-        Store::Changing => r.pick(&[0, 8, 40, 300, 2_000, 32_768, 40_000]),
+        Store::Changing => r.pick(&[0, 9, 40, 300, 2_000, 36_864, 40_000]),
     }
 }
 

@@ -12,7 +12,7 @@ use reference::Layout;
 const COUNTS: [u16; 4] = [2, 0, 255, 5];
 
 fn record(n: u16) -> Vec<u16> {
-    let mut cells = vec![1, 9, 4095, 0, 0, 0x61, 0x02, n];
+    let mut cells = vec![1, 9, 4095, 0, 0, 0x61, 0x02, n, 0];
     cells.extend((0..n).map(|word| 4 + word * 37 % 1016));
     cells
 }

@@ -1,6 +1,6 @@
 //! The depacketizer gathers packets into whole fields.
 
-use crate::anc::Limits;
+use crate::anc::{Limits, MAX_INDEX};
 use crate::layout::Layout;
 use crate::packet::{check, Accepted, Summary};
 use crate::refusal::Refusal;
@@ -9,8 +9,11 @@ pub const LOST: u8 = 0;
 pub const READY: u8 = 1;
 pub const FILLING: u8 = 2;
 
+/// Most packets of a field: the largest index is one less (02, K13).
+pub const MAX_PACKETS: usize = MAX_INDEX as usize + 1;
+
 /// The depacketizer's state. Where it is not filling, an arrival that is fresh
-/// leaves timestamp, F, records and cells 0.
+/// leaves timestamp, F, records, cells and packets 0.
 #[derive(Clone, Copy, Debug, PartialEq, Eq)]
 pub struct State {
     pub source: u32,
@@ -25,6 +28,8 @@ pub struct State {
     pub f: u8,
     pub records: usize,
     pub cells: usize,
+    /// Packets gathered, those without records too.
+    pub packets: usize,
     pub fresh: u64,
     pub late: u64,
     pub missing: u64,
@@ -43,6 +48,8 @@ pub enum Answer {
         f: u8,
         records: usize,
         cells: usize,
+        /// Packets of the field, those without records too.
+        packets: usize,
     },
     Refused(Refusal),
 }
@@ -127,6 +134,7 @@ impl State {
             f: 0,
             records: 0,
             cells: 0,
+            packets: 0,
             fresh: 0,
             late: 0,
             missing: 0,
@@ -146,6 +154,8 @@ impl State {
             && Limits::FIELD.hold(self.records, self.cells)
             && self.cells <= store
             && (self.phase == FILLING || (self.records == 0 && self.cells == 0))
+            && self.packets <= MAX_PACKETS
+            && (self.phase == FILLING) == (self.packets > 0)
             && (self.phase == LOST || self.heard)
     }
 
@@ -203,14 +213,17 @@ impl State {
     }
 
     /// Starts a field or joins one: overfull, whole or held. Not filling,
-    /// there are no records and cells to add to.
+    /// there are no records, cells and packets to add to.
     #[inline(always)]
     fn gather(self, packet: &Accepted, store: &mut [u16]) -> (State, Answer) {
         let summary = &packet.summary;
         let records = self.records + summary.records as usize;
         let cells = self.cells + summary.cells;
-        let fits = Limits::FIELD.hold(records, cells) && cells <= store.len();
-        if !fits || packet.run.read(&mut store[self.cells..]).is_err() {
+        let packets = self.packets + 1;
+        let fits =
+            Limits::FIELD.hold(records, cells) && packets <= MAX_PACKETS && cells <= store.len();
+        let index = self.packets as u16;
+        if !fits || packet.run.read(index, &mut store[self.cells..]).is_err() {
             return (self.drop_field(summary.marker), Answer::Overfull);
         }
         let (timestamp, f) = (summary.timestamp, summary.f);
@@ -220,6 +233,7 @@ impl State {
                 f,
                 records,
                 cells,
+                packets,
             };
             return (self.drop_field(true), whole);
         }
@@ -229,6 +243,7 @@ impl State {
             f,
             records,
             cells,
+            packets,
             ..self
         };
         (filling, Answer::Held)
@@ -243,6 +258,7 @@ impl State {
             f: 0,
             records: 0,
             cells: 0,
+            packets: 0,
             ..self
         }
     }

@@ -83,6 +83,7 @@ impl Listing {
                 f,
                 records,
                 cells,
+                ..
             } => {
                 self.line(format_args!(
                     "{number} whole ts={timestamp} f={f} records={records}"
@@ -111,7 +112,7 @@ impl Listing {
 /// Numbers are decimal, but did and sdid two lower-case hex digits; words
 /// follow the count, each a space and three lower-case hex digits.
 fn write_record(text: &mut String, head: &[u16; RECORD_HEAD], words: &[u16]) {
-    let [c, line, offset, s, stream, did, sdid, n] = *head;
+    let [c, line, offset, s, stream, did, sdid, n, _] = *head;
     let channel = if c == 0 { 'y' } else { 'c' };
     // Writing to a String does not fail.
     let _ = write!(

@@ -1,7 +1,8 @@
 //! The field file: `ANF`, a 16-bit version, then fields. A field is its
 //! timestamp (32 bits), F (one octet), count, ANC packets. The count is one
 //! octet in version 1 and two in version 2 (02, K2): both are read, 2 is
-//! written. The ANC packets are RFC 8331's.
+//! written. The ANC packets are RFC 8331's,
+//! and which packet a record came in is not stored: it reads as 0.
 
 use crate::anc::{check_list, check_run, Limits};
 use crate::layout::Layout;
@@ -95,7 +96,7 @@ pub fn read(file: &[u8], offset: usize, cells: &mut [u16]) -> Result<Field, Refu
     if !Limits::FIELD.hold(run.records(), run.cells()) {
         return Err(Refusal::plain(21));
     }
-    run.read(cells)?;
+    run.read(0, cells)?;
     Ok(Field {
         timestamp: number(&head[..4]) as u32,
         f,

@@ -176,7 +176,7 @@ fn extension(octets: &[u8], at: usize) -> Result<usize, u8> {
 #[inline]
 pub fn read(layout: Layout, octets: &[u8], cells: &mut [u16]) -> Result<Summary, Refusal> {
     let passed = tolerate(layout, octets)?;
-    passed.run.read(cells)?;
+    passed.run.read(0, cells)?;
     Ok(passed.summary)
 }
 
@@ -184,7 +184,7 @@ pub fn read(layout: Layout, octets: &[u8], cells: &mut [u16]) -> Result<Summary,
 #[inline]
 pub fn read_strict(layout: Layout, octets: &[u8], cells: &mut [u16]) -> Result<Summary, Refusal> {
     let accepted = check(layout, octets)?;
-    accepted.run.read(cells)?;
+    accepted.run.read(0, cells)?;
     Ok(accepted.summary)
 }
 

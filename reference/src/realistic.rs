@@ -25,7 +25,7 @@ pub fn records(r: &mut Random) -> Vec<u16> {
     let mut cells = Vec::new();
     for (place, (did, sdid, fewest, most)) in KINDS.into_iter().enumerate() {
         let n = fewest + r.below(most - fewest + 1);
-        cells.extend([0, 9 + place as u16, 0xFFF, 0, 0, did, sdid, n as u16]);
+        cells.extend([0, 9 + place as u16, 0xFFF, 0, 0, did, sdid, n as u16, 0]);
         cells.extend((0..n).map(|_| clear_word(r)));
     }
     cells

@@ -3,13 +3,13 @@
 
 use std::fmt::Write;
 
-use crate::anc::Limits;
+use crate::anc::{Limits, COUNT};
 use crate::layout::Layout;
 use crate::packet::{self, Head, Summary, MAX_PACKET};
 use crate::refusal::Refusal;
 
 /// Record A of 01.
-pub const A: [u16; 8] = [0, 9, 0, 0, 0, 0x41, 0x05, 0];
+pub const A: [u16; 9] = [0, 9, 0, 0, 0, 0x41, 0x05, 0, 0];
 /// The head of every packet: the first of the frames that 01 lists.
 pub const HEAD: Head = Head {
     source: 1,
@@ -53,8 +53,9 @@ pub fn cells(count: usize) -> Vec<u16> {
     let mut word = 0;
     while list.len() + A.len() <= count {
         let n = (count - list.len() - A.len()).min(255) as u16;
-        list.extend(&A[..7]);
-        list.push(n);
+        list.extend(A);
+        let head = list.len() - A.len();
+        list[head + COUNT] = n;
         list.extend((word..word + n).map(|word| 4 + word % 1016));
         word = (word + n) % 1016;
     }

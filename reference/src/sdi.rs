@@ -60,8 +60,8 @@ pub fn write(line: &mut [u16], start: usize, cells: &[u16]) -> Result<usize, Ref
     check_line(line, start)?;
     // A line has no layout: both have the same lists.
     let list = check_list(Layout::Rfc8331, cells)?;
-    // A record's head has eight cells, a packet seven words besides its own.
-    let words = list.cells() - list.records();
+    // A record's head has nine cells, a packet seven words besides its own.
+    let words = list.cells() - 2 * list.records();
     let Some(stretch) = line[start..].get_mut(..words) else {
         return Err(Refusal::plain(72));
     };
@@ -71,7 +71,7 @@ pub fn write(line: &mut [u16], start: usize, cells: &[u16]) -> Result<usize, Ref
 
 fn write_packets(mut stretch: &mut [u16], mut cells: &[u16]) {
     while let Some((head, rest)) = cells.split_first_chunk::<RECORD_HEAD>() {
-        let [_, _, _, _, _, did, sdid, n] = head.map(usize::from);
+        let [_, _, _, _, _, did, sdid, n, _] = head.map(usize::from);
         let (words, left) = rest.split_at(n);
         let (packet, after) = stretch.split_at_mut(FLAG.len() + FRAME + n);
         let (flag, packet) = packet.split_at_mut(FLAG.len());
@@ -164,7 +164,7 @@ fn read_packets(mut left: &[u16], place: Place, mut cells: &mut [u16]) {
         let [did, sdid, n] = [packet[0], packet[1], packet[2]].map(|word| word & 0xFF);
         let (record, rest) = cells.split_at_mut(RECORD_HEAD + n as usize);
         let (head, words) = record.split_at_mut(RECORD_HEAD);
-        head.copy_from_slice(&[c, line, offset, s, stream, did, sdid, n]);
+        head.copy_from_slice(&[c, line, offset, s, stream, did, sdid, n, 0]);
         words.copy_from_slice(&packet[3..3 + words.len()]);
         (left, cells) = (&packet[FRAME + words.len()..], rest);
     }

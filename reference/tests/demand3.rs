@@ -50,8 +50,9 @@ fn fields(stream: &Stream) -> Vec<Range<usize>> {
     fields
 }
 
-/// Timestamp, F, records and cells of a field as sent.
-type Field = (u32, u8, usize, Vec<u16>);
+/// Timestamp, F, records, packets and cells of a field as sent: each record has
+/// the index of its packet in the field.
+type Field = (u32, u8, usize, usize, Vec<u16>);
 
 fn as_sent(stream: &Stream, packets: Range<usize>) -> Field {
     let packets = &stream.sent[packets];
@@ -59,7 +60,12 @@ fn as_sent(stream: &Stream, packets: Range<usize>) -> Field {
         packets[0].head.timestamp,
         packets[0].head.f,
         packets.iter().map(|sent| sent.records).sum(),
-        packets.iter().flat_map(|sent| sent.cells.clone()).collect(),
+        packets.len(),
+        packets
+            .iter()
+            .enumerate()
+            .flat_map(|(index, sent)| indexed(&sent.cells, index as u16))
+            .collect(),
     )
 }
 
@@ -100,9 +106,10 @@ fn deliver_from(
             f,
             records,
             cells,
+            packets,
         } = answer
         {
-            handed.push((timestamp, f, records, store[..cells].to_vec()));
+            handed.push((timestamp, f, records, packets, store[..cells].to_vec()));
         }
     }
     (state, handed)
@@ -137,7 +144,7 @@ fn check(stream: &Stream, arrivals: &[Arrival], store: usize) -> usize {
 fn widest(stream: &Stream) -> usize {
     let cells = fields(stream)
         .into_iter()
-        .map(|packets| as_sent(stream, packets).3.len());
+        .map(|packets| as_sent(stream, packets).4.len());
     cells.max().unwrap_or(0)
 }
 

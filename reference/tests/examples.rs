@@ -7,11 +7,11 @@ use reference::{Layout, Refusal};
 
 const LAYOUT: Layout = Layout::Rfc8331;
 
-const A_CELLS: [u16; 8] = [0, 9, 0, 0, 0, 0x41, 0x05, 0];
+const A_CELLS: [u16; 9] = [0, 9, 0, 0, 0, 0x41, 0x05, 0, 0];
 const A_OCTETS: [u8; 12] = [
     0x00, 0x90, 0x00, 0x00, 0x90, 0x60, 0x58, 0x02, 0x46, 0, 0, 0,
 ];
-const B_CELLS: [u16; 10] = [1, 0x7FF, 0xFFF, 1, 3, 0x61, 0x02, 2, 0x2AA, 0x155];
+const B_CELLS: [u16; 11] = [1, 0x7FF, 0xFFF, 1, 3, 0x61, 0x02, 2, 0, 0x2AA, 0x155];
 const B_OCTETS: [u8; 12] = [
     0xFF, 0xFF, 0xFF, 0x83, 0x58, 0x50, 0x24, 0x0A, 0xAA, 0x55, 0x56, 0x40,
 ];
@@ -60,12 +60,12 @@ fn a_and_b_in_a_packet() {
     );
     assert_eq!(&octets[12..20], [0, 1, 0, 24, 2, 0x80, 0, 0]);
     assert_eq!(octets[20..], [A_OCTETS, B_OCTETS].concat());
-    let mut cells = [0xEEEE; 20];
+    let mut cells = [0xEEEE; 22];
     let summary = read(LAYOUT, &octets, &mut cells).unwrap();
     assert_eq!(summary.head(), head(0x0001_FFFF, 5, 2));
-    assert_eq!((summary.records, summary.cells), (2, 18));
-    assert_eq!(&cells[..18], list);
-    assert_eq!(&cells[18..], [0xEEEE; 2]);
+    assert_eq!((summary.records, summary.cells), (2, 20));
+    assert_eq!(&cells[..20], list);
+    assert_eq!(&cells[20..], [0xEEEE; 2]);
 }
 
 #[test]
@@ -109,7 +109,7 @@ fn other_listings() {
         ..head(number, timestamp, 2)
     };
     let big: Vec<u16> = (0..70)
-        .flat_map(|_| [vec![0, 0, 0, 0, 0, 0, 0, 255], vec![4; 255]].concat())
+        .flat_map(|_| [vec![0, 0, 0, 0, 0, 0, 0, 255, 0], vec![4; 255]].concat())
         .collect();
     let foreign = Head {
         source: 2,
@@ -163,8 +163,8 @@ fn a_with_each_bit_changed() {
         };
         match check_run(LAYOUT, &octets, 1) {
             Ok(run) => {
-                let mut cells = [0; 8];
-                run.read(&mut cells).unwrap();
+                let mut cells = [0; 9];
+                run.read(0, &mut cells).unwrap();
                 assert_eq!(number, 0);
                 assert_ne!(cells, A_CELLS);
                 assert_eq!(cells[5..], A_CELLS[5..]);
@@ -186,17 +186,17 @@ fn limits_of_the_writer() {
         write(LAYOUT, &head(0, 0, 0), &records(256), &mut out),
         Err(Refusal::plain(21))
     );
-    // 124 records of 263 cells and one of 156: 32,768 cells.
+    // 139 records of 264 cells and one of 168: 36,864 cells.
     let mut cells = Vec::new();
-    for n in [255; 124].into_iter().chain([148]) {
-        cells.extend([0, 0, 0, 0, 0, 0, 0, n]);
+    for n in [255; 139].into_iter().chain([159]) {
+        cells.extend([0, 0, 0, 0, 0, 0, 0, n, 0]);
         cells.extend(vec![0x3FB; n as usize]);
     }
-    assert_eq!(cells.len(), 32_768);
+    assert_eq!(cells.len(), 36_864);
     assert!(write(LAYOUT, &head(0, 0, 0), &cells, &mut out).is_ok());
     cells.push(4);
-    cells[124 * 263 + 7] = 149;
-    assert_eq!(cells.len(), 32_769);
+    cells[139 * 264 + 7] = 160;
+    assert_eq!(cells.len(), 36_865);
     assert_eq!(
         write(LAYOUT, &head(0, 0, 0), &cells, &mut out),
         Err(Refusal::plain(21))
@@ -207,7 +207,7 @@ fn limits_of_the_writer() {
 #[test]
 fn leading_zeros_in_a_listing() {
     let mut input = Vec::new();
-    let cells = [0, 0, 12, 0, 5, 0x0A, 0x00, 3, 4, 0x0F, 0x3FB];
+    let cells = [0, 0, 12, 0, 5, 0x0A, 0x00, 3, 0, 4, 0x0F, 0x3FB];
     put_frame(&packet(&head(1, 0, 0), &[]), &mut input);
     put_frame(&packet(&head(2, 0, 0), &cells), &mut input);
     let output = "fieldlist 1\n\

@@ -16,10 +16,10 @@ const PLACE: Place = Place {
     stream: 127,
 };
 /// Record A of 01, and its words from the flag to the checksum.
-const A: [u16; 8] = [0, 9, 0, 0, 0, 0x41, 0x05, 0];
+const A: [u16; 9] = [0, 9, 0, 0, 0, 0x41, 0x05, 0, 0];
 const A_WORDS: [u16; 7] = [0x000, 0x3FF, 0x3FF, 0x241, 0x205, 0x200, 0x246];
 /// Record B of 01: two words.
-const B: [u16; 10] = [1, 0x7FF, 0xFFF, 1, 3, 0x61, 0x02, 2, 0x2AA, 0x155];
+const B: [u16; 11] = [1, 0x7FF, 0xFFF, 1, 3, 0x61, 0x02, 2, 0, 0x2AA, 0x155];
 const B_WORDS: [u16; 9] = [
     0x000, 0x3FF, 0x3FF, 0x161, 0x102, 0x102, 0x2AA, 0x155, 0x164,
 ];
@@ -52,12 +52,12 @@ fn found(line: &[u16], start: usize) -> (Found, Vec<u16>) {
     (found, cells)
 }
 
-/// The records with the place of another.
+/// The records with the place of another, as they are read: index 0.
 fn placed(cells: &[u16], place: Place) -> Vec<u16> {
     let of = [place.c, place.line, place.offset, place.s, place.stream];
     let records = split_records(cells).into_iter();
     records
-        .flat_map(|record| [&of, &record[5..]].concat())
+        .flat_map(|record| [&of, &record[5..8], &[0], &record[9..]].concat())
         .collect()
 }
 
@@ -71,7 +71,7 @@ fn a_and_b_in_a_line() {
     assert_eq!(line[9..18], B_WORDS);
     assert_eq!(line[18..], [0x155; 2]);
     let (got, cells) = found(&line, 2);
-    assert_eq!((got.records, got.cells, got.end), (2, 18, 18));
+    assert_eq!((got.records, got.cells, got.end), (2, 20, 18));
     assert_eq!(cells, placed(&list, PLACE));
     // From the second packet on, and from where no flag stands.
     assert_eq!(found(&line, 9).1, placed(&B, PLACE));
@@ -97,8 +97,8 @@ fn the_empty_list() {
 #[test]
 fn writing_70_71_20_16_72() {
     let long = vec![0x155; 4_097];
-    let cut = &A[..7];
-    let bad = [&A[..], &A, &[0, 9, 0, 0, 0, 0x41, 0x05, 1, 3]].concat();
+    let cut = &A[..8];
+    let bad = [&A[..], &A, &[0, 9, 0, 0, 0, 0x41, 0x05, 1, 0, 3]].concat();
     assert_eq!(write_refused(&long, 5_000, cut), (70, 0));
     assert_eq!(write_refused(&long, 0, &[]), (70, 0));
     let line = &long[1..];
@@ -112,12 +112,12 @@ fn writing_70_71_20_16_72() {
         (20, 3)
     );
     assert_eq!(write_refused(line, 4_096, &bad), (16, 2));
-    for (cell, limit) in [1, 0x7FF, 0xFFF, 1, 127, 255, 255, 255]
+    for (cell, limit) in [1, 0x7FF, 0xFFF, 1, 127, 255, 255, 255, 4_095]
         .into_iter()
         .enumerate()
     {
         let mut list = A.repeat(2);
-        list[8 + cell] = limit + 1;
+        list[9 + cell] = limit + 1;
         assert_eq!(write_refused(line, 0, &list), (20, 1));
     }
     // The last place where A fits, and one more.
@@ -136,7 +136,7 @@ fn as_many_records_as_fit() {
     let mut line = vec![0x155; 4_096];
     assert_eq!(write(&mut line, 1, &A.repeat(585)), Ok(4_096));
     let (got, cells) = found(&line, 1);
-    assert_eq!((got.records, got.cells, got.end), (585, 4_680, 4_096));
+    assert_eq!((got.records, got.cells, got.end), (585, 5_265, 4_096));
     assert_eq!(cells, placed(&A.repeat(585), PLACE));
     assert_eq!(write_refused(&line, 1, &A.repeat(586)), (72, 0));
     assert_eq!(write_refused(&line, 2, &A.repeat(585)), (72, 0));
@@ -240,7 +240,7 @@ fn reading_9_10_9_16_11_14() {
         let line = damaged(index, |packet| packet[7] = 0x004);
         assert_eq!(reading(&line), (11, index));
         let line = damaged(index, |_| {});
-        let need = 8 * index + 10;
+        let need = 9 * index + 11;
         assert_eq!(read_refused(&line, 0, PLACE, need - 1), (14, 0));
         assert!(read(&line, 0, PLACE, &mut vec![0; need]).is_ok());
     }
@@ -293,7 +293,7 @@ fn written_and_read() {
         let Ok(end) = write(&mut line, start, &cells) else {
             continue;
         };
-        assert_eq!(end - start, cells.len() - records);
+        assert_eq!(end - start, cells.len() - 2 * records);
         assert_eq!(line[..start], before[..start]);
         assert_eq!(line[end..], before[end..]);
         if line[end..].starts_with(&FLAG) {

@@ -10,7 +10,7 @@ use reference::random::{Anc, Parts};
 use reference::{fieldlist, Layout, Refusal};
 
 const OLD: Layout = Layout::Draft2015;
-const A_CELLS: [u16; 8] = [0, 9, 0, 0, 0, 0x41, 0x05, 0];
+const A_CELLS: [u16; 9] = [0, 9, 0, 0, 0, 0x41, 0x05, 0, 0];
 const A_OCTETS: [u8; 9] = [0x00, 0x90, 0x00, 0x90, 0x60, 0x58, 0x00, 0x91, 0x80];
 const HEAD: Head = Head {
     source: 5,
@@ -22,7 +22,7 @@ const HEAD: Head = Head {
 };
 
 fn record(n: u16) -> Vec<u16> {
-    let mut cells = vec![1, 9, 4095, 0, 0, 0x61, 0x02, n];
+    let mut cells = vec![1, 9, 4095, 0, 0, 0x61, 0x02, n, 0];
     cells.extend((0..n).map(|word| 4 + word * 37 % 1016));
     cells
 }
@@ -59,12 +59,12 @@ fn a_in_a_packet() {
     assert_eq!(out[12..17], [0, 1, 0, 9, 1]);
     assert_eq!(out[17..26], A_OCTETS);
     assert_eq!(out[26..], [0xEE; 4]);
-    let mut cells = [0xEEEE; 10];
+    let mut cells = [0xEEEE; 11];
     let summary = packet::read(OLD, &out[..26], &mut cells).unwrap();
     assert_eq!(summary.head(), HEAD);
-    assert_eq!((summary.records, summary.cells), (1, 8));
-    assert_eq!(cells[..8], A_CELLS);
-    assert_eq!(cells[8..], [0xEEEE; 2]);
+    assert_eq!((summary.records, summary.cells), (1, 9));
+    assert_eq!(cells[..9], A_CELLS);
+    assert_eq!(cells[9..], [0xEEEE; 2]);
 }
 
 #[test]
@@ -96,8 +96,8 @@ fn a_with_each_bit_changed() {
         };
         match check_run(OLD, &octets, 1) {
             Ok(run) => {
-                let mut cells = [0; 8];
-                run.read(&mut cells).unwrap();
+                let mut cells = [0; 9];
+                run.read(0, &mut cells).unwrap();
                 assert_eq!(number, 0);
                 assert_ne!(cells[..3], A_CELLS[..3]);
                 assert_eq!(cells[3..], A_CELLS[3..]);
@@ -188,21 +188,21 @@ fn reading_10_to_15() {
     made.extra = vec![0];
     assert_eq!(read(&made.assemble(), 0), Some((13, 0)));
     made.extra = Vec::new();
-    assert_eq!(read(&made.assemble(), 24), Some((14, 0)));
-    assert_eq!(read(&made.assemble(), 25), None);
+    assert_eq!(read(&made.assemble(), 26), Some((14, 0)));
+    assert_eq!(read(&made.assemble(), 27), None);
 }
 
 /// 001's sentence, not 000's "lower 8 bits": the sum's ninth bit counts.
 #[test]
 fn nine_bits_of_checksum() {
     let mut cells = record(1);
-    cells[8] = 0x0FF;
+    cells[9] = 0x0FF;
     let mut made = Parts::of(OLD, HEAD, &cells);
     assert_eq!(read(&made.assemble(), 100), None);
     // 0x161 + 0x102 + 0x101 + 0x0FF in nine bits is 0x063; 0x1FF in the
     // word's place sets the ninth.
     assert_eq!(made.anc[0].words[4], 0x263);
-    cells[8] = 0x1FF;
+    cells[9] = 0x1FF;
     made = Parts::of(OLD, HEAD, &cells);
     assert_eq!(made.anc[0].words[4], 0x163);
     assert_eq!(read(&made.assemble(), 100), None);
@@ -230,7 +230,7 @@ fn writing_24_20_21_25_23() {
     let with = |f| Head { f, ..HEAD };
     let streamed = |cell: usize, value: u16| {
         let mut list = [record(3), record(0), record(9)].concat();
-        list[11 + cell] = value;
+        list[12 + cell] = value;
         list
     };
     for f in [1, 4, 255] {
@@ -272,10 +272,10 @@ fn limits_of_the_writer() {
     let mut of = |list: &[u16]| packet::write(OLD, &HEAD, list, &mut out);
     assert_eq!(of(&A_CELLS.repeat(255)), Ok(17 + 255 * 9));
     assert_eq!(of(&A_CELLS.repeat(256)), Err(Refusal::plain(21)));
-    let list = |last| [record(255).repeat(124), record(last)].concat();
-    assert_eq!(list(148).len(), 32_768);
-    assert_eq!(of(&list(148)), Ok(17 + 124 * 327 + 194));
-    assert_eq!(of(&list(149)), Err(Refusal::plain(21)));
+    let list = |last| [record(255).repeat(139), record(last)].concat();
+    assert_eq!(list(159).len(), 36_864);
+    assert_eq!(of(&list(159)), Ok(17 + 139 * 327 + 207));
+    assert_eq!(of(&list(160)), Err(Refusal::plain(21)));
 }
 
 fn ready() -> State {
@@ -321,11 +321,12 @@ fn arrivals() {
         timestamp: 9,
         f: 0,
         records: 2,
-        cells: 18,
+        cells: 20,
+        packets: 1,
     };
     assert_eq!((answer, after.fresh), (whole, 1));
-    assert_eq!(store[..18], [record(2), record(0)].concat());
-    assert_eq!(store[18..], [0x5A5A; 22]);
+    assert_eq!(store[..20], [record(2), record(0)].concat());
+    assert_eq!(store[20..], [0x5A5A; 20]);
 }
 
 /// 01's example in the old layout, and told the other.

@@ -21,7 +21,7 @@ fn input(layout: Layout) -> Vec<u8> {
             timestamp: 1000,
             f: 0,
         };
-        let cells = [0, 9, 0, 0, 0, 0x41, 0x05, 0];
+        let cells = [0, 9, 0, 0, 0, 0x41, 0x05, 0, 0];
         put_frame(&Parts::of(layout, head, &cells).assemble(), &mut input);
     }
     input

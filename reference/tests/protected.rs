@@ -18,7 +18,7 @@ const HEAD: Head = Head {
 };
 
 fn record(words: &[u16]) -> Vec<u16> {
-    let head = [0, 9, 0, 0, 0, 0x61, 0x02, words.len() as u16];
+    let head = [0, 9, 0, 0, 0, 0x61, 0x02, words.len() as u16, 0];
     [&head, words].concat()
 }
 
@@ -86,13 +86,13 @@ fn every_place() {
         for place in 0..n {
             let word = [0, 3, 0x3FC, 0x3FF][(n + place) % 4];
             let mut list = good.clone();
-            list[8 + place] = word;
+            list[9 + place] = word;
             for layout in Layout::ALL {
                 assert_eq!(read(&Parts::of(layout, HEAD, &list)), Some((16, 0)));
                 assert_eq!(write(layout, &HEAD, &list, 0), Some((16, 0)));
-                list[8 + place] = [4, 0x3FB][place % 2];
+                list[9 + place] = [4, 0x3FB][place % 2];
                 assert_eq!(read(&Parts::of(layout, HEAD, &list)), None);
-                list[8 + place] = word;
+                list[9 + place] = word;
             }
         }
     }
@@ -137,12 +137,12 @@ fn the_order_of_reading() {
 #[test]
 fn the_order_of_writing() {
     let (clear, bad) = (record(&[5, 6]), record(&[5, 0x3FE]));
-    let cut = &clear[..9];
+    let cut = &clear[..10];
     let both = [&bad[..], cut].concat();
     let later = [&clear[..], &bad, &bad].concat();
     let many = [clear.repeat(4_096), bad.clone()].concat();
     let mut wide = [bad.clone(), bad.clone()].concat();
-    wide[10 + 8] = 1024;
+    wide[11 + 9] = 1024;
     for layout in Layout::ALL {
         let write = |head: &Head, list: &[u16]| write(layout, head, list, 0);
         assert_eq!(write(&Head { f: 1, ..HEAD }, &bad), Some((24, 0)));
@@ -165,13 +165,13 @@ fn the_order_of_writing() {
 /// In a file 16 comes before 21, for either version.
 #[test]
 fn the_order_in_a_file() {
-    let mut anc = anc_of(&record(&[0x200; 255]).repeat(125));
+    let mut anc = anc_of(&record(&[0x200; 255]).repeat(140));
     for version in [Version::One, Version::Two] {
         assert_eq!(file_read(version, &anc), Some((21, 0)));
     }
-    anc[124] = Anc::of(&record(&[3]));
+    anc[139] = Anc::of(&record(&[3]));
     for version in [Version::One, Version::Two] {
-        assert_eq!(file_read(version, &anc), Some((16, 124)));
+        assert_eq!(file_read(version, &anc), Some((16, 139)));
     }
 }
 

@@ -20,7 +20,7 @@ const HEAD: Head = Head {
 };
 
 fn record(n: u16) -> Vec<u16> {
-    let mut cells = vec![1, 9, 4095, 1, 127, 0x61, 0x02, n];
+    let mut cells = vec![1, 9, 4095, 1, 127, 0x61, 0x02, n, 4095];
     cells.extend((0..n).map(|word| 4 + word * 37 % 1016));
     cells
 }
@@ -134,8 +134,8 @@ fn reading_9_to_14() {
     made.extra = vec![0];
     assert_eq!(read(&made.assemble(), 0), Some((13, 0)));
     made.extra = Vec::new();
-    assert_eq!(read(&made.assemble(), 24), Some((14, 0)));
-    assert_eq!(read(&made.assemble(), 25), None);
+    assert_eq!(read(&made.assemble(), 26), Some((14, 0)));
+    assert_eq!(read(&made.assemble(), 27), None);
 }
 
 /// Every place of the alignment, for every n.
@@ -182,26 +182,26 @@ fn writing_24_20_21_23() {
         };
         assert_eq!(write(&head, &bad, 0), Some((24, 0)));
     }
-    let limits = [1, 0x7FF, 0xFFF, 1, 127, 255, 255, 255];
+    let limits = [1, 0x7FF, 0xFFF, 1, 127, 255, 255, 255, 4_095];
     for index in [0, 1, 7, 299] {
         let before: Vec<u16> = (0..index).flat_map(|_| record(0)).collect();
         for (cell, limit) in limits.into_iter().enumerate() {
             let mut list = [&before[..], &record(2)].concat();
-            list[8 * index + cell] = limit + 1;
+            list[9 * index + cell] = limit + 1;
             assert_eq!(write(&HEAD, &list, 0), Some((20, index)));
             assert_eq!(file_write(0, &list, 0), Some((20, index)));
         }
-        for size in 1..11 {
+        for size in 1..12 {
             let list = [&before[..], &record(3)[..size]].concat();
             assert_eq!(write(&HEAD, &list, 0), Some((20, index)));
         }
         let mut list = [&before[..], &record(40), &record(1)].concat();
-        list[8 * index + 40] = 1024;
+        list[9 * index + 40] = 1024;
         assert_eq!(write(&HEAD, &list, 0), Some((20, index)));
     }
     // 21 before 23: by records, by cells; of a packet, of a field.
-    let long = record(255).repeat(125);
-    assert_eq!(long.len(), 32_875);
+    let long = record(255).repeat(140);
+    assert_eq!(long.len(), 36_960);
     for (list, of_a_field) in [
         (record(0).repeat(256), 23),
         (record(0).repeat(4_095), 23),
@@ -237,6 +237,7 @@ fn sound() -> State {
         f: 2,
         records: 3,
         cells: 40,
+        packets: 2,
         late: 8,
         ..open(5, 96).unwrap()
     }
@@ -272,6 +273,7 @@ fn depacketizer_35_then_1_to_13_then_30_31_then_32_or_36() {
         phase: LOST,
         records: 0,
         cells: 0,
+        packets: 0,
         ..sound()
     };
     let unsound = [
@@ -280,7 +282,7 @@ fn depacketizer_35_then_1_to_13_then_30_31_then_32_or_36() {
             ..sound()
         },
         State {
-            cells: 32_769,
+            cells: 36_865,
             ..sound()
         },
         State {
@@ -303,6 +305,20 @@ fn depacketizer_35_then_1_to_13_then_30_31_then_32_or_36() {
         },
         State { records: 1, ..lost },
         State { cells: 1, ..lost },
+        State { packets: 1, ..lost },
+        State {
+            phase: READY,
+            packets: 1,
+            ..lost
+        },
+        State {
+            packets: 0,
+            ..sound()
+        },
+        State {
+            packets: 4_097,
+            ..sound()
+        },
         State {
             heard: false,
             ..sound()
@@ -318,9 +334,9 @@ fn depacketizer_35_then_1_to_13_then_30_31_then_32_or_36() {
         assert_eq!(refused(state, &[]), Some((35, 0)));
     }
     for (records, cells, refusal) in [
-        (4_095, 32_768, None),
-        (4_096, 32_768, Some((35, 0))),
-        (4_095, 32_769, Some((35, 0))),
+        (4_095, 36_864, None),
+        (4_096, 36_864, Some((35, 0))),
+        (4_095, 36_865, Some((35, 0))),
     ] {
         let state = State {
             records,
@@ -457,8 +473,8 @@ fn file_reading_of(version: Version) {
     let file_of = |f, count, anc: &[Anc]| file_of(version, f, count, anc);
     let anc = |counts: &[u16]| parts(counts).anc;
     let good = file_of(2, 3, &anc(&[0, 3, 12]));
-    assert_eq!(file_read(&good, 5, 39), None);
-    assert_eq!(file_read(&good, 5, 38), Some((14, 0)));
+    assert_eq!(file_read(&good, 5, 42), None);
+    assert_eq!(file_read(&good, 5, 41), Some((14, 0)));
     for offset in [0, 4, good.len() + 1, usize::MAX] {
         assert_eq!(file_read(&good, offset, 99), Some((55, 0)));
     }
@@ -487,13 +503,13 @@ fn file_reading_of(version: Version) {
         }
         assert_eq!(file_read(&file_of(0, 3, &anc), 5, 0), Some((number, index)));
     }
-    let long = anc(&[255; 125]);
-    assert_eq!(file_read(&file_of(0, 125, &long), 5, 0), Some((21, 0)));
-    assert_eq!(file_read(&file_of(0, 124, &long), 5, 0), Some((14, 0)));
+    let long = anc(&[255; 140]);
+    assert_eq!(file_read(&file_of(0, 140, &long), 5, 0), Some((21, 0)));
+    assert_eq!(file_read(&file_of(0, 139, &long), 5, 0), Some((14, 0)));
     // The packets come before the limits: 11 where 21 is due as well.
     let mut bad = long;
-    bad[124].words[9] ^= 1;
-    assert_eq!(file_read(&file_of(0, 125, &bad), 5, 0), Some((11, 124)));
+    bad[139].words[9] ^= 1;
+    assert_eq!(file_read(&file_of(0, 140, &bad), 5, 0), Some((11, 139)));
 }
 
 /// The limits of a field, and a count that needs both octets.
@@ -501,8 +517,8 @@ fn file_reading_of(version: Version) {
 fn file_21_by_records() {
     let two = |count, anc: &[Anc]| file_of(Version::Two, 0, count, anc);
     let many = vec![Anc::of(&record(0)); 4_096];
-    assert_eq!(file_read(&two(4_095, &many[1..]), 5, 32_760), None);
-    assert_eq!(file_read(&two(4_095, &many[1..]), 5, 32_759), Some((14, 0)));
+    assert_eq!(file_read(&two(4_095, &many[1..]), 5, 36_855), None);
+    assert_eq!(file_read(&two(4_095, &many[1..]), 5, 36_854), Some((14, 0)));
     assert_eq!(file_read(&two(4_096, &many), 5, 0), Some((21, 0)));
     assert_eq!(file_read(&two(4_097, &many), 5, 0), Some((9, 4_096)));
     assert_eq!(file_read(&two(65_535, &many), 5, 0), Some((9, 4_096)));

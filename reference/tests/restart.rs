@@ -8,7 +8,7 @@ use reference::random::Parts;
 use reference::{fieldlist, Layout, Refusal};
 
 const LAYOUT: Layout = Layout::Rfc8331;
-const A: [u16; 8] = [0, 9, 0, 0, 0, 0x41, 0x05, 0];
+const A: [u16; 9] = [0, 9, 0, 0, 0, 0x41, 0x05, 0, 0];
 
 fn packet(number: u32, marker: bool) -> Vec<u8> {
     let head = Head {
@@ -33,6 +33,7 @@ fn heard(last: u32, phase: u8) -> State {
         f: if phase == FILLING { 2 } else { 0 },
         records,
         cells,
+        packets: (phase == FILLING) as usize,
         fresh: 70,
         late: 8,
         missing: 500,
@@ -201,7 +202,8 @@ fn what_restarts() {
         timestamp: 9,
         f: 2,
         records: 1,
-        cells: 8,
+        cells: 9,
+        packets: 1,
     };
     let skipped = Answer::Skipped;
     // Far, and the number after it; then a field of its own.

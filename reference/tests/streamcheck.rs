@@ -19,7 +19,7 @@ const HEAD: Head = Head {
 };
 
 fn record(line: u16, offset: u16) -> Vec<u16> {
-    vec![0, line, offset, 0, 0, 0x41, 0x05, 1, 9]
+    vec![0, line, offset, 0, 0, 0x41, 0x05, 1, 0, 9]
 }
 
 /// A packet so many after the first; its records' places.

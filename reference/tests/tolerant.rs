@@ -20,7 +20,7 @@ const HEAD: Head = Head {
 };
 
 fn record(n: u16) -> Vec<u16> {
-    let mut cells = vec![1, 9, 4095, 0, 0, 0x61, n, n];
+    let mut cells = vec![1, 9, 4095, 0, 0, 0x61, n, n, 0];
     cells.extend((0..n).map(|word| 4 + word * 37 % 1016));
     cells
 }
@@ -100,7 +100,7 @@ fn every_checksum() {
             let (summary, cells) = tolerated(&parts, 99).unwrap();
             let out = (word != right) as u8;
             assert_eq!((summary.records, summary.left_out), (3 - out, out));
-            assert_eq!(cells.len(), if out == 1 { 17 } else { 27 });
+            assert_eq!(cells.len(), if out == 1 { 19 } else { 30 });
         }
     }
 }
@@ -153,8 +153,8 @@ fn what_is_not_tolerated() {
         parts.extra = vec![0];
         assert_eq!(tolerated(&parts, 0), Err((13, 0)));
         parts.extra = Vec::new();
-        assert_eq!(tolerated(&parts, 13), Err((14, 0)));
-        assert_eq!(tolerated(&parts, 14).unwrap().0.left_out, 2);
+        assert_eq!(tolerated(&parts, 14), Err((14, 0)));
+        assert_eq!(tolerated(&parts, 15).unwrap().0.left_out, 2);
     }
 }
 

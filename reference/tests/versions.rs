@@ -3,19 +3,19 @@
 
 use reference::file::{self, Version};
 use reference::layout::Layout;
-use reference::random::{anc_of, list, split_records, Random};
+use reference::random::{anc_of, indexed, list, split_records, Random};
 
 /// Written by the writer of version 1, with no protected words.
 const KEPT: &[u8] = include_bytes!("version1.anf");
 
 type Field = (u32, u8, Vec<u16>);
 
-const A: [u16; 8] = [0, 9, 0, 0, 0, 0x41, 0x05, 0];
-const B: [u16; 10] = [1, 0x7FF, 0xFFF, 1, 3, 0x61, 0x02, 2, 0x2AA, 0x155];
+const A: [u16; 9] = [0, 9, 0, 0, 0, 0x41, 0x05, 0, 0];
+const B: [u16; 11] = [1, 0x7FF, 0xFFF, 1, 3, 0x61, 0x02, 2, 0, 0x2AA, 0x155];
 
 fn record(n: u16) -> Vec<u16> {
     let place = [n % 2, 9 + n, 40 * (n % 100), 0, n % 128];
-    let mut cells = [&place[..], &[0x60, n, n]].concat();
+    let mut cells = [&place[..], &[0x60, n, n, 0]].concat();
     cells.extend((0..n).map(|word| 4 + (37 * word + n) % 1016));
     cells
 }
@@ -59,7 +59,7 @@ fn version_2(fields: &[Field]) -> Vec<u8> {
 fn fields_of(file: &[u8]) -> Vec<Field> {
     let (mut fields, mut at) = (Vec::new(), 5);
     loop {
-        let mut cells = vec![0; 32_768];
+        let mut cells = vec![0; 36_864];
         match file::read(file, at, &mut cells) {
             Ok(field) => {
                 cells.truncate(field.cells);
@@ -90,7 +90,8 @@ fn both_versions_read_the_same() {
         let fields: Vec<Field> = (0..r.below(6))
             .map(|_| {
                 let records = r.below(30);
-                (r.draw() as u32, r.pick(&[0, 2, 3]), list(&mut r, records))
+                let cells = indexed(&list(&mut r, records), 0);
+                (r.draw() as u32, r.pick(&[0, 2, 3]), cells)
             })
             .collect();
         let (old, new) = (version_1(&fields), version_2(&fields));
@@ -101,16 +102,16 @@ fn both_versions_read_the_same() {
 }
 
 /// A field of version 1 may have up to 255 records of 255 words: over 16,384
-/// cells are read, over 32,768 are not.
+/// cells are read, over 36,864 are not.
 #[test]
 fn the_new_limit_of_cells_in_an_old_file() {
-    for (n, cells) in [(60, 17_340), (120, 32_640)] {
+    for (n, cells) in [(60, 17_595), (120, 32_895), (135, 36_720)] {
         let list = record(n).repeat(255);
         assert_eq!(list.len(), cells);
         let fields = vec![(1, 2, list)];
         assert_eq!(fields_of(&version_1(&fields)), fields);
     }
-    let long = version_1(&[(1, 2, record(121).repeat(255))]);
+    let long = version_1(&[(1, 2, record(136).repeat(255))]);
     let refusal = file::read(&long, 5, &mut [0; 40_000]).unwrap_err();
     assert_eq!((refusal.number, refusal.index), (21, 0));
 }

@@ -13,12 +13,12 @@ use Rattle.wire.specs.Bits.{overwrite, splice}
 use Rattle.wire.specs.Result.{Result, refused, accepted, _then_, IsAccepted}
 use Rattle.wire.specs.Layout.{Layout}
 use Rattle.wire.specs.Anc.{Record, ancRecord, ancSize, dataCount, ancChecks, readAnc, readRun, behind, runSize}
-use Rattle.wire.specs.Cells.{headCells, cellsOf, listOf}
+use Rattle.wire.specs.Cells.{headCells, cellsIn, listOf}
 use Rattle.wire.proofs.ListLaws.{length-splice, splice-append, part-all, part-written}
 use Rattle.wire.proofs.ResultLaws.{judge-accepts}
 use Rattle.wire.proofs.AncLaws.{count-read, record-read}
 use Rattle.anc.proofs.PacketLaws.{length-words}
-use Rattle.anc.specs.Answers.{verdictOf, runOf, runCells}
+use Rattle.anc.specs.Answers.{verdictOf, runOf, runCellsIn}
 use Rattle.anc.specs.declared.check.Verdict.the-variants as verdict
 use Rattle.anc.specs.declared.check.Run.{Run}
 use Rattle.anc.specs.declared.check.Run.the-variants as run
@@ -84,11 +84,11 @@ module _ (L : Layout) where
             }
 
   -- an accepted run: its first packet, and the run behind it
-  module _ (s : List ℕ) (i m : ℕ) where
+  module _ (p : ℕ) (s : List ℕ) (i m : ℕ) where
     pub record Reads : Type 0 where
       pub fits : ancSize L (dataCount L s) ≤ length s
       pub more : IsAccepted (readRun L (i + 1) m (behind L s))
-      pub cells : runCells (readRun L i (suc m) s) ≡ cellsOf (ancRecord L s) ++ runCells (readRun L (i + 1) m (behind L s))
+      pub cells : runCellsIn p (readRun L i (suc m) s) ≡ cellsIn p (ancRecord L s) ++ runCellsIn p (readRun L (i + 1) m (behind L s))
 
     pub reads-next : IsAccepted (readRun L i (suc m) s) → Reads
     unfolding readRun
@@ -103,21 +103,21 @@ module _ (L : Layout) where
               fits = size-fits s i r e;
               more = subst IsAccepted (sym f) tt;
               cells =
-                  ap₂ (λ v y. runCells (v then λ r. y then λ q. accepted (r ∷ q .0, q .1))) e f
-                  ∙ ap₂ (λ (x : Record) (y : Result (List Record × List ℕ)). cellsOf x ++ runCells y) (sym (record-read L s i r e)) (sym f);
+                  ap₂ (λ v y. runCellsIn p (v then λ r. y then λ q. accepted (r ∷ q .0, q .1))) e f
+                  ∙ ap₂ (λ (x : Record) (y : Result (List Record × List ℕ)). cellsIn p x ++ runCellsIn p y) (sym (record-read L s i r e)) (sym f);
             }
 
-  length-record : (s : List ℕ) → length (cellsOf (ancRecord L s)) ≡ headCells + dataCount L s
-  length-record s = omega (arith, length-words L s)
+  length-record : (p : ℕ) (s : List ℕ) → length (cellsIn p (ancRecord L s)) ≡ headCells + dataCount L s
+  length-record p s = omega (arith, length-words L s)
 
-  -- what is left of a run to be written: `m` packets with the octets `s`, from the cell `to` on
-  pub record Left (all : List ℕ) (cells₀ : List ℕ) (i m : ℕ) (s cells : List ℕ) (to : ℕ) : Type 0 where
+  -- what is left of a run to be written: `m` packets with the octets `s`, from the cell `to` on, with the index `p`
+  pub record Left (p : ℕ) (all : List ℕ) (cells₀ : List ℕ) (i m : ℕ) (s cells : List ℕ) (to : ℕ) : Type 0 where
     pub accepts : IsAccepted (readRun L i m s)
     pub long : length cells ≡ length cells₀
-    pub room : to + length (runCells (readRun L i m s)) ≤ length cells
-    pub stored : splice cells to (runCells (readRun L i m s)) ≡ overwrite all cells₀
+    pub room : to + length (runCellsIn p (readRun L i m s)) ≤ length cells
+    pub stored : splice cells to (runCellsIn p (readRun L i m s)) ≡ overwrite all cells₀
 
-  module _ (all cells₀ : List ℕ) (i m : ℕ) (s cells : List ℕ) (to : ℕ) (left : Left all cells₀ i (suc m) s cells to) where
+  module _ (p : ℕ) (all cells₀ : List ℕ) (i m : ℕ) (s cells : List ℕ) (to : ℕ) (left : Left p all cells₀ i (suc m) s cells to) where
     -- the next packet is there, and so is the room for its record
     pub record First : Type 0 where
       pub fits : ancSize L (dataCount L s) ≤ length s
@@ -125,29 +125,29 @@ module _ (L : Layout) where
 
     pub first : First
     first =
-        let r = reads-next s i m (left .accepts) in
-        let l : length (runCells (readRun L i (suc m) s)) ≡ headCells + dataCount L s + length (runCells (readRun L (i + 1) m (behind L s))) =
-        ap length (r .cells) ∙ length-append (cellsOf (ancRecord L s)) _ ∙ ap (λ (n : ℕ). n + length (runCells (readRun L (i + 1) m (behind L s)))) (length-record s) in
+        let r = reads-next p s i m (left .accepts) in
+        let l : length (runCellsIn p (readRun L i (suc m) s)) ≡ headCells + dataCount L s + length (runCellsIn p (readRun L (i + 1) m (behind L s))) =
+        ap length (r .cells) ∙ length-append (cellsIn p (ancRecord L s)) _ ∙ ap (λ (n : ℕ). n + length (runCellsIn p (readRun L (i + 1) m (behind L s)))) (length-record p s) in
         record { fits = r .fits; room = omega (arith, left .room) }
 
     -- its record written, the packets behind it are left
     pub left-next : (w z : ℕ) (part : List ℕ) → w ≡ dataCount L s → z ≡ ancSize L w
-        → part ≡ overwrite (cellsOf (ancRecord L s)) (take (length cells - to) (drop to cells))
-        → Left all cells₀ (i + 1) m (take (length s - z) (drop z s)) (take to cells ++ (part ++ drop (length cells - to) (drop to cells))) (to + (headCells + w))
+        → part ≡ overwrite (cellsIn p (ancRecord L s)) (take (length cells - to) (drop to cells))
+        → Left p all cells₀ (i + 1) m (take (length s - z) (drop z s)) (take to cells ++ (part ++ drop (length cells - to) (drop to cells))) (to + (headCells + w))
     left-next w z part hw hz e =
-        let X = cellsOf (ancRecord L s) in
-        let r = reads-next s i m (left .accepts) in
-        let more = runCells (readRun L (i + 1) m (behind L s)) in
-        let lx : length X ≡ headCells + w = length-record s ∙ ap (λ (n : ℕ). headCells + n) (sym hw) in
-        let l : length (runCells (readRun L i (suc m) s)) ≡ length X + length more = ap length (r .cells) ∙ length-append X more in
+        let X = cellsIn p (ancRecord L s) in
+        let r = reads-next p s i m (left .accepts) in
+        let more = runCellsIn p (readRun L (i + 1) m (behind L s)) in
+        let lx : length X ≡ headCells + w = length-record p s ∙ ap (λ (n : ℕ). headCells + n) (sym hw) in
+        let l : length (runCellsIn p (readRun L i (suc m) s)) ≡ length X + length more = ap length (r .cells) ∙ length-append X more in
         let e1 : behind L s ≡ take (length s - z) (drop z s) = ap (λ (n : ℕ). drop n s) (ap (ancSize L) (sym hw) ∙ sym hz) ∙ sym (part-all z s) in
         let e2 : splice cells to X ≡ take to cells ++ (part ++ drop (length cells - to) (drop to cells)) = sym (part-written to cells X part e) in
         let e3 : to + length X ≡ to + (headCells + w) = ap (λ (n : ℕ). to + n) lx in
         let ls : length (splice cells to X) ≡ length cells = length-splice cells to X (omega (arith, left .room)) in
-        let done : Left all cells₀ (i + 1) m (behind L s) (splice cells to X) (to + length X) = record {
+        let done : Left p all cells₀ (i + 1) m (behind L s) (splice cells to X) (to + length X) = record {
           accepts = r .more;
           long = ls ∙ left .long;
           room = omega (arith, left .room);
           stored = splice-append cells to X more (omega (arith, left .room)) ∙ ap (splice cells to) (sym (r .cells)) ∙ left .stored;
         } in
-        subst₃ (Left all cells₀ (i + 1) m) e1 e2 e3 done
+        subst₃ (Left p all cells₀ (i + 1) m) e1 e2 e3 done

@@ -6,7 +6,7 @@ use Rattle.wire.specs.declared.refusal.Refusal.{Refusal}
 use Rattle.wire.specs.Result.{Result, refused, accepted, noRefusal}
 use Rattle.wire.specs.Layout.{Layout}
 use Rattle.wire.specs.Anc.{Record, runSize}
-use Rattle.wire.specs.Cells.{listOf}
+use Rattle.wire.specs.Cells.{listIn, listOf}
 use Rattle.anc.specs.declared.check.Verdict.{Verdict}
 use Rattle.anc.specs.declared.check.Verdict.the-variants as verdict
 use Rattle.anc.specs.declared.check.Run.{Run}
@@ -27,7 +27,11 @@ abbrev pub runRefusal : Run → Refusal
 runRefusal (run.Refused x) = x
 runRefusal (run.Accepted o c) = noRefusal
 
--- the cells of a run's records (01, "Records in a lent list")
+-- the cells of a run's records (01, "Records in a lent list"), of the packet with index `p` within its field
+abbrev pub runCellsIn : ℕ → Result (List Record × List ℕ) → List ℕ
+runCellsIn p (refused x) = []
+runCellsIn p (accepted q) = listIn p (q .0)
+
+-- "The packet and line readers give 0" (02, K13)
 abbrev pub runCells : Result (List Record × List ℕ) → List ℕ
-runCells (refused x) = []
-runCells (accepted q) = listOf (q .0)
+runCells x = runCellsIn 0 x

@@ -26,12 +26,12 @@ fn stream_octet(layout: Layout, octet: u8) -> u16
     }
 }
 
-// Writes the header of the packet at the front of the octets to the first cells; its Data_Count. It asks for the least octets of a packet, and
-// for the cells before a record's words.
-pub(crate) fn read_header(layout: Layout, octets: &[u8], cells: &mut [u16]) -> WordCount
+// Writes the header of the packet at the front of the octets to the first cells, with the index of the RTP packet within its field; its Data_Count.
+// It asks for the least octets of a packet, and for the cells before a record's words.
+pub(crate) fn read_header(layout: Layout, octets: &[u8], index: u16, cells: &mut [u16]) -> WordCount
     requires { ⌜ (leastSize layout ≤ length (now octets)) × (headCells ≤ length (now cells)) ⌝ }
     ensures { λ r. ⌜ r .0 ≡ dataCount layout (now (octets .entry)) ⌝ }
-    ensures { λ r. ⌜ now (cells .exit) ≡ overwrite (headerCells (headerOf (ancRecord layout (now (octets .entry))))) (now (cells .entry)) ⌝ }
+    ensures { λ r. ⌜ now (cells .exit) ≡ overwrite (headerCells index (headerOf (ancRecord layout (now (octets .entry))))) (now (cells .entry)) ⌝ }
 {
     let o0 = octets[0] as u16;
     let o1 = octets[1] as u16;
@@ -47,5 +47,6 @@ pub(crate) fn read_header(layout: Layout, octets: &[u8], cells: &mut [u16]) -> W
     cells[5] = fetch(octets, did) % HEADER_NUMBERS;
     cells[6] = fetch(octets, did + WORD_BITS) % HEADER_NUMBERS;
     cells[Header::COUNT_CELL] = n;
+    cells[Header::INDEX_CELL] = index;
     WordCount(n as u8)
 }

@@ -4,11 +4,11 @@ ghost use Prim.Native.Nat.{_+_, _≤_};
 ghost use lib.ListN.{length};
 ghost use Rattle.wire.specs.Anc.{ancRecord, ancSize, dataCount, readRun};
 ghost use Rattle.wire.specs.Bits.{overwrite, rowAt};
-ghost use Rattle.wire.specs.Cells.{cellsOf, headCells};
+ghost use Rattle.wire.specs.Cells.{cellsIn, headCells};
 ghost use Rattle.wire.specs.Result.{IsAccepted};
 ghost use Rattle.wire.specs.Words.{wordBits};
 ghost use Rattle.words.specs.Word.{WordsFit};
-ghost use Rattle.anc.specs.Answers.{runCells};
+ghost use Rattle.anc.specs.Answers.{runCellsIn};
 use crate::header::read_header;
 use places::packet_size;
 use record::header::Header;
@@ -34,21 +34,21 @@ fn read_singly(octets: &[u8], bit: usize, count: usize, cells: &mut [u16])
 
 // Writes the record of the packet at the front of the octets to the first cells; its Data_Count. An arm for each layout, so that RFC 8331's words
 // are read from a place that is known; those of the drafts are read one by one.
-fn read_packet(layout: Layout, octets: &[u8], cells: &mut [u16]) -> WordCount
+fn read_packet(layout: Layout, octets: &[u8], index: u16, cells: &mut [u16]) -> WordCount
     requires { ⌜ ancSize layout (dataCount layout (now octets)) ≤ length (now octets) ⌝ }
     requires { ⌜ headCells + dataCount layout (now octets) ≤ length (now cells) ⌝ }
     ensures { λ r. ⌜ r .0 ≡ dataCount layout (now (octets .entry)) ⌝ }
-    ensures { λ r. ⌜ now (cells .exit) ≡ overwrite (cellsOf (ancRecord layout (now (octets .entry)))) (now (cells .entry)) ⌝ }
+    ensures { λ r. ⌜ now (cells .exit) ≡ overwrite (cellsIn index (ancRecord layout (now (octets .entry)))) (now (cells .entry)) ⌝ }
 {
     match layout {
         Layout::Rfc8331 => {
-            let words = read_header(Layout::Rfc8331, octets, cells);
+            let words = read_header(Layout::Rfc8331, octets, index, cells);
             let n = words.0 as usize;
             read_words(octets, WORDS_AT, n, &mut cells[Header::CELLS..]);
             words
         }
         Layout::Draft2015 => {
-            let words = read_header(Layout::Draft2015, octets, cells);
+            let words = read_header(Layout::Draft2015, octets, index, cells);
             let n = words.0 as usize;
             read_singly(octets, DRAFT_WORDS_AT, n, &mut cells[Header::CELLS..]);
             words
@@ -56,17 +56,18 @@ fn read_packet(layout: Layout, octets: &[u8], cells: &mut [u16]) -> WordCount
     }
 }
 
-// Writes the records of `count` packets at the front of the octets to the first cells.
-pub fn read_run(layout: Layout, octets: &[u8], count: usize, cells: &mut [u16])
+// Writes the records of `count` packets at the front of the octets to the first cells; `index` is that of their RTP packet within its field, 0 where
+// they are of no field that is gathered (02, K13).
+pub fn read_run(layout: Layout, octets: &[u8], count: usize, index: u16, cells: &mut [u16])
     requires { ⌜ IsAccepted (readRun layout 0 count (now octets)) ⌝ }
-    requires { ⌜ length (runCells (readRun layout 0 count (now octets))) ≤ length (now cells) ⌝ }
-    ensures { λ r. ⌜ now (cells .exit) ≡ overwrite (runCells (readRun layout 0 count (now (octets .entry)))) (now (cells .entry)) ⌝ }
+    requires { ⌜ length (runCellsIn index (readRun layout 0 count (now octets))) ≤ length (now cells) ⌝ }
+    ensures { λ r. ⌜ now (cells .exit) ≡ overwrite (runCellsIn index (readRun layout 0 count (now (octets .entry)))) (now (cells .entry)) ⌝ }
 {
     let mut rest = octets;
     let mut to: usize = 0;
     let mut i: usize = 0;
     while i < count {
-        let words = read_packet(layout, rest, &mut cells[to..]);
+        let words = read_packet(layout, rest, index, &mut cells[to..]);
         let size = packet_size(layout, words);
         let step = size.0;
         rest = &rest[step..];

@@ -15,6 +15,7 @@ use places::packet_size;
 use record::header::Header;
 use wire::count::OctetCount;
 use wire::layout::Layout;
+use wire::limit::READ_INDEX;
 
 // The octets of a packet, and the cells written of it.
 pub struct Step {
@@ -37,7 +38,7 @@ fn read_own(layout: Layout, octets: &[u8], cells: &mut [u16]) -> Step
             cells: 0,
         };
     };
-    anc::read::read_run(layout, octets, 1, cells);
+    anc::read::read_run(layout, octets, 1, READ_INDEX, cells);
     Step {
         octets: packet_size(layout, words),
         cells: Header::CELLS + (words.0 as usize),

@@ -10,7 +10,7 @@ use Rattle.wire.specs.Bits.{toBits, num, bits, octets, bitsAt, rowAt, fieldBits
 use Rattle.wire.specs.Words.{headerWord, checksumWord}
 use Rattle.wire.specs.Result.{Result, Checks, accepted, refuse, judge}
 use Rattle.wire.specs.Anc.{ancSize, ancRecord, headersOk, rOk, wordsOk, checksumOk, alignmentOk, ancChecks, readAnc, readRun}
-use Rattle.wire.specs.Cells.{cellsOf, listOf, cellRecord, headInRange, cellChecks, recordsFrom, clearFrom}
+use Rattle.wire.specs.Cells.{cellsIn, cellsOf, listOf, maxIndex, cellRecord, headInRange, cellChecks, recordsFrom, clearFrom}
 use Rattle.wire.proofs.Examples.{a, aOctets, b, bOctets}
 use Rattle.wire.proofs.ProtectedExamples.{with}
 use Rattle.anf.specs.declared.format.Version.the-variants as version
@@ -43,12 +43,13 @@ pub written : (fileOctets version.Two (first ∷ second ∷ []) ≡ file)
     × (writeHead 5 ≡ accepted (take 5 file))
     × (writeField 1000 2 (listOf (a ∷ [])) 19 ≡ accepted firstOctets)
     × (writeField 0x01020304 3 (listOf (a ∷ b ∷ [])) 100 ≡ accepted secondOctets)
+    × (writeField 0x01020304 3 (cellsIn 1 a ++ cellsIn maxIndex b) 100 ≡ accepted secondOctets)
     × (writeField 7 0 [] 7 ≡ accepted (0 ∷ 0 ∷ 0 ∷ 7 ∷ 0 ∷ 0 ∷ 0 ∷ []))
 unfolding toBits num octets fieldBits headerWord checksumWord ancSize cellRecord headInRange cellChecks recordsFrom clearFrom
-written = (refl, refl, refl, refl, refl)
+written = (refl, refl, refl, refl, refl, refl)
 
 -- read at 5, at the offset after the first field, and at the end
-pub read : (readInto file 5 8 ≡ accepted (first, 24)) × (readInto file 24 18 ≡ accepted (second, 55)) × (readInto file 55 0 ≡ refuse 54 0)
+pub read : (readInto file 5 9 ≡ accepted (first, 24)) × (readInto file 24 20 ≡ accepted (second, 55)) × (readInto file 55 0 ≡ refuse 54 0)
 unfolding toBits num bits bitsAt rowAt headerWord checksumWord ancSize ancRecord headersOk rOk wordsOk checksumOk alignmentOk ancChecks readAnc readRun fieldHeaderChecks readFront versionOf fileChecks offsetChecks readField readInto
 read = (refl, refl, refl)
 
@@ -63,7 +64,7 @@ whole = (refl, refl, refl, refl)
 -- "The reader takes versions 1 and 2" (02, K2): a version 1 file is the octets of its version, is read field by field, and ends in 52
 -- where under six octets of a header are left
 pub version-1 : (fileOctets version.One (first ∷ second ∷ []) ≡ file1)
-    × (readInto file1 5 8 ≡ accepted (first, 23))
+    × (readInto file1 5 9 ≡ accepted (first, 23))
     × (readFile file1 ≡ record { fields = first ∷ second ∷ []; end = endOfFile })
     × (readFile (take 28 file1) ≡ record { fields = first ∷ []; end = record { number = 52; index = 0 } })
     × (readFile (take 29 file1) ≡ record { fields = first ∷ []; end = record { number = 9; index = 0 } })
@@ -105,7 +106,7 @@ refused-header = (refl, refl, refl, refl)
 pub refused-packets : (readField (take 23 file) 5 ≡ refuse 9 0) × (readField (take 54 file) 24 ≡ refuse 9 1)
     × (readField (set file 16 0x10) 5 ≡ refuse 10 0) × (readField (set file 51 0x00) 24 ≡ refuse 11 1) × (readField (set file 23 0x01) 5 ≡ refuse 12 0)
     × (readField (set (take 24 file) 10 0xFF) 5 ≡ refuse 9 1)
-    × (readInto file 5 7 ≡ refuse 14 0)
+    × (readInto file 5 8 ≡ refuse 14 0)
 unfolding toBits num bits bitsAt rowAt headerWord checksumWord ancSize ancRecord headersOk rOk wordsOk checksumOk alignmentOk ancChecks readAnc readRun fieldHeaderChecks readFront versionOf fileChecks offsetChecks readField readInto
 refused-packets = (refl, refl, refl, refl, refl, refl, refl)
 

@@ -16,12 +16,12 @@ use Rattle.wire.specs.Bits.{bitsAt, pack, Fit, Below}
 use Rattle.wire.specs.Layout.{rfc8331}
 use Rattle.wire.specs.Result.{Result, refused, accepted, refuse, _then_}
 use Rattle.wire.specs.Anc.{Record, runOctets}
-use Rattle.wire.specs.Cells.{listOf}
+use Rattle.wire.specs.Cells.{listOf, Lists}
 use Rattle.wire.specs.Writing.{maxFieldRecords, maxFieldCells}
 use Rattle.wire.proofs.BitLaws.{Reads, packed, unpacked, length-pack, below-octets, below-append}
 use Rattle.wire.proofs.ResultLaws.{Passed, accepted-inj, judge-accepts, judge-passes, then-accepts, and-true, and-both}
 use Rattle.wire.proofs.AncLaws.{below-run}
-use Rattle.wire.proofs.CellLaws.{list-iff}
+use Rattle.wire.proofs.CellLaws.{list-iff, lists-length}
 use Rattle.wire.proofs.PacketLaws.{not-eqb}
 use Rattle.anf.specs.declared.format.Version.{Version}
 use Rattle.anf.specs.declared.format.Version.the-variants as version
@@ -53,9 +53,9 @@ field-read v k w t b =
 counts : (n : ℕ) → n ≤ maxFieldRecords → n < 2 ^ countBits writtenVersion
 counts n h = omega arith
 
--- A FIELD WRITTEN AND READ IS THE SAME FIELD, whatever follows it: its records are those of the list
+-- A FIELD WRITTEN AND READ IS THE SAME FIELD, whatever follows it: its records are those of the list, "apart from this cell" (02, K13)
 pub written-read : (ts f : ℕ) (cells : List ℕ) (room : ℕ) (o : List ℕ) → ts < 2 ^ timestampBits → writeField ts f cells room ≡ accepted o
-    → (rs : List Record) × (cells ≡ listOf rs) × WellFormedField writtenVersion (record { timestamp = ts; f = f; records = rs })
+    → (rs : List Record) × Lists rs cells × WellFormedField writtenVersion (record { timestamp = ts; f = f; records = rs })
     × (o ≡ fieldOctets writtenVersion (record { timestamp = ts; f = f; records = rs })) × (length o ≤ room)
     × ((t : List ℕ) → Below 256 t → readFront writtenVersion (o ++ t) ≡ accepted (record { timestamp = ts; f = f; records = rs }))
 written-read ts f cells room o h e =
@@ -71,7 +71,7 @@ written-read ts f cells room o h e =
       records = r .0;
       counted = counts (length rs) (w .few);
       few = w .few;
-      short = subst (λ (x : List ℕ). length x ≤ maxFieldCells) (r .1) (w .short);
+      short = omega (arith, lists-length rs cells (r .1), w .short);
     } in
     (rs, r .1, formed, sym same, omega (arith, ap length (sym same) ∙ length-field writtenVersion k, w .enough), λ t b. ap (λ (x : List ℕ). readFront writtenVersion (x ++ t)) (sym same) ∙ field-read writtenVersion k formed t b)
 
@@ -146,11 +146,11 @@ module _ (v : Version) (s pre t : List ℕ) (parts : s ≡ pre ++ t) (head : IsF
       judge-passes 0 (fileChecks s) _ (head .0) ∙ rw (head .1, a, b, c, d)
 
 -- THE SAME THROUGH A FILE: a field written behind anything that the head starts, whatever follows it, is read at its offset as the
--- same timestamp, F and cells, and the offset after it is that of what follows
+-- same timestamp, F and records, "apart from this cell", and the offset after it is that of what follows
 pub appended-read : (ts f : ℕ) (cells : List ℕ) (room : ℕ) (o : List ℕ) → ts < 2 ^ timestampBits → writeField ts f cells room ≡ accepted o
     → (pre t : List ℕ) → Below 256 pre → Below 256 t → (lent : ℕ) → length cells ≤ lent
     → let at = length (fileHead writtenVersion ++ pre) in
-    (rs : List Record) × (listOf rs ≡ cells)
+    (rs : List Record) × Lists rs cells
     × (readInto ((fileHead writtenVersion ++ pre) ++ (o ++ t)) at lent ≡ accepted (record { timestamp = ts; f = f; records = rs }, at + length o))
 unfolding readInto
 appended-read ts f cells room o h e pre t bp bt lent l =
@@ -166,8 +166,8 @@ appended-read ts f cells room o h e pre t bp bt lent l =
     let one : readField s at ≡ accepted (k, at + fieldSize writtenVersion rs) =
     at-field writtenVersion s (fileHead writtenVersion ++ pre) (o ++ t) refl p (omega (arith, length-append (fileHead writtenVersion) pre, length-head writtenVersion)) (omega (arith, length-append o t, header-least writtenVersion))
     ∙ ap (λ x. x then λ k. accepted (k, at + fieldSize writtenVersion (k .records))) (w .5 t bt) in
-    let c : leb (length (listOf rs)) lent ≡ true = le-leb (length (listOf rs)) lent (omega (arith, ap length (w .1))) in
-    (rs, sym (w .1), rw (one, c) (ap (λ (n : ℕ). accepted (k, at + n)) (sym size)))
+    let c : leb (length (listOf rs)) lent ≡ true = le-leb (length (listOf rs)) lent (omega (arith, lists-length rs cells (w .1))) in
+    (rs, w .1, rw (one, c) (ap (λ (n : ℕ). accepted (k, at + n)) (sym size)))
 
 -- a reading from the offset `at` on: the fields one after the other, and the refusal that ends it
 pub data Reading (s : List ℕ) : ℕ → List FieldContent → Refusal → Type 0 where

@@ -1,6 +1,6 @@
 -- The records of a field that is written are the list's, within the limits.
 -- By the writer's checks, all of which they passed.
-use mathlib.Core.Path.{_≡_, ap}
+use mathlib.Core.Path.{_≡_}
 use mathlib.Core.Bool.{true}
 use mathlib.Core.List.{List, [], _∷_}
 use Prim.Native.Nat.{ℕ, _*_, _≤_}
@@ -15,7 +15,7 @@ use Rattle.wire.specs.Cells.{readList}
 use Rattle.wire.specs.Writing.{maxFieldRecords, maxFieldCells}
 use Rattle.wire.proofs.ResultLaws.{and-true}
 use Rattle.wire.proofs.AncLaws.{length-run}
-use Rattle.wire.proofs.CellLaws.{list-iff}
+use Rattle.wire.proofs.CellLaws.{list-iff, lists-length}
 use Rattle.wire.proofs.WritingLaws.{passes}
 use Rattle.wire.proofs.Demand2.{run-cells}
 use Rattle.anf.specs.File.{writtenVersion, fieldSize, fileFOk, roomChecks, fieldRecords}
@@ -23,7 +23,7 @@ use Rattle.anf.specs.File.{writtenVersion, fieldSize, fileFOk, roomCheck
 -- a field within its limits is small
 pub small : (cells : List ℕ) (rs : List Record) → readList cells ≡ accepted rs → length cells ≤ maxFieldCells → 2 * runSize rfc8331 rs ≤ 3 * maxFieldCells
 small cells rs e l =
-    omega (arith, run-cells rfc8331 rs, length-run rfc8331 rs, ap length (list-iff cells rs .0 e .1))
+    omega (arith, run-cells rfc8331 rs, length-run rfc8331 rs, lists-length rs cells (list-iff cells rs .0 e .1))
 
 pub record Writes (f : ℕ) (cells : List ℕ) (room : ℕ) (rs : List Record) : Type 0 where
   pub f-ok : fileFOk f ≡ true

@@ -82,11 +82,11 @@ writtenReply (written.Octets n) = sizeReply (n .0)
 
 -- an arrival that completes no field: its kind
 abbrev pub kindReply : ℕ → Reply
-kindReply kind = acceptedReply (kind ∷ 0 ∷ 0 ∷ 0 ∷ 0 ∷ [])
+kindReply kind = acceptedReply (kind ∷ 0 ∷ 0 ∷ 0 ∷ 0 ∷ 0 ∷ [])
 
--- a whole field: its kind, timestamp, F, records, cells
+-- a whole field: its kind, timestamp, F, records, cells, packets
 abbrev pub wholeRow : Field → List ℕ
-wholeRow x = 4 ∷ x .timestamp .0 ∷ x .f ∷ x .records ∷ x .cells ∷ []
+wholeRow x = 4 ∷ x .timestamp .0 ∷ x .f ∷ x .records ∷ x .cells ∷ x .packets ∷ []
 
 -- an arrival: skipped 0, held 1, mixed 2, overfull 3, whole 4
 abbrev pub arrivalReply : Answer → Reply

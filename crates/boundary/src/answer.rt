@@ -98,12 +98,12 @@ fn accept_kind(kind: u64, answer: &mut [u64]) -> u8
     ensures { λ r. ⌜ r ≡ kindReply kind .number ⌝ }
     ensures { λ r. ⌜ now (answer .exit) ≡ overwrite (kindReply kind .row) (now (answer .entry)) ⌝ }
 {
-    let values = [kind, 0, 0, 0, 0];
+    let values = [kind, 0, 0, 0, 0, 0];
     put(&values, answer);
     ACCEPTED
 }
 
-// A whole field: timestamp, F, records, cells.
+// A whole field: timestamp, F, records, cells, packets.
 fn put_whole(field: Field, answer: &mut [u64])
     requires { ⌜ answerSize ≤ length (now answer) ⌝ }
     ensures { λ r. ⌜ now (answer .exit) ≡ overwrite (wholeRow field) (now (answer .entry)) ⌝ }
@@ -115,6 +115,7 @@ fn put_whole(field: Field, answer: &mut [u64])
         field.f as u64,
         field.records as u64,
         field.cells as u64,
+        field.packets as u64,
     ];
     put(&values, answer);
 }

@@ -9,7 +9,7 @@ use Rattle.state_row.specs.declared.state.Restored.the-variants as restored
 use Rattle.state_row.specs.State.{isState, stateIn}
 use Rattle.capi.specs.Calls.{arrive, openNumbers, openReply, readReply, vpidOf}
 
--- an answer of eight numbers, and a state of thirteen
+-- an answer of eight numbers, and a state of fourteen
 short-answer : readReply 2 [] [] (replicate 8 0) ≡ record { number = 255; row = [] }
 short-answer = refl
 
@@ -17,35 +17,35 @@ short-answer = refl
 no-layout : readReply 2 [] [] (replicate 9 0) ≡ record { number = 254; row = [] }
 no-layout = refl
 
-short-state : openReply 5 100 (replicate 13 0) (replicate 9 0) ≡ record { number = 255; row = [] }
+short-state : openReply 5 100 (replicate 14 0) (replicate 9 0) ≡ record { number = 255; row = [] }
 short-state = refl
 
 -- a payload type over 127
-type-over : openReply 5 128 (replicate 14 0) (replicate 9 0) ≡ record { number = 24; row = 0 ∷ [] }
+type-over : openReply 5 128 (replicate 15 0) (replicate 9 0) ≡ record { number = 24; row = 0 ∷ [] }
 type-over = refl
 
 -- a state just opened is written, and read back
-opened : openNumbers 5 100 (replicate 14 1) (replicate 9 0) ≡ 5 ∷ 100 ∷ 0 ∷ 0 ∷ 0 ∷ 0 ∷ 0 ∷ 0 ∷ 0 ∷ 0 ∷ 0 ∷ 0 ∷ 0 ∷ 0 ∷ []
+opened : openNumbers 5 100 (replicate 15 1) (replicate 9 0) ≡ 5 ∷ 100 ∷ 0 ∷ 0 ∷ 0 ∷ 0 ∷ 0 ∷ 0 ∷ 0 ∷ 0 ∷ 0 ∷ 0 ∷ 0 ∷ 0 ∷ 0 ∷ []
 opened = refl
 
-read-back : stateIn (openNumbers 5 100 (replicate 14 1) (replicate 9 0)) ≡ restored.State (openState 5 100)
+read-back : stateIn (openNumbers 5 100 (replicate 15 1) (replicate 9 0)) ≡ restored.State (openState 5 100)
 unfolding isState
 read-back = refl
 
 -- heard 2, a source over 32 bits, a flag of 2 before the remembered number, and that number over 32 bits are in no state
-heard-2 : arrive 1 (5 ∷ 100 ∷ 0 ∷ 2 ∷ replicate 10 0) [] [] (replicate 9 0) .reply ≡ record { number = 35; row = 0 ∷ [] }
+heard-2 : arrive 1 (5 ∷ 100 ∷ 0 ∷ 2 ∷ replicate 11 0) [] [] (replicate 9 0) .reply ≡ record { number = 35; row = 0 ∷ [] }
 unfolding isState
 heard-2 = refl
 
-source-over : stateIn (4294967296 ∷ replicate 13 0) ≡ restored.Unsound
+source-over : stateIn (4294967296 ∷ replicate 14 0) ≡ restored.Unsound
 unfolding isState
 source-over = refl
 
-remembers-2 : stateIn (replicate 12 0 ++ (2 ∷ 0 ∷ [])) ≡ restored.Unsound
+remembers-2 : stateIn (replicate 12 0 ++ (2 ∷ 0 ∷ 0 ∷ [])) ≡ restored.Unsound
 unfolding isState
 remembers-2 = refl
 
-remembered-over : stateIn (replicate 12 0 ++ (0 ∷ 4294967296 ∷ [])) ≡ restored.Unsound
+remembered-over : stateIn (replicate 12 0 ++ (0 ∷ 4294967296 ∷ 0 ∷ [])) ≡ restored.Unsound
 unfolding isState
 remembered-over = refl
 

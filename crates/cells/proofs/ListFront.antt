@@ -1,5 +1,5 @@
 -- A list that was taken, by the record at its front: that record, and the list behind it.
--- By what a list is taken for: the cells of well-formed records.
+-- By what a list is taken for: the cells of well-formed records, each with an index that is taken.
 use mathlib.Core.Path.{_≡_, ap, sym, _∙_, subst}
 use mathlib.Core.List.{List, [], _∷_}
 use Prim.Native.Nat.{ℕ, _<_}
@@ -8,7 +8,7 @@ use lib.ListN.{length}
 use Rattle.wire.specs.Layout.{rfc8331}
 use Rattle.wire.specs.Result.{accepted, IsAccepted}
 use Rattle.wire.specs.Anc.{Each, Record, WellFormed}
-use Rattle.wire.specs.Cells.{listOf, cellRecord, cellChecks, rest, readList}
+use Rattle.wire.specs.Cells.{Lists, cellRecord, cellChecks, rest, readList}
 use Rattle.wire.proofs.CellLaws.{front-reads, list-iff}
 use Rattle.wire.proofs.ResultLaws.{Passed, accepted-is}
 use Rattle.record.proofs.FrontLaws.{Lies, lies}
@@ -23,11 +23,12 @@ pub record Front (l : List ℕ) : Type 0 where
 pub front : (l : List ℕ) → IsAccepted (readList l) → 0 < length l → Front l
 front l h some = let a = accepted-is (readList l) h in let p = list-iff l (a .0) .0 (a .1) in go (a .0) (a .1) (p .0) (p .1)
   where
-    go : (rs : List Record) → readList l ≡ accepted rs → Each (WellFormed rfc8331) rs → l ≡ listOf rs → Front l
+    go : (rs : List Record) → readList l ≡ accepted rs → Each (WellFormed rfc8331) rs → Lists rs l → Front l
     go [] e f c = absurd (omega (arith, ap length c))
     go (r ∷ rs) e f c =
-        let p = subst (λ (y : List ℕ). Passed (cellChecks y) × (cellRecord y ≡ r) × (rest y ≡ listOf rs)) (sym c) (front-reads r (listOf rs) (f .0 .fits)) in
-        let b : readList (rest l) ≡ accepted rs = list-iff (rest l) rs .1 (f .1, p .2) in
+        let t = c .1 in
+        let p = subst (λ (y : List ℕ). Passed (cellChecks y) × (cellRecord y ≡ r) × (rest y ≡ t)) (sym (c .3)) (front-reads (c .0) r t (f .0 .fits) (c .2)) in
+        let b : readList (rest l) ≡ accepted rs = list-iff (rest l) rs .1 (f .1, subst (Lists rs) (sym (p .2)) (c .4)) in
         record {
           formed = subst (WellFormed rfc8331) (sym (p .1)) (f .0);
           lies = lies l (p .0);

@@ -1,6 +1,6 @@
 -- What a packet that was checked shows: its records as the list that they are read to, which is never too short, and what stands beside them.
 -- A record needs no more cells than it has octets (`cells-octets`), so 14 cannot be given.
-use mathlib.Core.Path.{_≡_, refl, ap, sym, _∙_}
+use mathlib.Core.Path.{_≡_, refl, ap, sym, _∙_, subst}
 use mathlib.Core.Bool.{Bool, not}
 use mathlib.Core.List.{List, [], _∷_, _++_}
 use Prim.Native.Nat.{ℕ, _+_, _^_, _<_, _≤_}
@@ -14,12 +14,12 @@ use Rattle.wire.specs.Bits.{Below, overwrite}
 use Rattle.wire.specs.Layout.{Layout, rfc8331, fBits}
 use Rattle.wire.specs.Result.{Result, refused, accepted, _then_}
 use Rattle.wire.specs.Anc.{Record, Each, WellFormed, ancOctets, runOctets}
-use Rattle.wire.specs.Cells.{cellsOf, listOf, readList}
+use Rattle.wire.specs.Cells.{Lists, cellsOf, listOf, readList}
 use Rattle.wire.specs.Packet.{Packet, Content, content, maxPacket, lengthField, runAt, reservedField, packetRead, readPacket, readContent}
 use Rattle.wire.proofs.ResultLaws.{then-accepts, accepted-inj}
 use Rattle.wire.proofs.SizeLaws.{cells-octets, length-anc}
 use Rattle.wire.proofs.LayoutLaws.{layout-iff}
-use Rattle.wire.proofs.CellLaws.{list-iff}
+use Rattle.wire.proofs.CellLaws.{list-iff, lists-own}
 use Rattle.wire.proofs.PacketLaws.{Answer, answer-iff, header-sizes, region-iff}
 use Rattle.rtp.specs.declared.packet.Head.{Head}
 use Rattle.rtp.specs.declared.packet.Outline.{Outline}
@@ -104,7 +104,7 @@ module _ (L : Layout) (s : List ℕ) (o : Outline) (h : checkedOf L s (readConte
             ap (λ (r : Result Content). take (o .cells) (cellsAfter r cells)) (f .reads)
             ∙ ap (λ (y : List Record). take (o .cells) (overwrite (listOf y) cells)) (sym rs)
             ∙ take-at (listOf (p .records)) _ (o .cells) size in
-            list-iff _ (p .records) .1 (listed-each L (p .records) (i .1), e);
+            list-iff _ (p .records) .1 (listed-each L (p .records) (i .1), subst (Lists (p .records)) (sym e) (lists-own (p .records)));
         head = λ m e. ap (λ (y : Summary). y .head) (sym (summary-is (readContent L s) k m (f .reads) e)) ∙ ap headOf (sym says);
         reserved = ap (λ (y : ℕ). not (eqb y 0)) (sym (reserved-read L (p .records) s) ∙ ap (λ (y : Packet). y .reserved) (n .read));
       }

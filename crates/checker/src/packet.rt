@@ -22,6 +22,7 @@ use rtp::packet::Outline;
 use wire::count::OctetCount;
 use wire::layout::ANC_COUNT_AT;
 use wire::layout::Layout;
+use wire::limit::READ_INDEX;
 use words::octet::quad_at;
 
 // The numbers that the 22 reserved bits of a payload header can be.
@@ -52,7 +53,7 @@ fn check_accepted(
     ensures { λ r. ⌜ r ≡ turn layout checker (now (octets .entry)) ⌝ }
     ensures { λ r. ⌜ now (cells .exit) ≡ cellsAfter (readContent layout (now (octets .entry))) (now (cells .entry)) ⌝ }
 {
-    read_records(layout, octets, outline, cells);
+    read_records(layout, octets, outline, READ_INDEX, cells);
     let used = outline.cells;
     let scan = past_list(scan_of(checker), &cells[..used]);
     let summary = summary_at(layout, octets, outline);

@@ -1,6 +1,6 @@
 -- One step with an arrival that is refused, or with a fresh packet, from what was found of it and what was decided.
 -- By the laws of admission, of places and of decisions, one after the other.
-use mathlib.Core.Path.{_≡_, refl, ap, sym, subst, _∙_}
+use mathlib.Core.Path.{_≡_, refl, ap, ap₂, sym, subst, _∙_}
 use mathlib.Core.Bool.{Bool, true, false, cond}
 use mathlib.Core.List.{List}
 use Prim.Native.Nat.{ℕ, _+_, _≤_}
@@ -8,7 +8,7 @@ use lib.ListN.{length}
 use Rattle.wire.specs.declared.refusal.Refusal.{Refusal}
 use Rattle.wire.specs.Bits.{splice}
 use Rattle.wire.specs.Result.{accepted}
-use Rattle.wire.specs.Cells.{listOf}
+use Rattle.wire.specs.Cells.{listIn, listOf}
 use Rattle.wire.specs.Packet.{Content}
 use Rattle.wire.specs.Layout.{Layout}
 use Rattle.rtp.specs.Answers.{checkedOf}
@@ -18,7 +18,7 @@ use Rattle.rtp.proofs.ReadLaws.{refused-is}
 use Rattle.stream.specs.declared.state.State.{State}
 use Rattle.depacketizer.specs.declared.decide.Decision.{Decision}
 use Rattle.freshness.specs.declared.place.Freshness.the-variants as freshness
-use Rattle.stream.specs.Step.{Gathered, lost, gathered, gatheredCells, Gather, carried, follow, appended, sound, packetStep, admission, step}
+use Rattle.stream.specs.Step.{Gathered, lost, gathered, gatheredCells, gatheredPackets, Gather, carried, follow, appended, sound, packetStep, admission, step}
 use Rattle.freshness.specs.Answers.{freshnessOf}
 use Rattle.depacketizer.specs.Answers.{decisionOf, afterOf}
 use Rattle.stream.proofs.FitLaws.{follow-room}
@@ -52,23 +52,23 @@ module _ (st : State) (L : Layout) (s store : List ℕ) (k : Content) (h : admis
   abbrev x : Gather
   x = follow found (carried k) (length store)
 
-  -- where its cells are appended, if they are
-  at : x .append ≡ true → gatheredCells found ≡ from .cells
+  -- where its cells are appended, and with which index, if they are
+  at : x .append ≡ true → (gatheredCells found ≡ from .cells) × (gatheredPackets found ≡ from .packets)
   at = appended-at from (length store) n (carried k) (fresh-sound st L s store k h m n from p)
 
-  same-store : (b : Bool) → x .append ≡ b → appended b found k store ≡ cond b (splice store (from .cells) (listOf (k .records))) store
-  same-store true t = ap (λ (c : ℕ). splice store c (listOf (k .records))) (at t)
+  same-store : (b : Bool) → x .append ≡ b → appended b found k store ≡ cond b (splice store (from .cells) (listIn (from .packets) (k .records))) store
+  same-store true t = ap₂ (λ (c n : ℕ). splice store c (listIn n (k .records))) (at t .0) (at t .1)
   same-store false t = refl
 
   pub fresh-step : step st L s store
-      ≡ record { answer = d .answer; state = afterOf from (k .number) d m; store = cond (d .append) (splice store (from .cells) (listOf (k .records))) store }
+      ≡ record { answer = d .answer; state = afterOf from (k .number) d m; store = cond (d .append) (splice store (from .cells) (listIn (from .packets) (k .records))) store }
   fresh-step =
       step-admitted st L s store k h ∙ starts st L s store k h m n from p .step
       ∙ (λ i. record { answer = x .answer; state = afterOf from (k .number) (decisionOf x) m; store = same-store (x .append) refl i })
-      ∙ λ i. record { answer = sym e i .answer; state = afterOf from (k .number) (sym e i) m; store = cond (sym e i .append) (splice store (from .cells) (listOf (k .records))) store }
+      ∙ λ i. record { answer = sym e i .answer; state = afterOf from (k .number) (sym e i) m; store = cond (sym e i .append) (splice store (from .cells) (listIn (from .packets) (k .records))) store }
 
   -- appended cells have room behind those that the state has
   pub fresh-room : d .append ≡ true → from .cells + length (listOf (k .records)) ≤ length store
   fresh-room t =
       let a : x .append ≡ true = ap (λ (y : Decision). y .append) (sym e) ∙ t in
-      subst (λ (c : ℕ). c + length (listOf (k .records)) ≤ length store) (at a) (follow-room found (carried k) (length store) a)
+      subst (λ (c : ℕ). c + length (listOf (k .records)) ≤ length store) (at a .0) (follow-room found (carried k) (length store) a)

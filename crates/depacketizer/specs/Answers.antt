@@ -7,7 +7,7 @@ use Rattle.wire.specs.Result.{Result, refused, accepted, noRefusal, Checks}
 use Rattle.rtp.specs.declared.packet.Summary.{Summary}
 use Rattle.stream.specs.declared.state.State.{State}
 use Rattle.stream.specs.declared.state.Answer.the-variants as answer
-use Rattle.stream.specs.Step.{numberAfter, later, remembering, phaseOf, timestampOf, fOf, gatheredRecords, gatheredCells, Carried, Gather, Step, afterWith}
+use Rattle.stream.specs.Step.{numberAfter, later, remembering, phaseOf, timestampOf, fOf, gatheredRecords, gatheredCells, gatheredPackets, Carried, Gather, Step, afterWith}
 use Rattle.freshness.specs.declared.place.Freshness.{Freshness}
 use Rattle.freshness.specs.declared.place.Freshness.the-variants as freshness
 use Rattle.depacketizer.specs.declared.admit.Stage.{Stage}
@@ -48,12 +48,13 @@ decisionOf x =
       f = fOf (x .gathered);
       records = gatheredRecords (x .gathered);
       cells = gatheredCells (x .gathered);
+      packets = gatheredPackets (x .gathered);
       append = x .append;
     }
 
 -- the state after a fresh packet, from what was decided
 abbrev pub afterOf : State → (number : ℕ) → Decision → (missing : ℕ) → State
-afterOf st number d missing = afterWith st number (d .phase) (d .timestamp .0) (d .f) (d .records) (d .cells) missing
+afterOf st number d missing = afterWith st number (d .phase) (d .timestamp .0) (d .f) (d .records) (d .cells) (d .packets) missing
 
 -- what `arrive` returns of a step
 abbrev pub arrivalOf : Step → Arrival

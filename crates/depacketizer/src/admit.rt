@@ -14,17 +14,18 @@ use stream::state::State;
 use wire::layout::Layout;
 use wire::refusal::Refusal;
 
-// 35: more than a field or the store can have, something gathered where not filling, or more than lost before a first arrival.
+// 35: more than a field or the store can have, something gathered where not filling, no packet where filling, or more than lost before a first arrival.
 fn is_sound(state: State, room: usize) -> bool
     ensures { λ r. ⌜ r ≡ step.sound state room ⌝ }
 {
+    let none = state.packets == 0;
     let empty = (state.records == 0) & (state.cells == 0);
-    let within = fits(state.records, state.cells, room);
+    let within = fits(state.records, state.cells, state.packets, room);
     let phase = state.phase;
     match phase {
-        Phase::Lost => within & empty,
-        Phase::Ready => within & (empty & state.heard),
-        Phase::Filling => within & state.heard,
+        Phase::Lost => within & (none & empty),
+        Phase::Ready => within & (none & (empty & state.heard)),
+        Phase::Filling => within & ((1 <= state.packets) & state.heard),
     }
 }
 

@@ -2,7 +2,7 @@
 ghost use mathlib.Core.Path.{_≡_};
 ghost use mathlib.Core.Bool.{cond};
 ghost use Prim.Native.Nat.{_≤_};
-ghost use Rattle.wire.specs.Writing.{maxFieldCells, maxFieldRecords};
+ghost use Rattle.wire.specs.Writing.{maxFieldCells, maxFieldPackets, maxFieldRecords};
 ghost use Rattle.stream.specs.Step as step;
 ghost use Rattle.depacketizer.specs.Answers.{carriedBy, decisionOf};
 use rtp::packet::Summary;
@@ -11,6 +11,7 @@ use stream::state::Field;
 use stream::state::Phase;
 use stream::state::State;
 use wire::limit::MAX_FIELD_CELLS;
+use wire::limit::MAX_FIELD_PACKETS;
 use wire::limit::MAX_FIELD_RECORDS;
 use wire::number::Timestamp;
 
@@ -22,6 +23,7 @@ pub struct Decision {
     pub f: u8,
     pub records: usize,
     pub cells: usize,
+    pub packets: usize,
     pub append: bool,
 }
 
@@ -37,6 +39,7 @@ fn dropped(answer: Answer, marker: bool) -> Decision
             f: 0,
             records: 0,
             cells: 0,
+            packets: 0,
             append: false,
         }
     } else {
@@ -47,14 +50,15 @@ fn dropped(answer: Answer, marker: bool) -> Decision
             f: 0,
             records: 0,
             cells: 0,
+            packets: 0,
             append: false,
         }
     }
 }
 
 // The field is whole with a marked packet, and held with any other.
-fn taken(summary: Summary, records: usize, cells: usize) -> Decision
-    ensures { λ r. ⌜ r ≡ decisionOf (step.taken (carriedBy summary) records cells) ⌝ }
+fn taken(summary: Summary, records: usize, cells: usize, packets: usize) -> Decision
+    ensures { λ r. ⌜ r ≡ decisionOf (step.taken (carriedBy summary) records cells packets) ⌝ }
 {
     let head = summary.head;
     let timestamp = head.timestamp;
@@ -66,12 +70,14 @@ fn taken(summary: Summary, records: usize, cells: usize) -> Decision
                 f,
                 records,
                 cells,
+                packets,
             }),
             phase: Phase::Ready,
             timestamp: Timestamp(0),
             f: 0,
             records: 0,
             cells: 0,
+            packets: 0,
             append: true,
         }
     } else {
@@ -82,22 +88,24 @@ fn taken(summary: Summary, records: usize, cells: usize) -> Decision
             f,
             records,
             cells,
+            packets,
             append: true,
         }
     }
 }
 
 // Within a field's limits and the store.
-pub(crate) fn fits(records: usize, cells: usize, room: usize) -> bool
-    ensures { λ r. ⌜ r ≡ step.fits records cells room ⌝ }
+pub(crate) fn fits(records: usize, cells: usize, packets: usize, room: usize) -> bool
+    ensures { λ r. ⌜ r ≡ step.fits records cells packets room ⌝ }
 {
-    (records <= MAX_FIELD_RECORDS) & ((cells <= MAX_FIELD_CELLS) & (cells <= room))
+    (records <= MAX_FIELD_RECORDS)
+        & ((cells <= MAX_FIELD_CELLS) & ((cells <= room) & (packets <= MAX_FIELD_PACKETS)))
 }
 
-// A packet joins so many records in so many cells.
-fn join(records: usize, cells: usize, summary: Summary, room: usize) -> Decision
-    requires { ⌜ (records ≤ maxFieldRecords) × (cells ≤ maxFieldCells) ⌝ }
-    ensures { λ r. ⌜ r ≡ decisionOf (step.join records cells (carriedBy summary) room) ⌝ }
+// A packet joins so many records in so many cells of so many packets.
+fn join(records: usize, cells: usize, packets: usize, summary: Summary, room: usize) -> Decision
+    requires { ⌜ (records ≤ maxFieldRecords) × (cells ≤ maxFieldCells) × (packets ≤ maxFieldPackets) ⌝ }
+    ensures { λ r. ⌜ r ≡ decisionOf (step.join records cells packets (carriedBy summary) room) ⌝ }
 {
     let head = summary.head;
     if summary.cells > MAX_FIELD_CELLS {
@@ -105,27 +113,28 @@ fn join(records: usize, cells: usize, summary: Summary, room: usize) -> Decision
     }
     let all = records + (summary.records as usize);
     let used = cells + summary.cells;
-    if !fits(all, used, room) {
+    let number = packets + 1;
+    if !fits(all, used, number, room) {
         return dropped(Answer::Overfull, head.marker);
     }
-    taken(summary, all, used)
+    taken(summary, all, used, number)
 }
 
 // A packet that follows the last fresh one.
 fn follow(state: State, summary: Summary, room: usize) -> Decision
-    requires { ⌜ (state .records ≤ maxFieldRecords) × (state .cells ≤ maxFieldCells) ⌝ }
+    requires { ⌜ (state .records ≤ maxFieldRecords) × (state .cells ≤ maxFieldCells) × (state .packets ≤ maxFieldPackets) ⌝ }
     ensures { λ r. ⌜ r ≡ decisionOf (step.follow (step.gathered state) (carriedBy summary) room) ⌝ }
 {
     let head = summary.head;
     let phase = state.phase;
     match phase {
         Phase::Lost => dropped(Answer::Skipped, head.marker),
-        Phase::Ready => join(0, 0, summary, room),
+        Phase::Ready => join(0, 0, 0, summary, room),
         Phase::Filling => {
             let gathered = state.timestamp;
             let arrived = head.timestamp;
             if (gathered.0 == arrived.0) & (state.f == head.f) {
-                join(state.records, state.cells, summary, room)
+                join(state.records, state.cells, state.packets, summary, room)
             } else {
                 dropped(Answer::Mixed, head.marker)
             }
@@ -135,7 +144,7 @@ fn follow(state: State, summary: Summary, room: usize) -> Decision
 
 // `next` where the packet follows the last fresh one; else there is a gap before it, and what was gathered is dropped.
 pub(crate) fn decide(state: State, next: bool, summary: Summary, room: usize) -> Decision
-    requires { ⌜ (state .records ≤ maxFieldRecords) × (state .cells ≤ maxFieldCells) ⌝ }
+    requires { ⌜ (state .records ≤ maxFieldRecords) × (state .cells ≤ maxFieldCells) × (state .packets ≤ maxFieldPackets) ⌝ }
     ensures { λ r. ⌜ r ≡ decisionOf (step.follow (cond next (step.gathered state) step.lost) (carriedBy summary) room) ⌝ }
 {
     if next {

@@ -109,6 +109,7 @@ fn after(state: State, number: PacketNumber, decision: Decision, missing: u64) -
         f: decision.f,
         records: decision.records,
         cells: decision.cells,
+        packets: decision.packets,
         fresh: increased(state.fresh, 1),
         late: state.late,
         missing: increased(state.missing, missing),
@@ -160,7 +161,8 @@ impl Depacketizer {
         let decision = decide(from, next, summary, store.len());
         if decision.append {
             let at = from.cells;
-            read_records(layout, octets, outline, &mut store[at..]);
+            let index = from.packets as u16;
+            read_records(layout, octets, outline, index, &mut store[at..]);
         }
         let answer = decision.answer;
         Arrival {

@@ -19,6 +19,7 @@ use version::header_size;
 use version::version_at;
 use wire::count::OctetCount;
 use wire::layout::Layout;
+use wire::limit::READ_INDEX;
 use wire::refusal::Refusal;
 
 // Reads the field at an offset: its records into the first cells, and what stands beside them.
@@ -37,6 +38,12 @@ pub fn read_field(file: &[u8], at: OctetCount, cells: &mut [u16]) -> FieldRead
         });
     }
     let from = at.0 + header_size(version_at(file));
-    read_run(Layout::Rfc8331, &file[from..], summary.records, cells);
+    read_run(
+        Layout::Rfc8331,
+        &file[from..],
+        summary.records,
+        READ_INDEX,
+        cells,
+    );
     checked
 }

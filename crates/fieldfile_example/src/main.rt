@@ -67,7 +67,8 @@ fn show(file: &[u8], at: usize) -> usize {
     }
 }
 
-// The file is written with two fields; of the two others one has F 1 and one a record that is cut.
+// The file is written with two fields; of the two others one has F 1 and one a record that is cut. The index of a record's packet is not stored, and
+// reads as 0 (02, K13).
 fn write_file(to: i32) {
     let both = [
         0u16,
@@ -78,6 +79,7 @@ fn write_file(to: i32) {
         0x41,
         5,
         0,
+        3,
         1,
         0x7FF,
         0xFFF,
@@ -86,13 +88,14 @@ fn write_file(to: i32) {
         0x61,
         2,
         2,
+        4,
         0x2AA,
         0x155,
     ];
     begin(to);
-    append(to, 1000, 2, &both[..8]);
-    append(to, 7, 1, &both[..8]);
-    append(to, 7, 0, &both[..9]);
+    append(to, 1000, 2, &both[..9]);
+    append(to, 7, 1, &both[..9]);
+    append(to, 7, 0, &both[..10]);
     append(to, 0x01020304, 3, &both);
 }
 

@@ -36,6 +36,7 @@ pub fn opened(source: u32, payload_type: u8) -> State
         f: 0,
         records: 0,
         cells: 0,
+        packets: 0,
         fresh: 0,
         late: 0,
         missing: 0,

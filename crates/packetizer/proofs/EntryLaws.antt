@@ -17,12 +17,12 @@ use Rattle.wire.specs.Bits.{Below, overwrite}
 use Rattle.wire.specs.Layout.{Layout, rfc8331, draft2015}
 use Rattle.wire.specs.Result.{Result, refused, accepted, _then_}
 use Rattle.wire.specs.Anc.{Record}
-use Rattle.wire.specs.Cells.{listOf}
+use Rattle.wire.specs.Cells.{listOf, Lists}
 use Rattle.wire.specs.Packet.{maxPacket, paddingFlag, hasExtension, sourceCount, Content, BareOctets, readContent}
 use Rattle.wire.specs.Writing.{maxCells, contentOctets, HeadFits, withRecords, headOk, headChecks, layoutOk, limitChecks, packetRecords, writeContent}
 use Rattle.wire.specs.Written.{octetsAfter, writtenOf}
 use Rattle.wire.proofs.BitLaws.{flag}
-use Rattle.wire.proofs.CellLaws.{list-iff}
+use Rattle.wire.proofs.CellLaws.{list-iff, lists-own, lists-length}
 use Rattle.wire.proofs.LayoutLaws.{places, layout-iff}
 use Rattle.wire.proofs.WritingLaws.{all-pass}
 use Rattle.wire.proofs.Demand2 as demand2
@@ -94,22 +94,23 @@ module _ (L : Layout) where
     fits-types = record { marker = bit-lt (h .marker); number = typed .number; timestamp = typed .timestamp; source = typed .source }
 
     -- "Writing records and reading them gives the same records.": the octets that `write` left, given to `read_strict` with a list that is long
-    -- enough, return the six values that `write` was given, and leave its cells.
+    -- enough, return the six values that `write` was given, and leave its cells, "apart from this cell" (02, K13): both are cells of the same
+    -- records.
     pub written-read : (lent : List ℕ) → length cells ≤ length lent
-        → (rs : List Record) × (cells ≡ listOf rs)
+        → (rs : List Record) × Lists rs cells
         × (readReturns L (take (n .0) (writeLeaves L h cells out)) lent ≡ read.Packet (record { head = h; records = length rs; cells = length cells }))
-        × (readLeaves L (take (n .0) (writeLeaves L h cells out)) lent ≡ overwrite cells lent)
+        × (readLeaves L (take (n .0) (writeLeaves L h cells out)) lent ≡ overwrite (listOf rs) lent)
     written-read lent l =
         let w = wrote h cells out n e in
         let d = demand2.written-read L (contentOf h) cells (length out) (w .octets) fits-types (w .writes) in
         let rs = d .0 in
-        let list : cells ≡ listOf rs = d .1 in
+        let same : length cells ≡ length (listOf rs) = lists-length rs cells (d .1) in
         let q = withRecords (contentOf h) rs in
         let reads : readContent L (take (n .0) (writeLeaves L h cells out)) ≡ accepted q = ap (readContent L) (w .first) ∙ d .5 in
-        let into = into-list L (take (n .0) (writeLeaves L h cells out)) lent q reads (rw list at l) in
+        let into = into-list L (take (n .0) (writeLeaves L h cells out)) lent q reads (omega (arith, same, l)) in
         let says : summaryOf q ≡ record { head = h; records = length rs; cells = length cells } =
-        λ i. record { head = taken-then-read h rs i; records = length rs; cells = length (sym list i) } in
-        (rs, list, ap readOf into ∙ ap read.Packet says, ap (λ r. cellsAfter r lent) into ∙ ap (λ (x : List ℕ). overwrite x lent) (sym list))
+        λ i. record { head = taken-then-read h rs i; records = length rs; cells = sym same i } in
+        (rs, d .1, ap readOf into ∙ ap read.Packet says, ap (λ r. cellsAfter r lent) into)
 
   -- 01, "An empty list gives a 20-octet packet.", and in the drafts' layout, where F is 0, one of 17 octets (`empty-sizes`)
   pub empty-list : (h : Head) (out : List ℕ) → headOk (h .«payload_type») (h .f) ≡ true → layoutOk L (h .f) [] ≡ true → frontSize L ≤ length out
@@ -120,7 +121,7 @@ module _ (L : Layout) where
       let size : length (contentOctets L k) ≡ frontSize L = length-whole L h [] ∙ add-zero (frontSize L) in
       let room : leb (length (contentOctets L k)) (length out) ≡ true = ap (λ (x : ℕ). leb x (length out)) size ∙ le-leb (frontSize L) (length out) l in
       let records : packetRecords L (contentOf h) [] (length out) ≡ accepted [] =
-      all-pass (headChecks (contentOf h)) (λ rs. limitChecks L (withRecords (contentOf h) rs) 0 (length out)) [] (ok, tt) [] (list-iff [] [] .1 (tt, refl))
+      all-pass (headChecks (contentOf h)) (λ rs. limitChecks L (withRecords (contentOf h) rs) 0 (length out)) [] (ok, tt) [] (list-iff [] [] .1 (tt, lists-own []))
       (refl, (held, (room, tt))) in
       ap (λ r. writtenOf (r then λ rs. accepted (contentOctets L (withRecords (contentOf h) rs)))) records
       ∙ ap (λ (x : ℕ). written.Octets (record { 0 = x })) size

@@ -14,13 +14,13 @@ use Rattle.wire.specs.Bits.{pack, overwrite, splice}
 use Rattle.wire.specs.Layout.{Layout}
 use Rattle.wire.specs.Result.{Result, refused, accepted, refuse, Checks, _then_, IsAccepted}
 use Rattle.wire.specs.Anc.{Record, runOctets, runSize}
-use Rattle.wire.specs.Cells.{readList, listOf}
+use Rattle.wire.specs.Cells.{readList}
 use Rattle.wire.specs.Packet.{maxPacket, packetOctets}
 use Rattle.wire.specs.Writing.{maxRecords, maxCells, maxType, plain, contentOctets, withRecords, headOk, headChecks, layoutOk, limitChecks, packetRecords, writeContent}
 use Rattle.wire.proofs.ListLaws.{splice-append, part-written}
 use Rattle.wire.proofs.ResultLaws.{Passed, and-true}
 use Rattle.wire.proofs.AncLaws.{length-run}
-use Rattle.wire.proofs.CellLaws.{list-iff}
+use Rattle.wire.proofs.CellLaws.{list-iff, lists-length}
 use Rattle.wire.proofs.PacketLaws.{length-packet}
 use Rattle.wire.proofs.Demand2.{fits-packet}
 use Rattle.wire.proofs.WritingLaws.{head-fails, list-fails, limit-fails, all-pass, passes}
@@ -131,7 +131,7 @@ module _ (L : Layout) where
           let z = length-whole h rs in
           let few = leb-true (length rs) maxRecords (and-true _ _ (c .0) .0) in
           let cells-few = leb-true (length cells) maxCells (and-true (leb (length rs) maxRecords) (leb (length cells) maxCells) (c .0) .1) in
-          let list : cells ≡ listOf rs = list-iff cells rs .0 (p .reads) .1 in
+          let list = lists-length rs cells (list-iff cells rs .0 (p .reads) .1) in
           record {
             rs = rs;
             reads = p .reads;
@@ -142,7 +142,7 @@ module _ (L : Layout) where
             f = leb-true (h .f) 3 (b .0);
             few = omega (arith, t .count);
             enough = omega (arith, t .size, leb-true (length (whole h rs)) room (c .1 .1 .0));
-            short = omega (arith, t .size, fits-packet L (withRecords (contentOf h) rs) (subst (λ (x : List ℕ). length x ≤ maxCells) list cells-few));
+            short = omega (arith, t .size, fits-packet L (withRecords (contentOf h) rs) (omega (arith, list, cells-few)));
           }
 
       -- its headers written, and its run behind them from octet `at` on, it is written whole

@@ -9,7 +9,7 @@ use Rattle.wire.specs.declared.refusal.Refusal.{Refusal}
 use Rattle.wire.specs.Layout.{rfc8331}
 use Rattle.wire.specs.Result.{IsAccepted}
 use Rattle.wire.specs.Anc.{Each, Record, WellFormed}
-use Rattle.wire.specs.Cells.{listOf, cellRecord, cellChecks, rest, readList}
+use Rattle.wire.specs.Cells.{Lists, cellRecord, cellChecks, rest, readList}
 use Rattle.wire.proofs.CellLaws.{front-reads, list-iff}
 use Rattle.wire.proofs.ResultLaws.{Passed, accepted-is}
 use Rattle.record.specs.declared.header.Header.{Header}
@@ -24,7 +24,7 @@ use Rattle.conformance.specs.Code.{past, pastAll, pastList}
 pub record Left (all : Scan) (left : List ℕ) (s : Scan) : Type 0 where
   pub records : List Record
   pub formed : Each (WellFormed rfc8331) records
-  pub cells : left ≡ listOf records
+  pub cells : Lists records left
   pub scan : pastAll s records ≡ all
 
 -- before the first record
@@ -39,9 +39,9 @@ pub none-left : (all : Scan) (left : List ℕ) (s : Scan) → Left all left s �
 unfolding pastAll
 none-left all left s w l = go (w .records) (w .cells) (w .scan)
   where
-    go : (rs : List Record) → left ≡ listOf rs → pastAll s rs ≡ all → s ≡ all
+    go : (rs : List Record) → Lists rs left → pastAll s rs ≡ all → s ≡ all
     go [] e f = f
-    go (r ∷ rs) e f = absurd (omega (arith, ap length e))
+    go (r ∷ rs) e f = absurd (omega (arith, ap length (e .3)))
 
 -- a record that passes has a header
 pub header-there : (l : List ℕ) (x : Refusal) → Passed (cellChecks l) → foundOf (headerAt l 0) ≡ found.Refused x → ⊥
@@ -63,17 +63,17 @@ pub next : (all : Scan) (left : List ℕ) (s : Scan) → Left all left s → 0 <
 unfolding pastAll
 next all left s w h = go (w .records) (w .formed) (w .cells) (w .scan)
   where
-    go : (rs : List Record) → Each (WellFormed rfc8331) rs → left ≡ listOf rs → pastAll s rs ≡ all → Next all left s
+    go : (rs : List Record) → Each (WellFormed rfc8331) rs → Lists rs left → pastAll s rs ≡ all → Next all left s
     go [] f e g = absurd (omega (arith, ap length e))
     go (r ∷ rs) f e g =
-        let p = subst (λ (y : List ℕ). Passed (cellChecks y) × (cellRecord y ≡ r) × (rest y ≡ listOf rs)) (sym e) (front-reads r (listOf rs) (f .0 .fits)) in
+        let p = subst (λ (y : List ℕ). Passed (cellChecks y) × (cellRecord y ≡ r) × (rest y ≡ e .1)) (sym (e .3)) (front-reads (e .0) r (e .1) (f .0 .fits) (e .2)) in
         record {
           passed = p .0;
           then =
-              record { records = rs; formed = f .1; cells = p .2; scan = ap (λ (q : Record). pastAll (past s (headerOf q .location)) rs) (p .1) ∙ g };
+              record { records = rs; formed = f .1; cells = subst (Lists rs) (sym (p .2)) (e .4); scan = ap (λ (q : Record). pastAll (past s (headerOf q .location)) rs) (p .1) ∙ g };
         }
 
 -- the same, where the code has the cells and the scan otherwise
 pub left-same : (all : Scan) (left left′ : List ℕ) (s s′ : Scan) → left′ ≡ left → s′ ≡ s → Left all left s → Left all left′ s′
 left-same all left left′ s s′ e d w =
-    record { records = w .records; formed = w .formed; cells = e ∙ w .cells; scan = ap (λ (z : Scan). pastAll z (w .records)) d ∙ w .scan }
+    record { records = w .records; formed = w .formed; cells = subst (Lists (w .records)) (sym e) (w .cells); scan = ap (λ (z : Scan). pastAll z (w .records)) d ∙ w .scan }

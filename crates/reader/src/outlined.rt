@@ -9,6 +9,7 @@ use rtp::check::summary_at;
 use rtp::packet::Checked;
 use rtp::packet::Outline;
 use wire::layout::Layout;
+use wire::limit::READ_INDEX;
 use wire::refusal::Refusal;
 
 // The records of a packet that `rtp::check` accepted into the first cells, 14 before.
@@ -28,7 +29,7 @@ pub fn read_outlined(
             index: 0,
         });
     }
-    read_records(layout, octets, outline, cells);
+    read_records(layout, octets, outline, READ_INDEX, cells);
     TolerantRead::Packet {
         summary: summary_at(layout, octets, outline),
         omitted: 0,

@@ -16,7 +16,7 @@ use Rattle.wire.specs.Bits.{Below, overwrite}
 use Rattle.wire.specs.Layout.{Layout}
 use Rattle.wire.specs.Result.{Result, refused, accepted}
 use Rattle.wire.specs.Anc.{Record}
-use Rattle.wire.specs.Cells.{listOf}
+use Rattle.wire.specs.Cells.{listOf, Lists}
 use Rattle.wire.specs.Packet.{Packet, BareOctets, Content, content}
 use Rattle.wire.specs.Writing.{withRecords}
 use Rattle.wire.proofs.ResultLaws.{Numbered, accepted-inj, judge-accepts, then-accepts}
@@ -137,12 +137,12 @@ module _ (L : Layout) (s lent : List ℕ) where
       let p = refused-other L s lent x e h in
       (sym (p .0), sym (p .1) ∙ refused-leaves L s lent x e)
 
--- "Writing records and reading them gives the same records.": with none left out
+-- "Writing records and reading them gives the same records.", "apart from this cell" (02, K13): with none left out
 pub written-read : (L : Layout) (h : Head) → OfTypes h → (cells out : List ℕ) (n : OctetCount) → writeReturns L h cells out ≡ written.Octets n
     → (lent : List ℕ) → length cells ≤ length lent
-    → (rs : List Record) × (cells ≡ listOf rs)
+    → (rs : List Record) × Lists rs cells
     × (tolerantReturns L (take (n .0) (writeLeaves L h cells out)) lent ≡ read.Packet (record { head = h; records = length rs; cells = length cells }) 0)
-    × (tolerantLeaves L (take (n .0) (writeLeaves L h cells out)) lent ≡ overwrite cells lent)
+    × (tolerantLeaves L (take (n .0) (writeLeaves L h cells out)) lent ≡ overwrite (listOf rs) lent)
 written-read L h typed cells out n e lent l =
     let d = packetizer.written-read L h typed cells out n e lent l in
     let s = take (n .0) (writeLeaves L h cells out) in

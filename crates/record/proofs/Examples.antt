@@ -36,8 +36,8 @@ bHeader =
       words = record { 0 = 2 };
     }
 
--- A starts at cell 0 and B at cell 8; none starts at 9, nor behind the last cell
-pub headers : (headerAt (listOf (a ∷ b ∷ [])) 0 ≡ accepted aHeader) × (headerAt (listOf (a ∷ b ∷ [])) 8 ≡ accepted bHeader)
-    × (headerAt (listOf (a ∷ b ∷ [])) 9 ≡ refuse 20 0) × (headerAt (listOf (a ∷ b ∷ [])) 99 ≡ refuse 20 0)
+-- A starts at cell 0 and B at cell 9; none starts at 10, nor behind the last cell
+pub headers : (headerAt (listOf (a ∷ b ∷ [])) 0 ≡ accepted aHeader) × (headerAt (listOf (a ∷ b ∷ [])) 9 ≡ accepted bHeader)
+    × (headerAt (listOf (a ∷ b ∷ [])) 10 ≡ refuse 20 0) × (headerAt (listOf (a ∷ b ∷ [])) 99 ≡ refuse 20 0)
 unfolding lineOf offsetOf cellRecord headInRange cellChecks headerAt
 headers = (refl, refl, refl, refl)

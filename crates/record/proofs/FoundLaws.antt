@@ -10,7 +10,7 @@ use Rattle.wire.specs.declared.refusal.Refusal.{Refusal}
 use Rattle.wire.specs.Result.{Result, refused, accepted, refuse}
 use Rattle.wire.specs.Layout.{rfc8331}
 use Rattle.wire.specs.Anc.{Record, InRange}
-use Rattle.wire.specs.Cells.{headCells, cellsOf, cellCount, cellRecord, cellChecks, rest}
+use Rattle.wire.specs.Cells.{headCells, cellsIn, maxIndex, cellCount, cellIndex, cellRecord, cellChecks, rest}
 use Rattle.wire.proofs.ResultLaws.{Passed, accepted-inj, judge-accepts, judge-passes}
 use Rattle.wire.proofs.CellLaws.{front-passed, front-reads}
 use Rattle.record.specs.declared.header.Header.{Header}
@@ -25,8 +25,10 @@ use Rattle.record.proofs.FrontLaws.{lies, taken, malformed}
 -- the cells of the record `r`, whose numbers are in range, stand from the cell `at` on, with others behind them
 pub record StandsAt (l : List ℕ) (at : ℕ) (r : Record) : Type 0 where
   pub formed : InRange rfc8331 r
+  pub index : ℕ
+  pub taken : index ≤ maxIndex
   pub behind : List ℕ
-  pub cells : drop at l ≡ cellsOf r ++ behind
+  pub cells : drop at l ≡ cellsIn index r ++ behind
 
 -- A HEADER is found exactly where such a record's cells stand, and is that record's
 pub header-at-iff : (l : List ℕ) (at : ℕ) (h : Header) → (headerAt l at ≡ accepted h) ↔ ((r : Record) × StandsAt l at r × (headerOf r ≡ h))
@@ -35,19 +37,20 @@ header-at-iff l at h = (
   λ e.
       let a = judge-accepts 0 (cellChecks (drop at l)) _ h e in
       let f = front-passed (drop at l) (a .0) in
-      (cellRecord (drop at l), record { formed = f .0; behind = rest (drop at l); cells = f .1 }, accepted-inj (a .1)),
+      (cellRecord (drop at l), record { formed = f .0; index = cellIndex (drop at l); taken = f .1; behind = rest (drop at l); cells = f .2 }, accepted-inj (a .1)),
   λ p.
       let s = p .1 in
-      let f = subst (λ (y : List ℕ). Passed (cellChecks y) × (cellRecord y ≡ p .0) × (rest y ≡ s .behind)) (sym (s .cells)) (front-reads (p .0) (s .behind) (s .formed)) in
+      let f = subst (λ (y : List ℕ). Passed (cellChecks y) × (cellRecord y ≡ p .0) × (rest y ≡ s .behind)) (sym (s .cells)) (front-reads (s .index) (p .0) (s .behind) (s .formed) (s .taken)) in
       judge-passes 0 (cellChecks (drop at l)) _ (f .0) ∙ ap (λ (r : Record). accepted (headerOf r)) (f .1) ∙ ap accepted (p .2),
 )
 
--- its cells are the first there
-pub header-at-cells : (l : List ℕ) (at : ℕ) (h : Header) → headerAt l at ≡ accepted h → take headCells (drop at l) ≡ headerCells h
+-- its cells are the first there, with an index that is taken
+pub header-at-cells : (l : List ℕ) (at : ℕ) (h : Header) → headerAt l at ≡ accepted h
+    → (index : ℕ) × (index ≤ maxIndex) × (take headCells (drop at l) ≡ headerCells index h)
 header-at-cells l at h e =
     let p = header-at-iff l at h .0 e in
     let s = p .1 in
-    ap (take headCells) (s .cells) ∙ sym (header-cells (p .0) (s .formed .c) (s .formed .s)) ∙ ap headerCells (p .2)
+    (s .index, s .taken, ap (take headCells) (s .cells) ∙ sym (header-cells (p .0) (s .formed .c) (s .formed .s) (s .index)) ∙ ap (headerCells (s .index)) (p .2))
 
 -- and where there is none, 20 is given, index 0
 pub header-at-refused : (l : List ℕ) (at : ℕ) (x : Refusal) → headerAt l at ≡ refused x → x ≡ record { number = 20; index = 0 }

@@ -12,7 +12,7 @@ use borrow.Author.Tests.{leb-true, ltb-true, lt-ltb}
 use Rattle.wire.specs.Result.{Result, accepted, refuse, Checks, judge}
 use Rattle.wire.specs.Words.{wordBits, headerNumbers, leastClear, mostClear, isClear, allClear}
 use Rattle.wire.specs.Anc.{Each, Record}
-use Rattle.wire.specs.Cells.{headCells, cellCount, cellRecord, allBelow, headInRange, cellChecks, rest}
+use Rattle.wire.specs.Cells.{headCells, maxIndex, cellCount, cellIndex, cellRecord, allBelow, headInRange, cellChecks, rest}
 use Rattle.wire.specs.declared.count.WordCount.{WordCount}
 use Rattle.wire.proofs.ResultLaws.{Passed, judge-passes, and-true, and-both}
 use Rattle.wire.proofs.CellLaws.{front-passed}
@@ -48,7 +48,8 @@ count-small l e =
     let a = and-true (ltb (getD l 3 0) 2) _ a .1 in
     let a = and-true (ltb (getD l 4 0) 128) _ a .1 in
     let a = and-true (ltb (getD l 5 0) headerNumbers) _ a .1 in
-    ltb-true (cellCount l) headerNumbers (and-true (ltb (getD l 6 0) headerNumbers) (ltb (cellCount l) headerNumbers) a .1)
+    let a = and-true (ltb (getD l 6 0) headerNumbers) _ a .1 in
+    ltb-true (cellCount l) headerNumbers (and-true (ltb (cellCount l) headerNumbers) (leb (cellIndex l) maxIndex) a .0)
 
 -- the cells behind the record, as the code takes them
 pub rest-is : (l : List ℕ) (n : ℕ) → n ≡ cellCount l → take (length l - (headCells + n)) (drop (headCells + n) l) ≡ rest l

@@ -6,7 +6,7 @@ use Prim.Native.Nat.{ℕ, _<_}
 use lib.ListN.{take}
 use Rattle.wire.specs.Anc.{Record, locationFields}
 use Rattle.wire.specs.Bits.{Fields}
-use Rattle.wire.specs.Cells.{headCells, cellsOf}
+use Rattle.wire.specs.Cells.{headCells, cellsIn}
 use Rattle.wire.specs.Layout.{rfc8331}
 use Rattle.wire.proofs.BitLaws.{flag}
 use Rattle.record.specs.Header.{headerOf, recordOf, headerCells, headerLocation}
@@ -26,8 +26,8 @@ module _ (r : Record) (c : r .c < 2) (s : r .s < 2) where
   }
 
   -- the header's cells are the record's before its words
-  pub header-cells : headerCells (headerOf r) ≡ take headCells (cellsOf r)
-  header-cells = ap (λ (x : Record). take headCells (cellsOf x)) header-record
+  pub header-cells : (p : ℕ) → headerCells p (headerOf r) ≡ take headCells (cellsIn p r)
+  header-cells p = ap (λ (x : Record). take headCells (cellsIn p x)) header-record
 
   -- and its fields before DID are the record's
   pub header-location : headerLocation (headerOf r) ≡ locationFields rfc8331 r

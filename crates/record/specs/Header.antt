@@ -38,11 +38,11 @@ recordOf h ws =
       words = ws;
     }
 
--- 01, "Records in a lent list": C, line, offset, S, StreamNum, DID, SDID, n
-abbrev pub headerCells : Header → List ℕ
-headerCells h =
+-- 01, "Records in a lent list": C, line, offset, S, StreamNum, DID, SDID, n; 02, K13: the index of the record's packet
+abbrev pub headerCells : ℕ → Header → List ℕ
+headerCells p h =
     bit (h .c) ∷ lineNumber (h .location .line) ∷ offsetNumber (h .location .offset) ∷ bit (h .s) ∷ h .stream
-    ∷ h .did ∷ h .sdid ∷ h .words .0 ∷ []
+    ∷ h .did ∷ h .sdid ∷ h .words .0 ∷ p ∷ []
 
 -- RFC 8331, section 2.1: the 32 bits before DID
 abbrev pub headerLocation : Header → Fields

@@ -1,4 +1,4 @@
-// The record at the front of cells, checked (01, refusal 20; 02, K5, refusal 16).
+// The record at the front of cells, checked (01, refusal 20; 02, K5, refusal 16; the ninth cell: 02, K13).
 ghost use mathlib.Core.Path.{_≡_};
 ghost use Prim.Native.Nat.{_^_, _≤_};
 ghost use lib.ListN.{length};
@@ -15,6 +15,7 @@ use wire::layout::MOST_CLEAR;
 use wire::layout::OFFSET_NUMBERS;
 use wire::layout::STREAM_NUMBERS;
 use wire::layout::WORD_NUMBERS;
+use wire::limit::MAX_INDEX;
 
 // What the record at the front of a list is: its n, and whether none of its words is a protected one.
 pub enum Front {
@@ -35,6 +36,7 @@ fn head_in_range(cells: &[u16]) -> bool
         & (cells[5] < HEADER_NUMBERS)
         & (cells[6] < HEADER_NUMBERS)
         & (cells[Header::COUNT_CELL] < HEADER_NUMBERS)
+        & (cells[Header::INDEX_CELL] <= MAX_INDEX)
 }
 
 // Each word fits ten bits. It looks at all of them, so that the compiler looks at eight at once.

@@ -35,10 +35,12 @@ pub enum Found {
 }
 
 impl Header {
-    // Cells of a record before its words, and the last of them: n.
-    pub const CELLS: usize = 8;
+    // Cells of a record before its words, and the last two of them: n, and the index of its packet within its field (02, K13).
+    pub const CELLS: usize = 9;
 
     pub const COUNT_CELL: usize = 7;
+
+    pub const INDEX_CELL: usize = 8;
 
     // The header of the record that starts at the cell `at`, or refusal 20.
     pub fn at(cells: &[u16], at: usize) -> Found

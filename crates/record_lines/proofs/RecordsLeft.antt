@@ -12,7 +12,7 @@ use Rattle.wire.specs.Result.{IsAccepted}
 use Rattle.wire.specs.Bits.{Below}
 use Rattle.wire.specs.Words.{wordBits}
 use Rattle.wire.specs.Anc.{Each, Record, WellFormed}
-use Rattle.wire.specs.Cells.{headCells, listOf, cellRecord, cellChecks, rest, readList}
+use Rattle.wire.specs.Cells.{headCells, Lists, cellRecord, cellChecks, rest, readList}
 use Rattle.wire.proofs.CellLaws.{front-reads, list-iff}
 use Rattle.wire.proofs.ResultLaws.{Passed, accepted-is}
 use Rattle.record.specs.declared.header.Header.{Header}
@@ -28,7 +28,7 @@ use Rattle.record_lines.specs.Records.{recordText, recordTexts, listText
 pub record Left (before : List ℕ) (at : ℕ) (all out left : List ℕ) (to : ℕ) : Type 0 where
   pub records : List Record
   pub formed : Each (WellFormed rfc8331) records
-  pub cells : left ≡ listOf records
+  pub cells : Lists records left
   pub put : (o : List ℕ) (r : ℕ) → Put out to (recordTexts records) o r → Put before at all o r
 
 -- before the first record
@@ -43,9 +43,9 @@ pub none-left : (before : List ℕ) (at : ℕ) (all out left : List ℕ) (to : �
     → Put before at all out to
 none-left before at all out left to w h l = go (w .records) (w .cells) (w .put)
   where
-    go : (rs : List Record) → left ≡ listOf rs → ((o : List ℕ) (r : ℕ) → Put out to (recordTexts rs) o r → Put before at all o r) → Put before at all out to
+    go : (rs : List Record) → Lists rs left → ((o : List ℕ) (r : ℕ) → Put out to (recordTexts rs) o r → Put before at all o r) → Put before at all out to
     go [] e f = f out to (nothing out to h)
-    go (r ∷ rs) e f = absurd (omega (arith, ap length e))
+    go (r ∷ rs) e f = absurd (omega (arith, ap length (e .3)))
 
 -- a record that passes has a header
 pub header-there : (l : List ℕ) (x : Refusal) → Passed (cellChecks l) → foundOf (headerAt l 0) ≡ found.Refused x → ⊥
@@ -79,16 +79,17 @@ pub record Next (before : List ℕ) (at : ℕ) (all out left : List ℕ) (to : �
 pub next : (before : List ℕ) (at : ℕ) (all out left : List ℕ) (to : ℕ) → Left before at all out left to → 0 < length left → Next before at all out left to
 next before at all out left to w h = go (w .records) (w .formed) (w .cells) (w .put)
   where
-    go : (rs : List Record) → Each (WellFormed rfc8331) rs → left ≡ listOf rs
+    go : (rs : List Record) → Each (WellFormed rfc8331) rs → Lists rs left
         → ((o : List ℕ) (r : ℕ) → Put out to (recordTexts rs) o r → Put before at all o r) → Next before at all out left to
     go [] f e g = absurd (omega (arith, ap length e))
     go (r ∷ rs) f e g =
-        let p = subst (λ (y : List ℕ). Passed (cellChecks y) × (cellRecord y ≡ r) × (rest y ≡ listOf rs)) (sym e) (front-reads r (listOf rs) (f .0 .fits)) in
+        let t = e .1 in
+        let p = subst (λ (y : List ℕ). Passed (cellChecks y) × (cellRecord y ≡ r) × (rest y ≡ t)) (sym (e .3)) (front-reads (e .0) r t (f .0 .fits) (e .2)) in
         record {
           passed = p .0;
-          then = λ o n t. record { records = rs; formed = f .1; cells = p .2; put = λ o₂ n₂ u. g o₂ n₂ (both (same (ap recordText (p .1)) t) u) };
+          then = λ o n t. record { records = rs; formed = f .1; cells = subst (Lists rs) (sym (p .2)) (e .4); put = λ o₂ n₂ u. g o₂ n₂ (both (same (ap recordText (p .1)) t) u) };
         }
 
 -- the same, where the code has the cells otherwise
 pub left-same : (before : List ℕ) (at : ℕ) (all out left left′ : List ℕ) (to : ℕ) → left′ ≡ left → Left before at all out left to → Left before at all out left′ to
-left-same before at all out left left′ to e w = record { records = w .records; formed = w .formed; cells = e ∙ w .cells; put = w .put }
+left-same before at all out left left′ to e w = record { records = w .records; formed = w .formed; cells = subst (Lists (w .records)) (sym e) (w .cells); put = w .put }

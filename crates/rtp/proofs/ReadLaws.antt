@@ -13,13 +13,14 @@ use Rattle.wire.specs.Bits.{Below, overwrite}
 use Rattle.wire.specs.Layout.{Layout, payloadHeaderSize}
 use Rattle.wire.specs.Result.{Result, refused, accepted, refuse, IsAccepted}
 use Rattle.wire.specs.Anc.{Record, readRun}
-use Rattle.wire.specs.Cells.{listOf}
+use Rattle.wire.specs.Cells.{listIn, listOf}
 use Rattle.wire.specs.Packet.{Packet, Content, content, headerLeast, headerSize, lengthField, payloadAt, ancCount, runAt, packetRead, readRecords, readPacket, readContent, readInto}
 use Rattle.wire.proofs.BitLaws.{bitsAt-lt}
+use Rattle.wire.proofs.CellLaws.{length-in}
 use Rattle.wire.proofs.ResultLaws.{then-accepts, judge-accepts, accepted-inj}
 use Rattle.wire.proofs.PacketLaws.{Answer, answer-iff, region-iff, sizes}
-use Rattle.anc.specs.Answers.{runCells}
-use Rattle.rtp.specs.Answers.{headOf, headAt, summaryOf, checkedOf, cellsAfter, readOf}
+use Rattle.anc.specs.Answers.{runCellsIn}
+use Rattle.rtp.specs.Answers.{headOf, headAt, summaryOf, checkedOf, cellsAfterIn, readOf}
 use Rattle.rtp.specs.declared.packet.Outline.{Outline}
 use Rattle.rtp.specs.declared.packet.Summary.{Summary}
 use Rattle.rtp.specs.declared.packet.Checked.the-variants as checked
@@ -56,8 +57,8 @@ module _ (L : Layout) where
 
     pub record Outlined : Type 0 where
       pub accepts : IsAccepted outlineRun
-      pub size : length (runCells outlineRun) ≡ o .cells
-      pub after : (l : List ℕ) → overwrite (runCells outlineRun) l ≡ cellsAfter (readContent L s) l
+      pub size : (p : ℕ) → length (runCellsIn p outlineRun) ≡ o .cells
+      pub after : (p : ℕ) (l : List ℕ) → overwrite (runCellsIn p outlineRun) l ≡ cellsAfterIn p (readContent L s) l
       pub whole : o .header .0 + payloadHeaderSize L + o .length .0 ≤ length s
       pub header-is : o .header .0 ≡ headerSize s
       pub header-least : headerLeast ≤ o .header .0
@@ -85,11 +86,11 @@ module _ (L : Layout) where
         let ran : outlineRun ≡ accepted (k .records, b .0 .1) =
         ap₂ (λ (x : ℕ) (y : List ℕ). readRun L 0 x y) count (ap₂ (λ (x y : ℕ). take x (drop y s)) len at)
         ∙ b .1 ∙ ap (λ (y : List Record). accepted (y, b .0 .1)) rs in
-        let cs : runCells outlineRun ≡ listOf (k .records) = ap runCells ran in
+        let cs : (q : ℕ) → runCellsIn q outlineRun ≡ listIn q (k .records) = λ q. ap (runCellsIn q) ran in
         record {
           accepts = subst IsAccepted (sym ran) tt;
-          size = ap length cs ∙ ap (λ (y : Outline). y .cells) (f .outline);
-          after = λ l. ap (λ (y : List ℕ). overwrite y l) cs ∙ ap (λ (r : Result Content). cellsAfter r l) (sym (f .reads));
+          size = λ q. ap length (cs q) ∙ length-in q (k .records) ∙ ap (λ (y : Outline). y .cells) (f .outline);
+          after = λ q l. ap (λ (y : List ℕ). overwrite y l) (cs q) ∙ ap (λ (r : Result Content). cellsAfterIn q r l) (sym (f .reads));
           whole = omega (arith, z .whole);
           header-is = head;
           header-least = omega arith;

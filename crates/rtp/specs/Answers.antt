@@ -8,7 +8,7 @@ use Rattle.wire.specs.declared.refusal.Refusal.{Refusal}
 use Rattle.wire.specs.Bits.{overwrite}
 use Rattle.wire.specs.Layout.{Layout}
 use Rattle.wire.specs.Result.{Result, refused, accepted, noRefusal, judge}
-use Rattle.wire.specs.Cells.{listOf}
+use Rattle.wire.specs.Cells.{listIn, listOf}
 use Rattle.wire.specs.Packet.{Content, content, packetRead, headerSize, lengthField, headerChecks, paddingChecks, payloadChecks}
 use Rattle.rtp.specs.declared.packet.Head.{Head}
 use Rattle.rtp.specs.declared.packet.Summary.{Summary}
@@ -72,7 +72,11 @@ readOf (refused x) = read.Refused x
 readOf (accepted k) = read.Packet (summaryOf k)
 
 -- what the lent list then holds: after a refusal "Lent memory is unchanged", and "On success only the cells or octets of the answer
--- are written"
+-- are written"; of the packet with index `p` within its field (02, K13)
+abbrev pub cellsAfterIn : ℕ → Result Content → List ℕ → List ℕ
+cellsAfterIn p (refused x) cells = cells
+cellsAfterIn p (accepted k) cells = overwrite (listIn p (k .records)) cells
+
+-- "The packet and line readers give 0"
 abbrev pub cellsAfter : Result Content → List ℕ → List ℕ
-cellsAfter (refused x) cells = cells
-cellsAfter (accepted k) cells = overwrite (listOf (k .records)) cells
+cellsAfter r cells = cellsAfterIn 0 r cells

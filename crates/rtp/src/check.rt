@@ -5,7 +5,7 @@ ghost use lib.ListN.{length};
 ghost use Rattle.wire.specs.Layout.{payloadHeaderSize};
 ghost use Rattle.wire.specs.Packet.{headerLeast, headerSize, readContent};
 ghost use Rattle.wire.specs.Result.{accepted};
-ghost use Rattle.rtp.specs.Answers.{cellsAfter, checkedOf, frontChecked, headAt, readOf};
+ghost use Rattle.rtp.specs.Answers.{cellsAfterIn, checkedOf, frontChecked, headAt, readOf};
 use crate::packet::Checked;
 use crate::packet::Head;
 use crate::packet::Outline;
@@ -99,17 +99,17 @@ pub fn check(layout: Layout, octets: &[u8]) -> Checked
     check_packets(layout, octets, header, length)
 }
 
-// Writes the cells of a packet that `check` accepted to the first cells.
-pub fn read_records(layout: Layout, octets: &[u8], outline: Outline, cells: &mut [u16])
+// Writes the cells of a packet that `check` accepted to the first cells; `index` is that of the packet within its field.
+pub fn read_records(layout: Layout, octets: &[u8], outline: Outline, index: u16, cells: &mut [u16])
     requires { ⌜ checkedOf layout (now octets) (readContent layout (now octets)) ≡ Checked.Packet outline ⌝ }
     requires { ⌜ outline .cells ≤ length (now cells) ⌝ }
-    ensures { λ r. ⌜ now (cells .exit) ≡ cellsAfter (readContent layout (now (octets .entry))) (now (cells .entry)) ⌝ }
+    ensures { λ r. ⌜ now (cells .exit) ≡ cellsAfterIn index (readContent layout (now (octets .entry))) (now (cells .entry)) ⌝ }
 {
     let header = outline.header;
     let at = header.0 + payload_header_size(layout);
     let length = outline.length;
     let end = at + length.0;
-    read_run(layout, &octets[at..end], outline.records, cells);
+    read_run(layout, &octets[at..end], outline.records, index, cells);
 }
 
 // What a packet says that `check` accepted, with its counts. The six values are read where they stand.

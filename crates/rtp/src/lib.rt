@@ -15,6 +15,7 @@ use check::summary_at;
 use packet::Checked;
 use packet::Read;
 use wire::layout::Layout;
+use wire::limit::READ_INDEX;
 use wire::refusal::Refusal;
 
 // Reads a packet of the layout in the strict way: its records into the first cells, and what stands beside them.
@@ -32,6 +33,6 @@ pub fn read_strict(layout: Layout, octets: &[u8], cells: &mut [u16]) -> Read
             index: 0,
         });
     }
-    read_records(layout, octets, outline, cells);
+    read_records(layout, octets, outline, READ_INDEX, cells);
     Read::Packet(summary_at(layout, octets, outline))
 }

@@ -73,7 +73,8 @@ fn head(packet: u32, time: u32, f: u8) -> Head {
 
 fn main() {
     let rfc = Layout::Rfc8331;
-    let a = [0u16, 9, 0, 0, 0, 0x41, 5, 0];
+    // The index of a packet is written in no packet, and reads as 0 (02, K13).
+    let a = [0u16, 9, 0, 0, 0, 0x41, 5, 0, 4095];
     there_and_back(rfc, head(7, 1000, 2), &a);
     there_and_back(rfc, head(8, 2501, 3), &a);
     there_and_back(rfc, head(8, 2501, 3), &a);
@@ -87,6 +88,7 @@ fn main() {
         0x41,
         5,
         0,
+        3,
         1,
         0x7FF,
         0xFFF,
@@ -95,6 +97,7 @@ fn main() {
         0x61,
         2,
         2,
+        4,
         0x2AA,
         0x155,
     ];
@@ -103,7 +106,7 @@ fn main() {
     there_and_back(rfc, head(0xFFFFFFFF, 0xFFFFFFFF, 0), &both[..0]);
     // 24, 20 with the record's index, 23.
     there_and_back(rfc, head(7, 1000, 1), &a);
-    there_and_back(rfc, head(7, 1000, 2), &both[..9]);
+    there_and_back(rfc, head(7, 1000, 2), &both[..10]);
     read_back(rfc, &b"too short"[..]);
     // Record A; no records: 17 octets; F and S are 25.
     let draft = Layout::Draft2015;

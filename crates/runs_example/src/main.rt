@@ -21,15 +21,12 @@ use wire::number::Timestamp;
 use wire::written::Written;
 
 // Record A of 01.
-const A: [u16; 8] = [0, 9, 0, 0, 0, 0x41, 5, 0];
+const A: [u16; Header::CELLS] = [0, 9, 0, 0, 0, 0x41, 5, 0, 0];
 
 // Where it stands in a packet that has no other record.
 const A_AT: usize = FRONT_SIZE;
 
 const A_BITS: usize = 96;
-
-// The cell of a record that has the number of its words.
-const COUNT_AT: usize = 7;
 
 // The most words that a record has, and the cells that it then takes.
 const MAX_WORDS: usize = 255;
@@ -110,12 +107,15 @@ fn fill_with_a(list: &mut [u16]) {
     }
 }
 
-// The words of a record where the list has room for so many.
-fn words_within(room: usize) -> u16 {
-    if room < MAX_WORDS {
-        return room as u16;
+// The words of a record where so many cells stand behind its n, the index among them.
+fn words_within(behind: usize) -> u16 {
+    if behind > MAX_WORDS {
+        return MAX_WORDS as u16;
     }
-    MAX_WORDS as u16
+    if behind == 0 {
+        return 0;
+    }
+    (behind - 1) as u16
 }
 
 // The cell at an index of a list of `count` cells: records of 255 words and a shorter last one, all else as in record A. The
@@ -125,11 +125,11 @@ fn long_cell(k: usize, count: usize) -> u16
 {
     let a = A;
     let place = k % LONG_CELLS;
-    if place < COUNT_AT {
-        return a[place];
-    }
-    if place == COUNT_AT {
+    if place == Header::COUNT_CELL {
         return words_within(count - k - 1);
+    }
+    if place < Header::CELLS {
+        return a[place];
     }
     let before = k / LONG_CELLS * MAX_WORDS;
     LEAST_CLEAR + ((before + place - Header::CELLS) % CLEAR_WORDS) as u16

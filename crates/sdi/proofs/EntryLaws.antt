@@ -16,7 +16,7 @@ use Rattle.wire.specs.Words.{wordBits}
 use Rattle.wire.specs.Result.{Result, refused, accepted, refuse, judge, _then_}
 use Rattle.wire.specs.Anc.{Record}
 use Rattle.wire.specs.Cells.{listOf, allBelow, readList}
-use Rattle.wire.proofs.CellLaws.{list-iff}
+use Rattle.wire.proofs.CellLaws.{list-iff, lists-length}
 use Rattle.cells.specs.declared.check.Listed.the-variants as listed
 use Rattle.cells.specs.Answers.{listedOf}
 use Rattle.cells.proofs.ListedLaws.{listed-refused, taken}
@@ -69,12 +69,12 @@ module _ (line : List ℕ) (start : ℕ) (cells : List ℕ) where
 pub record Counted (cells : List ℕ) (n : ℕ) : Type 0 where
   pub records : List Record
   pub listed : readList cells ≡ accepted records
-  pub words : length (stretch records) + n ≡ length cells
+  pub words : length (stretch records) + 2 * n ≡ length cells
 
 pub counted : (cells : List ℕ) (n : ℕ) (o : OctetCount) → listedOf rfc8331 (readList cells) ≡ listed.Records n o → Counted cells n
 counted cells n o e =
     let t = taken rfc8331 (readList cells) n o e in
-    record { records = t .rs; listed = t .reads; words = omega (arith, t .count, length-cells (t .rs), ap length (list-iff cells (t .rs) .0 (t .reads) .1)) }
+    record { records = t .rs; listed = t .reads; words = omega (arith, t .count, length-cells (t .rs), lists-length (t .rs) cells (list-iff cells (t .rs) .0 (t .reads) .1)) }
 
 -- READING
 module _ (line : List ℕ) (start : ℕ) (P : Position) (cells : List ℕ) where
@@ -129,7 +129,7 @@ pub record FoundThere (P : Position) (s : List ℕ) (n used : ℕ) : Type 0 wher
   pub packets : packetsIn P s ≡ accepted records
   pub count : length records ≡ n
   pub words : length (stretch records) ≡ used
-  pub cells : length (listOf records) ≡ used + n
+  pub cells : length (listOf records) ≡ used + 2 * n
   pub few : 7 * n ≤ used
   pub inside : used ≤ length s
 

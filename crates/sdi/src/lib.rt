@@ -12,6 +12,8 @@ use cells::check::Measured;
 use cells::check::check_list;
 use cells::check::measure_list;
 use record::check::words_in_range;
+use record::header::Header;
+use sdi_check::check::PACKET_WORDS;
 use sdi_check::check::check_packets;
 use sdi_check::check::position_fits;
 use sdi_line::answer::Found;
@@ -26,7 +28,10 @@ use wire::refusal::Refusal;
 // "Lines hold at most 4,096 words".
 pub const MAX_LINE: usize = 4096;
 
-// Puts the records of the list into the line, from the word `start` on. A record takes a cell more than its packet has words.
+// A record takes so many cells more than its packet has words.
+const MORE_CELLS: usize = Header::CELLS - PACKET_WORDS;
+
+// Puts the records of the list into the line, from the word `start` on.
 pub fn write(line: &mut [u16], start: usize, cells: &[u16]) -> WrittenLine
     ensures { λ r. ⌜ r ≡ writeReturns (now (line .entry)) start (now (cells .entry)) ⌝ }
     ensures { λ r. ⌜ now (line .exit) ≡ writeLeaves (now (line .entry)) start (now (cells .entry)) ⌝ }
@@ -43,7 +48,7 @@ pub fn write(line: &mut [u16], start: usize, cells: &[u16]) -> WrittenLine
             WrittenLine::Refused(listed.refusal())
         }
         Measured::Records { count, octets: _ } => {
-            let words = cells.len() - count;
+            let words = cells.len() - MORE_CELLS * count;
             if line.len() - start < words {
                 return refuse_write(Refusal::LINE_FULL);
             }
@@ -75,7 +80,7 @@ pub fn read(line: &[u16], start: usize, position: Position, cells: &mut [u16]) -
     match found {
         Found::Refused(refusal) => ReadLine::Refused(refusal),
         Found::Packets { count, words: used } => {
-            let need = used + count;
+            let need = used + MORE_CELLS * count;
             if cells.len() < need {
                 return refuse_read(Refusal::LIST_TOO_SHORT);
             }

@@ -11,7 +11,7 @@ use Rattle.wire.specs.Words.{wordBits}
 use Rattle.wire.specs.Result.{Result, refused, accepted}
 use Rattle.wire.specs.Anc.{Record}
 use Rattle.wire.specs.Cells.{listOf}
-use Rattle.wire.proofs.CellLaws.{list-iff}
+use Rattle.wire.proofs.CellLaws.{list-iff, lists-length}
 use Rattle.wire.proofs.ResultLaws.{accepted-inj}
 use Rattle.sdi_line.specs.declared.position.Position.{Position}
 use Rattle.sdi_line.specs.declared.answer.ReadLine.{ReadLine}
@@ -56,6 +56,6 @@ written-read-back line start cells end P lent e ends before behind fits room =
       listed = b .written;
       returns =
           ap (readOf start) after
-          ∙ (λ i. readLine.Records (length-map P rs i) ((cells-placed P rs ∙ ap length (sym lists)) i) ((ap (λ (x : List ℕ). start + length x) (stretch-placed P rs) ∙ ap (λ (k : ℕ). start + k) long ∙ w .2) i));
+          ∙ (λ i. readLine.Records (length-map P rs i) ((cells-placed P rs ∙ sym (lists-length rs cells lists)) i) ((ap (λ (x : List ℕ). start + length x) (stretch-placed P rs) ∙ ap (λ (k : ℕ). start + k) long ∙ w .2) i));
       leaves = ap (λ (x : Result (List Record)). cellsAfter x lent) after;
     }

@@ -7,7 +7,7 @@ use lib.ListN.{take, set}
 use Rattle.wire.specs.Words.{headerWord, checksumWord}
 use Rattle.wire.specs.Result.{accepted, refuse}
 use Rattle.wire.specs.Anc.{Record}
-use Rattle.wire.specs.Cells.{cellsOf, listOf, cellRecord, headInRange, cellChecks, recordsFrom, clearFrom}
+use Rattle.wire.specs.Cells.{cellsIn, cellsOf, listOf, maxIndex, cellRecord, headInRange, cellChecks, recordsFrom, clearFrom}
 use Rattle.wire.proofs.Examples.{a, b}
 use Rattle.sdi_line.specs.declared.position.Position.{Position}
 use Rattle.sdi_line.specs.Packets.{stretch, placed, hasFlag, lineRecord, sumOk, packetChecks, packetsFrom}
@@ -35,14 +35,15 @@ line = 1 ∷ 2 ∷ (blank 16 ++ (3 ∷ 4 ∷ []))
 abbrev filled : List ℕ
 filled = 1 ∷ 2 ∷ (aWords ++ (bWords ++ (3 ∷ 4 ∷ [])))
 
--- A and B written from word 2 on: the words outside stay; an exact fit is one; no records are written anywhere, also at the end
+-- A and B written from word 2 on: the words outside stay; an exact fit is one, whatever the index; no records are written anywhere, also at the end
 pub writes : (writeLine line 2 (listOf (a ∷ b ∷ [])) ≡ accepted (aWords ++ bWords))
     × (lineAfter (writeLine line 2 (listOf (a ∷ b ∷ []))) line 2 ≡ filled)
     × (writeLine line 4 (listOf (a ∷ b ∷ [])) ≡ accepted (aWords ++ bWords))
+    × (writeLine line 4 (cellsIn 5 a ++ cellsIn maxIndex b) ≡ accepted (aWords ++ bWords))
     × (writeLine line 20 [] ≡ accepted [])
     × (writeLine (2000 ∷ []) 0 [] ≡ accepted [])
 unfolding headerWord checksumWord cellRecord headInRange cellChecks recordsFrom clearFrom lineChecks writeLine
-writes = (refl, refl, refl, refl, refl)
+writes = (refl, refl, refl, refl, refl, refl)
 
 abbrev protected : Record
 protected = record { c = 0; line = 9; offset = 0; s = 0; stream = 0; did = 0x41; sdid = 0x05; words = 0x003 ∷ [] }
@@ -73,7 +74,7 @@ pub reads : (readLine filled 2 here ≡ accepted (placed here a ∷ placed here 
     × (readLine (aWords ++ (0x000 ∷ 0x3FF ∷ [])) 0 here ≡ accepted (placed here a ∷ []))
     × (readLine (aWords ++ (0x000 ∷ 0x3FF ∷ 0x3FE ∷ 0x040 ∷ [])) 0 here ≡ accepted (placed here a ∷ []))
     × (readLine (aWords ++ (0x040 ∷ bWords)) 0 here ≡ accepted (placed here a ∷ []))
-    × (readLineInto filled 2 here 18 ≡ accepted (placed here a ∷ placed here b ∷ []))
+    × (readLineInto filled 2 here 20 ≡ accepted (placed here a ∷ placed here b ∷ []))
 unfolding headerWord checksumWord hasFlag lineRecord sumOk packetChecks packetsFrom lineChecks positionOk readingChecks readLine readLineInto
 reads = (refl, refl, refl, refl, refl, refl, refl, refl)
 
@@ -104,7 +105,7 @@ pub packet-refusals : (readLine (aWords ++ take 6 bWords) 0 here ≡ refuse 9 1)
     × (readLine (aWords ++ set bWords 7 0x3FC) 0 here ≡ refuse 16 1)
     × (readLine (aWords ++ set bWords 8 0x165) 0 here ≡ refuse 11 1)
     × (readLine (set aWords 6 0x247 ++ set bWords 8 0x165) 0 here ≡ refuse 11 0)
-    × (readLineInto filled 2 here 17 ≡ refuse 14 0)
+    × (readLineInto filled 2 here 19 ≡ refuse 14 0)
     × (readLineInto (aWords ++ set bWords 8 0x165) 0 here 0 ≡ refuse 11 1)
 unfolding headerWord checksumWord hasFlag lineRecord sumOk packetChecks packetsFrom lineChecks positionOk readingChecks readLine readLineInto
 packet-refusals = (refl, refl, refl, refl, refl, refl, refl, refl, refl, refl, refl)

@@ -16,9 +16,9 @@ use Rattle.wire.specs.Words.{wordBits}
 use Rattle.wire.specs.Layout.{rfc8331, sBits, streamBits}
 use Rattle.wire.specs.Result.{accepted, judge, _then_}
 use Rattle.wire.specs.Anc.{Each, Record, WellFormed}
-use Rattle.wire.specs.Cells.{listOf, readList}
+use Rattle.wire.specs.Cells.{listOf, Lists, readList}
 use Rattle.wire.proofs.BitLaws.{below-append}
-use Rattle.wire.proofs.CellLaws.{below-iff, list-iff}
+use Rattle.wire.proofs.CellLaws.{below-iff, list-iff, lists-own, lists-length}
 use Rattle.wire.proofs.ListLaws.{length-splice, splice-is}
 use Rattle.wire.proofs.ResultLaws.{accepted-inj, judge-accepts, judge-passes, then-accepts, and-true, and-both}
 use Rattle.sdi_line.specs.declared.position.Position.{Position}
@@ -68,9 +68,9 @@ line-iff line start P rs =
           ∙ packets-iff (length s) P (h .position) 0 s (le-refl (length s)) rs .1 (p .1, p .2, p .3),
     )
 
--- A LIST is written exactly where it is the cells of well-formed records and there is room before the end; then the stretch is theirs
+-- A LIST is written exactly where it is the cells of well-formed records, whatever index each has that is taken (02, K13), and there is room before the end; then the stretch is theirs
 pub write-iff : (line : List ℕ) (start : ℕ) (cells o : List ℕ) → (writeLine line start cells ≡ accepted o)
-    ↔ ((length line ≤ maxLine) × (start + length o ≤ length line) × ((rs : List Record) × Each (WellFormed rfc8331) rs × (cells ≡ listOf rs) × (stretch rs ≡ o)))
+    ↔ ((length line ≤ maxLine) × (start + length o ≤ length line) × ((rs : List Record) × Each (WellFormed rfc8331) rs × Lists rs cells × (stretch rs ≡ o)))
 unfolding writeLine lineChecks
 write-iff line start cells o = (
   λ e.
@@ -175,7 +175,7 @@ written-read line start cells o P e ends before behind fits =
       room = λ n h.
           ap (λ x. x then λ rs. judge 0 ((leb (length (listOf rs)) n, 14) ∷ []) (accepted rs)) r
           ∙ judge-passes 0 ((leb (length (listOf (map (placed P) rs))) n, 14) ∷ []) (accepted (map (placed P) rs))
-          (le-leb (length (listOf (map (placed P) rs))) n (omega (arith, cells-placed P rs, ap length (w .2 .2))), tt);
+          (le-leb (length (listOf (map (placed P) rs))) n (omega (arith, cells-placed P rs, lists-length rs cells (w .2 .2))), tt);
     }
 
 -- READ THEN WRITE: the records that were read, written where they were read, give the line again
@@ -187,7 +187,7 @@ read-written line start P rs e =
     let h = p .0 in
     let fits : start + length (stretch rs) ≤ length line =
     omega (arith, ap length (st .words), length-append (stretch rs) (st .rest), length-drop start line, h .inside) in (
-      write-iff line start (listOf rs) (stretch rs) .1 (h .long, fits, (rs, p .1, refl, refl)),
+      write-iff line start (listOf rs) (stretch rs) .1 (h .long, fits, (rs, p .1, lists-own rs, refl)),
       ap (λ (x : List ℕ). take start line ++ x) (ap (λ (x : List ℕ). stretch rs ++ drop (length (stretch rs)) x) (st .words) ∙ ap (λ (x : List ℕ). stretch rs ++ x) (drop-append-seam (stretch rs) (st .rest)) ∙ sym (st .words))
           ∙ take-append-drop start line,
     )

@@ -15,7 +15,7 @@ use Rattle.wire.specs.Layout.{rfc8331}
 use Rattle.wire.specs.Words.{headerNumbers}
 use Rattle.wire.specs.Result.{Result, refused, accepted, judge, _then_, IsAccepted}
 use Rattle.wire.specs.Anc.{Each, Record, WellFormed, checksum}
-use Rattle.wire.specs.Cells.{headCells, cellsOf, listOf, cellCount, cellRecord, cellChecks, rest, readList}
+use Rattle.wire.specs.Cells.{headCells, cellsOf, listOf, Lists, cellCount, cellRecord, cellChecks, rest, readList}
 use Rattle.wire.proofs.CellLaws.{front-reads, list-iff}
 use Rattle.wire.proofs.ListLaws.{length-splice, splice-append, splice-none}
 use Rattle.wire.proofs.ResultLaws.{Passed, accepted-is, judge-passes}
@@ -30,11 +30,11 @@ use Rattle.sdi_line.proofs.PacketLaws.{flag-iff, packet-reads}
 use Rattle.sdi_line.proofs.PacketIff.{flagged, front-flagged, packets-iff}
 use Rattle.sdi_line.proofs.CodeLaws.{verdict-refused, verdict-accepted, length-user, named}
 
--- a packet takes 7 + n words, and its record 8 + n cells
+-- a packet takes 7 + n words, and its record 9 + n cells
 pub length-packet : (r : Record) → length (packetWords r) ≡ 7 + length (r .words)
 length-packet r = omega (arith, length-append (r .words) (checksum r ∷ []))
 
-pub length-cells : (rs : List Record) → length (listOf rs) ≡ length (stretch rs) + length rs
+pub length-cells : (rs : List Record) → length (listOf rs) ≡ length (stretch rs) + 2 * length rs
 length-cells [] = refl
 length-cells (r ∷ rs) =
     omega (arith, length-packet r, length-append (packetWords r) (stretch rs), length-append (r .words) (listOf rs), length-cells rs)
@@ -230,7 +230,7 @@ read-next P all cells left to w h = go (w .records) (w .formed) (w .at) (w .stan
 pub record ToWrite (all words left : List ℕ) (to : ℕ) : Type 0 where
   pub records : List Record
   pub formed : Each (WellFormed rfc8331) records
-  pub cells : left ≡ listOf records
+  pub cells : Lists records left
   pub room : to + length (stretch records) ≤ length words
   pub written : splice words to (stretch records) ≡ all
 
@@ -245,9 +245,9 @@ to-write-all cells words h l =
 pub to-write-none : (all words left : List ℕ) (to : ℕ) → ToWrite all words left to → length left ≤ 0 → words ≡ all
 to-write-none all words left to w h = go (w .records) (w .cells) (w .written)
   where
-    go : (rs : List Record) → left ≡ listOf rs → splice words to (stretch rs) ≡ all → words ≡ all
+    go : (rs : List Record) → Lists rs left → splice words to (stretch rs) ≡ all → words ≡ all
     go [] e g = sym (splice-none words to) ∙ g
-    go (r ∷ rs) e g = absurd (omega (arith, ap length e))
+    go (r ∷ rs) e g = absurd (omega (arith, ap length (e .3)))
 
 pub record WriteNext (all words left : List ℕ) (to : ℕ) : Type 0 where
   pub formed : WellFormed rfc8331 (cellRecord left)
@@ -260,11 +260,12 @@ pub write-next : (all words left : List ℕ) (to : ℕ) → ToWrite all words le
 unfolding cellChecks
 write-next all words left to w h = go (w .records) (w .formed) (w .cells) (w .room) (w .written)
   where
-    go : (rs : List Record) → Each (WellFormed rfc8331) rs → left ≡ listOf rs → to + length (stretch rs) ≤ length words
+    go : (rs : List Record) → Each (WellFormed rfc8331) rs → Lists rs left → to + length (stretch rs) ≤ length words
         → splice words to (stretch rs) ≡ all → WriteNext all words left to
     go [] f e l g = absurd (omega (arith, ap length e))
     go (r ∷ rs) f e l g =
-        let p = subst (λ (y : List ℕ). Passed (cellChecks y) × (cellRecord y ≡ r) × (rest y ≡ listOf rs)) (sym e) (front-reads r (listOf rs) (f .0 .fits)) in
+        let t = e .1 in
+        let p = subst (λ (y : List ℕ). Passed (cellChecks y) × (cellRecord y ≡ r) × (rest y ≡ t)) (sym (e .3)) (front-reads (e .0) r t (f .0 .fits) (e .2)) in
         let inside : headCells + cellCount left ≤ length left = leb-true (headCells + cellCount left) (length left) (p .0 .1 .1 .0) in
         let formed = subst (WellFormed rfc8331) (sym (p .1)) (f .0) in
         let o = packetWords r in
@@ -282,7 +283,7 @@ write-next all words left to w h = go (w .records) (w .formed) (w .cells) (w .ro
           goes = record {
             records = rs;
             formed = f .1;
-            cells = p .2;
+            cells = subst (Lists rs) (sym (p .2)) (e .4);
             room = subst (λ (m : ℕ). to + (7 + cellCount left) + length (stretch rs) ≤ m) (sym ls) (omega arith);
             written = (λ i. splice (splice words to (same i)) (size i) (stretch rs)) ∙ splice-append words to o (stretch rs) (omega arith) ∙ g;
           };

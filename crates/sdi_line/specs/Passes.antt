@@ -37,10 +37,10 @@ verdictFrom (accepted n) = verdict.Accepted n
 abbrev pub verdictOf : ℕ → List ℕ → Verdict
 verdictOf i t = verdictFrom (judge i (packetChecks t) (accepted (lineCount t)))
 
--- the cells before the words of a record that is read
+-- the cells before the words of a record that is read: "The packet and line readers give 0" (02, K13)
 abbrev pub headOf : Position → List ℕ → List ℕ
 headOf P t =
-    P .c ∷ P .line ∷ P .offset ∷ P .s ∷ P .stream ∷ getD t 0 0 % headerNumbers ∷ getD t 1 0 % headerNumbers ∷ getD t 2 0 % headerNumbers ∷ []
+    P .c ∷ P .line ∷ P .offset ∷ P .s ∷ P .stream ∷ getD t 0 0 % headerNumbers ∷ getD t 1 0 % headerNumbers ∷ getD t 2 0 % headerNumbers ∷ 0 ∷ []
 
 -- the words before the user data words of a packet that is written
 abbrev pub frontOf : (did sdid n : ℕ) → List ℕ

@@ -15,6 +15,7 @@ use sdi_check::check::data_count;
 use sdi_check::check::has_flag;
 use sdi_line::position::Position;
 use wire::layout::HEADER_NUMBERS;
+use wire::limit::READ_INDEX;
 
 // Writes the cells before a record's words.
 fn put_head(words: &[u16], position: Position, cells: &mut [u16])
@@ -29,6 +30,7 @@ fn put_head(words: &[u16], position: Position, cells: &mut [u16])
     cells[5] = words[0] % HEADER_NUMBERS;
     cells[6] = words[1] % HEADER_NUMBERS;
     cells[Header::COUNT_CELL] = words[2] % HEADER_NUMBERS;
+    cells[Header::INDEX_CELL] = READ_INDEX;
 }
 
 // Copies all of `from` to the front of `to`.

@@ -89,4 +89,4 @@ phase-number (suc (suc (suc n))) h = absurd (omega arith)
 pub row-again : (row : List ℕ) → isState row ≡ true → stateSize ≤ length row → overwrite (numbersOf (stateAt row)) row ≡ row
 row-again row h l =
     let v = fitting row h in
-    rw (phase-number (at row 2) (v .phase), flag (at row 3) (omega (arith, v .heard)), flag (at row 12) (omega (arith, v .remembers))) (sym (drop-run 13 0 0 row l))
+    rw (phase-number (at row 2) (v .phase), flag (at row 3) (omega (arith, v .heard)), flag (at row 12) (omega (arith, v .remembers))) (sym (drop-run 14 0 0 row l))

@@ -1,5 +1,5 @@
--- A depacketizer's state as a row of fourteen numbers: source, payload type, phase, heard, last, timestamp, F, records, cells, fresh, late,
--- missing, whether a number is remembered, and that number.
+-- A depacketizer's state as a row of fifteen numbers: source, payload type, phase, heard, last, timestamp, F, records, cells, fresh, late,
+-- missing, whether a number is remembered, that number, and packets (02, K13).
 use mathlib.Core.Bool.{Bool, cond, _&&_}
 use mathlib.Core.List.{List, [], _∷_}
 use Prim.Native.Nat.{ℕ, _-_, _^_}
@@ -14,7 +14,7 @@ use Rattle.state_row.specs.declared.state.Restored.the-variants as resto
 
 -- numbers that a state needs
 abbrev pub stateSize : ℕ
-stateSize = 14
+stateSize = 15
 
 -- a phase's number: lost 0, ready 1, filling 2
 abbrev pub phaseNumber : Phase → ℕ
@@ -43,6 +43,7 @@ numbersOf s =
     ∷ s .missing
     ∷ bit (s .remembers)
     ∷ s .remembered .0
+    ∷ s .packets
     ∷ []
 
 -- the number of a row at an index
@@ -83,6 +84,7 @@ stateAt row =
       missing = at row 11;
       remembers = eqb (at row 12) 1;
       remembered = record { 0 = at row 13 };
+      packets = at row 14;
     }
 
 -- the state that stands in a row, if one does

@@ -1,5 +1,5 @@
 // A depacketizer's state as a row of numbers: source, payload type, phase, heard, last, timestamp, F, records, cells, fresh,
-// late, missing, whether a number is remembered, and that number. Who reads or writes one asks that the row is long enough.
+// late, missing, whether a number is remembered, that number, and packets (02, K13). Who reads or writes one asks that the row is long enough.
 ghost use mathlib.Core.Path.{_≡_};
 ghost use Prim.Native.Nat.{_≤_};
 ghost use lib.ListN.{length};
@@ -82,6 +82,7 @@ pub fn state_in(row: &[u64]) -> Restored
         missing: row[11],
         remembers: row[12] == 1,
         remembered: PacketNumber(row[13] as u32),
+        packets: row[14] as usize,
     })
 }
 
@@ -110,6 +111,7 @@ pub fn put_state(state: State, row: &mut [u64])
         state.missing,
         flag(state.remembers),
         remembered.0 as u64,
+        state.packets as u64,
     ];
     put(&numbers, row);
 }

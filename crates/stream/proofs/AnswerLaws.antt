@@ -23,21 +23,21 @@ taken-appends : (b : Bool) (x : Field) → appends (wholeIfMarked b x) ≡ true
 taken-appends true x = refl
 taken-appends false x = refl
 
-join-appends : (r c : ℕ) (p : Carried) (room : ℕ) → appends (join r c p room .answer) ≡ join r c p room .append
-join-appends r c p room = go (joinFits r c p room)
+join-appends : (r c n : ℕ) (p : Carried) (room : ℕ) → appends (join r c n p room .answer) ≡ join r c n p room .append
+join-appends r c n p room = go (joinFits r c n p room) _
   where
-    go : (b : Bool) → appends (joinIfFits b p (r + p .records) (c + p .cells) .answer) ≡ joinIfFits b p (r + p .records) (c + p .cells) .append
-    go true = taken-appends (p .marked) (fieldWith p (r + p .records) (c + p .cells))
-    go false = refl
+    go : (b : Bool) (m : ℕ) → appends (joinIfFits b p (r + p .records) (c + p .cells) m .answer) ≡ joinIfFits b p (r + p .records) (c + p .cells) m .append
+    go true m = taken-appends (p .marked) (fieldWith p (r + p .records) (c + p .cells) m)
+    go false m = refl
 
 -- a fresh packet'p cells are appended with the answers held and whole
 follow-appends : (g : Gathered) (p : Carried) (room : ℕ) → appends (follow g p room .answer) ≡ follow g p room .append
 follow-appends lost p room = refl
-follow-appends ready p room = join-appends 0 0 p room
-follow-appends (filling t f r c) p room = go (eqb t (p .timestamp) && eqb f (p .f))
+follow-appends ready p room = join-appends 0 0 0 p room
+follow-appends (filling t f r c n) p room = go (eqb t (p .timestamp) && eqb f (p .f))
   where
-    go : (b : Bool) → appends (joinIfSame b r c p room .answer) ≡ joinIfSame b r c p room .append
-    go true = join-appends r c p room
+    go : (b : Bool) → appends (joinIfSame b r c n p room .answer) ≡ joinIfSame b r c n p room .append
+    go true = join-appends r c n p room
     go false = refl
 
 -- "Held and whole append their cells after the gathered ones; other answers write nothing."
@@ -54,23 +54,23 @@ record Leaves (marker : Bool) (x : Gather) : Type 0 where
 dropped-leaves : (a : Answer) (m : Bool) → Leaves m (dropped a m)
 dropped-leaves a m = record { marked = λ e. rw e; unmarked = λ e n. rw e }
 
-taken-leaves : (p : Carried) (r c : ℕ) → Leaves (p .marked) (taken p r c)
-taken-leaves p r c = record { marked = λ e. rw e; unmarked = λ e n. absurd (n (rw e)) }
+taken-leaves : (p : Carried) (r c n : ℕ) → Leaves (p .marked) (taken p r c n)
+taken-leaves p r c n = record { marked = λ e. rw e; unmarked = λ e h. absurd (h (rw e)) }
 
-join-leaves : (r c : ℕ) (p : Carried) (room : ℕ) → Leaves (p .marked) (join r c p room)
-join-leaves r c p room = go (joinFits r c p room)
+join-leaves : (r c n : ℕ) (p : Carried) (room : ℕ) → Leaves (p .marked) (join r c n p room)
+join-leaves r c n p room = go (joinFits r c n p room) _
   where
-    go : (b : Bool) → Leaves (p .marked) (joinIfFits b p (r + p .records) (c + p .cells))
-    go true = taken-leaves p (r + p .records) (c + p .cells)
-    go false = dropped-leaves answer.Overfull (p .marked)
+    go : (b : Bool) (m : ℕ) → Leaves (p .marked) (joinIfFits b p (r + p .records) (c + p .cells) m)
+    go true m = taken-leaves p (r + p .records) (c + p .cells) m
+    go false m = dropped-leaves answer.Overfull (p .marked)
 
 follow-leaves : (g : Gathered) (p : Carried) (room : ℕ) → Leaves (p .marked) (follow g p room)
 follow-leaves lost p room = dropped-leaves answer.Skipped (p .marked)
-follow-leaves ready p room = join-leaves 0 0 p room
-follow-leaves (filling t f r c) p room = go (eqb t (p .timestamp) && eqb f (p .f))
+follow-leaves ready p room = join-leaves 0 0 0 p room
+follow-leaves (filling t f r c n) p room = go (eqb t (p .timestamp) && eqb f (p .f))
   where
-    go : (b : Bool) → Leaves (p .marked) (joinIfSame b r c p room)
-    go true = join-leaves r c p room
+    go : (b : Bool) → Leaves (p .marked) (joinIfSame b r c n p room)
+    go true = join-leaves r c n p room
     go false = dropped-leaves answer.Mixed (p .marked)
 
 fresh-phase : (st : State) (g : Gathered) (missing : ℕ) (k : Content) (store : List ℕ) → PhaseAfter k (freshStep st g missing k store)

@@ -1,40 +1,42 @@
 -- A state that 35 lets pass stays one: over every packet and store.
 -- By what is gathered, and the tests: what joined is within the limits and the store.
-use mathlib.Core.Path.{_≡_, refl, _∙_, ap, sym}
+use mathlib.Core.Path.{_≡_, refl, _∙_, ap, sym, subst}
 use mathlib.Core.Bool.{Bool, true, false, cond, _&&_}
 use mathlib.Core.List.{List, []}
-use Prim.Native.Nat.{ℕ, _+_}
+use Prim.Native.Nat.{ℕ, _+_, _≤_}
+use native.Mathlib.Omega.{arith}
 use lib.Dec.{eqb}
 use lib.ListN.{length}
 use Rattle.wire.specs.Layout.{Layout, rfc8331}
-use Rattle.wire.specs.Cells.{listOf}
+use Rattle.wire.specs.Cells.{listIn}
 use Rattle.wire.specs.Packet.{Content}
+use Rattle.wire.proofs.CellLaws.{length-in}
 use Rattle.wire.proofs.ListLaws.{length-splice}
 use Rattle.stream.specs.declared.state.State.{State}
-use Rattle.stream.specs.Step.{Gathered, lost, ready, filling, gatheredCells, Carried, carried, joinFits, joinIfFits, join, joinIfSame, follow, appended, sound, admit, Step, step}
+use Rattle.stream.specs.Step.{Gathered, lost, ready, filling, gatheredCells, Carried, carried, fits, joinFits, joinIfFits, join, joinIfSame, follow, appended, sound, admit, Step, step}
 use Rattle.stream.specs.Laws.{Passes35}
 use Rattle.stream.proofs.FitLaws.{gatheredFits, nothing-fits, taken-fits, sound-heard, follow-room}
 use Rattle.stream.proofs.NumberLaws.{admit-numbered}
 use Rattle.stream.proofs.StepLaws.{sound-step, admitted-not-35, step-refused, step-is}
 
 dropped-fits : (b : Bool) (room : ℕ) → gatheredFits (cond b ready lost) room ≡ true
-dropped-fits true room = nothing-fits room
-dropped-fits false room = nothing-fits room
+dropped-fits true room = rw (nothing-fits room)
+dropped-fits false room = rw (nothing-fits room)
 
-join-fits : (r c : ℕ) (p : Carried) (room : ℕ) → gatheredFits (join r c p room .gathered) room ≡ true
-join-fits r c p room = go (joinFits r c p room) refl
+join-fits : (r c n : ℕ) (p : Carried) (room : ℕ) → gatheredFits (join r c n p room .gathered) room ≡ true
+join-fits r c n p room = go (joinFits r c n p room) _ refl refl
   where
-    go : (b : Bool) → joinFits r c p room ≡ b → gatheredFits (joinIfFits b p (r + p .records) (c + p .cells) .gathered) room ≡ true
-    go true e = taken-fits (p .marked) (p .timestamp) (p .f) (r + p .records) (c + p .cells) room e
-    go false e = dropped-fits (p .marked) room
+    go : (b : Bool) (m : ℕ) → joinFits r c n p room ≡ b → n + 1 ≡ m → gatheredFits (joinIfFits b p (r + p .records) (c + p .cells) m .gathered) room ≡ true
+    go true m e h = taken-fits (p .marked) (p .timestamp) (p .f) (r + p .records) (c + p .cells) m room (omega arith) (subst (λ (x : ℕ). fits (r + p .records) (c + p .cells) x room ≡ true) h e)
+    go false m e h = dropped-fits (p .marked) room
 
 follow-fits : (g : Gathered) (p : Carried) (room : ℕ) → gatheredFits (follow g p room .gathered) room ≡ true
 follow-fits lost p room = dropped-fits (p .marked) room
-follow-fits ready p room = join-fits 0 0 p room
-follow-fits (filling t f r c) p room = go (eqb t (p .timestamp) && eqb f (p .f))
+follow-fits ready p room = join-fits 0 0 0 p room
+follow-fits (filling t f r c n) p room = go (eqb t (p .timestamp) && eqb f (p .f))
   where
-    go : (b : Bool) → gatheredFits (joinIfSame b r c p room .gathered) room ≡ true
-    go true = join-fits r c p room
+    go : (b : Bool) → gatheredFits (joinIfSame b r c n p room .gathered) room ≡ true
+    go true = join-fits r c n p room
     go false = dropped-fits (p .marked) room
 
 sound-after : (st : State) (L : Layout) (octets store : List ℕ) → sound st (length store) ≡ true → sound (step st L octets store .state) (length store) ≡ true
@@ -59,8 +61,10 @@ passes-sound st store p = go (sound st (length store)) refl
 
 appended-length : (t : Bool) (g : Gathered) (k : Content) (store : List ℕ) → follow g (carried k) (length store) .append ≡ t
     → length (appended t g k store) ≡ length store
-appended-length true g k store e =
-    length-splice store (gatheredCells g) (listOf (k .records)) (follow-room g (carried k) (length store) e)
+appended-length true g k store e = length-splice store (gatheredCells g) (listIn _ (k .records)) (room _)
+  where
+    room : (n : ℕ) → gatheredCells g + length (listIn n (k .records)) ≤ length store
+    room n = omega (arith, length-in n (k .records), follow-room g (carried k) (length store) e)
 appended-length false g k store e = refl
 
 -- a step keeps the store's length

@@ -1,5 +1,5 @@
 -- One field as one packet and as three, the second of them without records (02, K8): both deliveries meet the premises, and what they hand out is
--- the same. By computation.
+-- the same, apart from the index (K13). By computation.
 use mathlib.Core.Path.{_≡_, refl}
 use mathlib.Core.List.{List, [], _∷_}
 use Prim.Native.Nat.{ℕ, zero, suc, _<_}
@@ -16,7 +16,7 @@ use Rattle.wire.proofs.Examples.{a}
 use Rattle.wire.proofs.DraftExamples.{plainB}
 use Rattle.stream.specs.Step.{admit, step}
 use Rattle.stream.specs.Stream.{Part, Stream, contentAt, nth, Fits, WellFormedStream, Handed, asSent}
-use Rattle.stream.specs.Delivery.{SameFields, Leads, Delivery, delivered}
+use Rattle.stream.specs.Delivery.{SameFields, Leads, Delivery, delivered, AllAlike}
 use Rattle.stream.proofs.DeliveryLaws.{delivered-whole, cut-alike}
 
 -- a packet's content, and its octets in a layout
@@ -62,14 +62,14 @@ pub three-leads : Leads three (contentOctets draft2015 (saying 2 100 1 0xFFFFFFF
 unfolding toBits num bits octets fieldBits bitsAt rowAt headerWord checksumWord ancSize ancRecord headersOk rOk wordsOk checksumOk alignmentOk ancChecks readAnc readRun packetOctets packetRead headerChecks paddingChecks payloadChecks readRecords readPacket readContent
 three-leads = record { says = saying 2 100 1 0xFFFFFFFE (a ∷ []); accepts = refl; marked = refl; number = refl }
 
--- stores of 18 cells, just enough, and of 20
+-- stores of 20 cells, just enough, and of 22
 abbrev pub one-delivery : Delivery one
 one-delivery =
     record {
       formed = record { few = omega arith; within = omega arith; accepts = one-accepts };
       lead = contentOctets rfc8331 (saying 1 112 1 4 []);
       leads = one-leads;
-      stores = λ i. replicate 18 0;
+      stores = λ i. replicate 20 0;
       fit = λ i. omega arith;
     }
 
@@ -79,28 +79,36 @@ three-delivery =
       formed = record { few = omega arith; within = omega arith; accepts = three-accepts };
       lead = contentOctets draft2015 (saying 2 100 1 0xFFFFFFFE (a ∷ []));
       leads = three-leads;
-      stores = λ i. replicate 20 7;
+      stores = λ i. replicate 22 7;
       fit = λ i. omega arith;
     }
 
 same : SameFields (one .fields) (three .fields)
 same = (refl, refl, refl, tt)
 
--- the field handed out, once: by computation of each run
-abbrev field : Handed
-field = record { timestamp = 9; f = 0; records = 2; cells = 18; content = 0 ∷ 9 ∷ 0 ∷ 0 ∷ 0 ∷ 0x41 ∷ 0x05 ∷ 0 ∷ 1 ∷ 0x7FF ∷ 0xFFF ∷ 0 ∷ 0 ∷ 0x61 ∷ 0x02 ∷ 2 ∷ 0x2AA ∷ 0x155 ∷ [] }
+-- the field handed out, once, with so many packets, the second record with this index: by computation of each run
+abbrev field : (packets index : ℕ) → Handed
+field packets index =
+    record {
+      timestamp = 9;
+      f = 0;
+      records = 2;
+      cells = 20;
+      packets = packets;
+      content = 0 ∷ 9 ∷ 0 ∷ 0 ∷ 0 ∷ 0x41 ∷ 0x05 ∷ 0 ∷ 0 ∷ 1 ∷ 0x7FF ∷ 0xFFF ∷ 0 ∷ 0 ∷ 0x61 ∷ 0x02 ∷ 2 ∷ index ∷ 0x2AA ∷ 0x155 ∷ [];
+    }
 
-pub one-handed : delivered one one-delivery ≡ field ∷ []
+pub one-handed : delivered one one-delivery ≡ field 1 0 ∷ []
 unfolding toBits num bits octets fieldBits bitsAt rowAt headerWord checksumWord ancSize ancRecord headersOk rOk wordsOk checksumOk alignmentOk ancChecks readAnc readRun packetOctets packetRead headerChecks paddingChecks payloadChecks readRecords readPacket readContent step
 one-handed = refl
 
-pub three-handed : delivered three three-delivery ≡ field ∷ []
+pub three-handed : delivered three three-delivery ≡ field 3 2 ∷ []
 unfolding toBits num bits octets fieldBits bitsAt rowAt headerWord checksumWord ancSize ancRecord headersOk rOk wordsOk checksumOk alignmentOk ancChecks readAnc readRun packetOctets packetRead headerChecks paddingChecks payloadChecks readRecords readPacket readContent step
 three-handed = refl
 
 -- and by the theorems
-pub whole : delivered three three-delivery ≡ field ∷ []
+pub whole : delivered three three-delivery ≡ field 3 2 ∷ []
 whole = delivered-whole three three-delivery
 
-pub alike : delivered one one-delivery ≡ delivered three three-delivery
+pub alike : AllAlike (delivered one one-delivery) (delivered three three-delivery)
 alike = cut-alike one three same one-delivery three-delivery

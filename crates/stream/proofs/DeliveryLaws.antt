@@ -1,4 +1,4 @@
--- A stream delivered entirely, in order, is handed out entirely; so two that are cut differently hand out the same.
+-- A stream delivered entirely, in order, is handed out entirely; so two that are cut differently hand out the same, apart from the index.
 -- By recursion on the packets delivered: each finds the parts before it gathered.
 use mathlib.Core.Path.{_≡_, refl, _∙_, ap, ap₂, sym, subst}
 use mathlib.Core.Bool.{Bool, true, false, cond, true≢false}
@@ -12,13 +12,15 @@ use lib.ListN.{length, drop, length-append}
 use borrow.Author.Tests.{le-leb}
 use Rattle.wire.specs.Result.{accepted}
 use Rattle.wire.specs.Anc.{Record, Each}
-use Rattle.wire.specs.Cells.{cellsOf, listOf}
+use Rattle.wire.specs.Cells.{listIn, listOf, Lists}
 use Rattle.wire.specs.Packet.{Content}
+use Rattle.wire.specs.Writing.{maxFieldPackets}
+use Rattle.wire.proofs.CellLaws.{lists-in, lists-append, lists-length}
 use Rattle.stream.specs.declared.state.State.{State}
 use Rattle.stream.specs.declared.state.Answer.the-variants as answer
-use Rattle.stream.specs.Step.{Gathered, lost, ready, filling, gathered, gatheredRecords, gatheredCells, Gather, follow, carried, dropped, after, appended, Step, freshStep, packetStep, classStep, classify, distance, admit, admittedStep, sound, step, openState}
-use Rattle.stream.specs.Stream.{Part, Field, parts, recordCount, cellsIn, Sent, isLast, sent, sentOf, Stream, contentAt, Within, Fits, WellFormedStream, other, packet, Call, Calls, none, _before_, Run, storeFor, done, callStep, run, octetsOf, Handed, asSent, onlyIf}
-use Rattle.stream.specs.Delivery.{joined, SameFields, Leads, inOrder, Delivery, delivered, allAsSent, DeliveredWhole, CutAlike}
+use Rattle.stream.specs.Step.{Gathered, lost, ready, filling, gathered, gatheredRecords, gatheredCells, gatheredPackets, Gather, follow, carried, dropped, after, appended, Step, freshStep, packetStep, classStep, classify, distance, admit, admittedStep, sound, step, openState}
+use Rattle.stream.specs.Stream.{Part, Field, parts, recordCount, cellsFrom, joinedCells, Sent, isLast, sent, sentOf, Stream, contentAt, Within, Fits, WellFormedStream, other, packet, Call, Calls, none, _before_, Run, storeFor, done, callStep, run, octetsOf, Handed, asSent, onlyIf}
+use Rattle.stream.specs.Delivery.{joined, SameFields, Leads, inOrder, Delivery, delivered, allAsSent, DeliveredWhole, Alike, AllAlike, CutAlike}
 use Rattle.stream.proofs.DistanceLaws.{distance-ahead}
 use Rattle.stream.proofs.WalkLaws.{packetAt, at-drop, length-sent}
 use Rattle.stream.proofs.PlaceLaws.{upTo, entering, leaving, Holds, part-at, field-at, followed-at, followed-holds}
@@ -35,7 +37,7 @@ gatheredAt ps (suc m) = leaving (packetAt ps m)
 
 abbrev cellsAt : List Sent → ℕ → List ℕ
 cellsAt ps zero = []
-cellsAt ps (suc m) = cellsIn (upTo (packetAt ps m))
+cellsAt ps (suc m) = joinedCells (upTo (packetAt ps m))
 
 abbrev wholeBefore : List Sent → ℕ → List Handed
 wholeBefore ps zero = []
@@ -48,6 +50,7 @@ record Delivering (s : Stream) (i : ℕ) (r : Run) : Type 0 where
   last : r .state .last .0 ≡ (s .start + (2 ^ 32 - 1) + i) % 2 ^ 32
   records : r .state .records ≡ gatheredRecords (gathered (r .state))
   cells : r .state .cells ≡ gatheredCells (gathered (r .state))
+  packets : r .state .packets ≡ gatheredPackets (gathered (r .state))
   gathers : gathered (r .state) ≡ gatheredAt (sent (s .fields)) i
   holds : Holds (s .fields) (gathered (r .state)) (r .store) (cellsAt (sent (s .fields)) i)
   handed : r .handed ≡ wholeBefore (sent (s .fields)) i
@@ -56,7 +59,7 @@ record Delivering (s : Stream) (i : ℕ) (r : Run) : Type 0 where
 enters : (xs : List Field) (i : ℕ) (store : List ℕ) → i < length (sent xs)
     → Holds xs (gatheredAt (sent xs) i) store (cellsAt (sent xs) i)
     → (gatheredAt (sent xs) i ≡ entering (packetAt (sent xs) i))
-    × Holds xs (entering (packetAt (sent xs) i)) store (cellsIn (packetAt (sent xs) i .before))
+    × Holds xs (entering (packetAt (sent xs) i)) store (joinedCells (packetAt (sent xs) i .before))
 enters [] i store b h = absurd (not-suc-le-zero b)
 enters (x ∷ xs) zero store b h = (refl, tt)
 enters (x ∷ xs) (suc m) store b h =
@@ -93,12 +96,12 @@ module _ (s : Stream) (i : ℕ) (r : Run) (offered : List ℕ) (w : WellFormedSt
   lends : Holds (s .fields) (gathered (r .state)) store (cellsAt ps i) × Each (Fits store) (s .fields)
   lends = store-holds (s .fields) (gathered (r .state)) (r .store) offered (cellsAt ps i) (v .holds) e
 
-  enter : (gatheredAt ps i ≡ entering x) × Holds (s .fields) (entering x) store (cellsIn (x .before))
+  enter : (gatheredAt ps i ≡ entering x) × Holds (s .fields) (entering x) store (joinedCells (x .before))
   enter = enters (s .fields) i store b (subst (λ (q : Gathered). Holds (s .fields) q store (cellsAt ps i)) (v .gathers) (lends .0))
 
   passes : sound (r .state) (length store) ≡ true
   passes =
-      sound-gathered (r .state) (length store) (v .records) (v .cells)
+      sound-gathered (r .state) (length store) (v .records) (v .cells) (v .packets)
       ∙ ap₂ (λ (g : Gathered) (h : Bool). soundIn g h (length store)) (v .gathers) (v .heard)
       ∙ at-fits s i store w (omega arith) (lends .1)
 
@@ -132,8 +135,9 @@ module _ (s : Stream) (i : ℕ) (r : Run) (offered : List ℕ) (w : WellFormedSt
         last = let q : (s .start + i) % 2 ^ 32 ≡ (s .start + (2 ^ 32 - 1) + suc i) % 2 ^ 32 = omega arith in q;
         records = ap gatheredRecords (sym (gathered-after (z .gathered)));
         cells = ap gatheredCells (sym (gathered-after (z .gathered)));
+        packets = ap gatheredPackets (sym (gathered-after (z .gathered)));
         gathers = gathered-after (z .gathered) ∙ joins .gathered;
-        holds = subst (λ (g : Gathered). Holds (s .fields) g (appended (z .append) (entering x) k store) (cellsIn (upTo x))) (sym (gathered-after (z .gathered))) (joins .holds);
+        holds = subst (λ (g : Gathered). Holds (s .fields) g (appended (z .append) (entering x) k store) (joinedCells (upTo x))) (sym (gathered-after (z .gathered))) (joins .holds);
         handed = ap₂ (λ (p q : List Handed). p ++ q) (v .handed) (joins .handed);
       })
 
@@ -157,6 +161,7 @@ delivering-first s o offered h = rw steps (go (carried (h .says) .marked) (ap (�
           last = h .number ∙ (let q : (s .start + (2 ^ 32 - 1)) % 2 ^ 32 ≡ (s .start + (2 ^ 32 - 1) + 0) % 2 ^ 32 = omega arith in q);
           records = refl;
           cells = refl;
+          packets = refl;
           gathers = refl;
           holds = tt;
           handed = refl;
@@ -200,33 +205,47 @@ delivered-whole s d =
     ∙ ap (wholeBefore (sent (s .fields))) (sym (zero-add n))
     ∙ fields-whole (sent (s .fields)) (s .fields) 0 refl
 
-list-append : (a b : List Record) → listOf (a ++ b) ≡ listOf a ++ listOf b
-list-append [] b = refl
-list-append (r ∷ a) b = ap (λ (l : List ℕ). cellsOf r ++ l) (list-append a b) ∙ sym (append-assoc (cellsOf r) (listOf a) (listOf b))
-
 records-joined : (ps : List Part) → recordCount ps ≡ length (joined ps)
 records-joined [] = refl
 records-joined (p ∷ ps) = rw (length-append (p .records) (joined ps), records-joined ps)
 
-cells-joined : (ps : List Part) → cellsIn ps ≡ listOf (joined ps)
-cells-joined [] = refl
-cells-joined (p ∷ ps) = rw (list-append (p .records) (joined ps), cells-joined ps)
+-- the cells of parts are those of their records, apart from the index
+cells-joined : (k : ℕ) (ps : List Part) → k + length ps ≤ maxFieldPackets → Lists (joined ps) (cellsFrom k ps)
+cells-joined k [] h = refl
+cells-joined k (p ∷ ps) h =
+    lists-append (p .records) (joined ps) (listIn k (p .records)) (cellsFrom (suc k) ps) (lists-in k (omega arith) (p .records))
+    (cells-joined (suc k) ps (omega arith))
 
-abbrev said : (timestamp f : ℕ) → List Record → Handed
-said t f rs = record { timestamp = t; f = f; records = length rs; cells = length (listOf rs); content = listOf rs }
+-- a field as sent is its joined records, apart from the index
+field-said : (x : Field) → Within x → Lists (joined (parts x)) (joinedCells (parts x))
+field-said x w = cells-joined 0 (parts x) (omega (arith, w .2))
 
-as-said : (x : Field) → asSent x ≡ said (x .timestamp) (x .f) (joined (parts x))
-as-said x = rw (records-joined (parts x), cells-joined (parts x))
+cells-said : (x : Field) → Within x → length (joinedCells (parts x)) ≡ length (listOf (joined (parts x)))
+cells-said x w = lists-length (joined (parts x)) (joinedCells (parts x)) (field-said x w)
 
-same-sent : (xs ys : List Field) → SameFields xs ys → allAsSent xs ≡ allAsSent ys
-same-sent [] [] h = refl
-same-sent [] (y ∷ ys) h = absurd h
-same-sent (x ∷ xs) [] h = absurd h
-same-sent (x ∷ xs) (y ∷ ys) h =
-    let e : asSent x ≡ asSent y =
-    as-said x ∙ ap₂ (λ (t f : ℕ). said t f (joined (parts x))) (h .0) (h .1) ∙ ap (said (y .timestamp) (y .f)) (h .2) ∙ sym (as-said y) in
-    ap₂ (λ (a : Handed) (l : List Handed). a ∷ l) e (same-sent xs ys (h .3))
+field-alike : (x y : Field) → Within x → Within y → x .timestamp ≡ y .timestamp → x .f ≡ y .f → joined (parts x) ≡ joined (parts y)
+    → Alike (asSent x) (asSent y)
+field-alike x y v w t f e =
+    record {
+      timestamp = t;
+      f = f;
+      records = records-joined (parts x) ∙ ap length e ∙ sym (records-joined (parts y));
+      cells = cells-said x v ∙ ap (λ (rs : List Record). length (listOf rs)) e ∙ sym (cells-said y w);
+      said = joined (parts x);
+      left = field-said x v;
+      right = subst (λ (rs : List Record). Lists rs (joinedCells (parts y))) (sym e) (field-said y w);
+    }
+
+same-sent : (xs ys : List Field) → Each Within xs → Each Within ys → SameFields xs ys → AllAlike (allAsSent xs) (allAsSent ys)
+same-sent [] [] v w h = tt
+same-sent [] (y ∷ ys) v w h = absurd h
+same-sent (x ∷ xs) [] v w h = absurd h
+same-sent (x ∷ xs) (y ∷ ys) v w h =
+    (field-alike x y (v .0) (w .0) (h .0) (h .1) (h .2), same-sent xs ys (v .1) (w .1) (h .3))
 
 -- "Then the handed out fields are equal, one by one."
 pub cut-alike : CutAlike
-cut-alike s t h d e = delivered-whole s d ∙ same-sent (s .fields) (t .fields) h ∙ sym (delivered-whole t e)
+cut-alike s t h d e =
+    subst (λ (l : List Handed). AllAlike l (delivered t e)) (sym (delivered-whole s d))
+    (subst (AllAlike (allAsSent (s .fields))) (sym (delivered-whole t e))
+    (same-sent (s .fields) (t .fields) (d .formed .within) (e .formed .within) h))

@@ -40,7 +40,7 @@ formed : WellFormedStream stream
 formed = record { few = omega arith; within = omega arith; accepts = accepts }
 
 abbrev store : List ℕ
-store = 1 ∷ 2 ∷ 3 ∷ 4 ∷ 5 ∷ 6 ∷ 7 ∷ 8 ∷ []
+store = 1 ∷ 2 ∷ 3 ∷ 4 ∷ 5 ∷ 6 ∷ 7 ∷ 8 ∷ 9 ∷ []
 
 -- the octets of a sent packet are refused where the other layout is told
 refuses : admit rfc8331 1 112 (octets 7 1) ≡ refuse 7 0

@@ -11,8 +11,8 @@ use borrow.Author.Tests.{le-leb, leb-true, eq-eqb, ne-eqb}
 use Rattle.wire.specs.Anc.{Each}
 use Rattle.wire.specs.Packet.{Content}
 use Rattle.stream.specs.declared.state.State.{State}
-use Rattle.stream.specs.Step.{_⊞_, Gathered, lost, ready, filling, gatheredIn, gathered, phaseOf, timestampOf, fOf, gatheredRecords, gatheredCells, Gather, carried, follow, appended, classify, distance, classStep, freshStep, packetStep}
-use Rattle.stream.specs.Stream.{Field, cellsIn, Sent, isLast, sent, Stream, contentAt, Within, Fits, WellFormedStream, packet, NearLast, Handed, handedBy, onlyIf, Run, done}
+use Rattle.stream.specs.Step.{_⊞_, Gathered, lost, ready, filling, gatheredIn, gathered, phaseOf, timestampOf, fOf, gatheredRecords, gatheredCells, gatheredPackets, Gather, carried, follow, appended, classify, distance, classStep, freshStep, packetStep}
+use Rattle.stream.specs.Stream.{Field, joinedCells, Sent, isLast, sent, Stream, contentAt, Within, Fits, WellFormedStream, packet, NearLast, Handed, handedBy, onlyIf, Run, done}
 use Rattle.stream.proofs.DistanceLaws.{classAhead, class-ahead}
 use Rattle.stream.proofs.WalkLaws.{packetAt, unbroken, handedBefore, NoneFrom, unbroken-below, handed-below, handed-idle, unbroken-idle}
 use Rattle.stream.proofs.PlaceLaws.{upTo, entering, leaving, Holds, part-at, field-at, followed-at, followed-holds}
@@ -72,15 +72,15 @@ finds xs (m ∷ l) i h b e = go (i - suc m) (omega arith)
 -- and their cells in the store
 finds-cells : (xs : List Field) (l : List ℕ) (i : ℕ) (store : List ℕ) → top l ≤ i → i < length (sent xs) → NoneFrom (top l) l
     → Holds xs (gatheredAfter (sent xs) l) store (cellsAfter (sent xs) l) → unbroken (sent xs) l i ≡ true
-    → Holds xs (entering (packetAt (sent xs) i)) store (cellsIn (packetAt (sent xs) i .before))
+    → Holds xs (entering (packetAt (sent xs) i)) store (joinedCells (packetAt (sent xs) i .before))
 finds-cells xs [] i store h b e k g = absurd (true≢false (sym g ∙ unbroken-nil (sent xs) i))
 finds-cells xs (m ∷ l) i store h b e k g = go (i - suc m) (omega arith)
   where
-    go : (d : ℕ) → i ≡ d + suc m → Holds xs (entering (packetAt (sent xs) i)) store (cellsIn (packetAt (sent xs) i .before))
+    go : (d : ℕ) → i ≡ d + suc m → Holds xs (entering (packetAt (sent xs) i)) store (joinedCells (packetAt (sent xs) i .before))
     go zero q =
         let q : i ≡ suc m = omega arith in
         let g′ : unbroken (sent xs) (m ∷ l) (suc m) ≡ true = rw q at g in
-        let k′ : Holds xs (leaving (packetAt (sent xs) m)) store (cellsIn (upTo (packetAt (sent xs) m))) = rw g′ at k in
+        let k′ : Holds xs (leaving (packetAt (sent xs) m)) store (joinedCells (upTo (packetAt (sent xs) m))) = rw g′ at k in
         rw q (followed-holds xs (packetAt (sent xs) m) (packetAt (sent xs) (suc m)) store (followed-at xs m (omega arith)) k′)
     go (suc d) q = absurd (true≢false (sym g ∙ unbroken-idle (sent xs) (m ∷ l) (suc m) i (omega arith) e))
 
@@ -95,11 +95,11 @@ dropped-holds xs false store c = tt
 -- what a fresh packet leaves, where `g` says whether nothing is missing before it
 record AfterFresh (xs : List Field) (x : Sent) (g : Bool) (z : Gather) (store : List ℕ) : Type 0 where
   gathers : z .gathered ≡ cond (isLast x || g) (leaving x) lost
-  holds : Holds xs (z .gathered) store (cellsIn (upTo x))
+  holds : Holds xs (z .gathered) store (joinedCells (upTo x))
   handed : handedBy (z .answer) store ≡ onlyIf (isLast x && g) (x .field)
 
 fresh-leaves : (s : Stream) (i : ℕ) (store : List ℕ) (g : Bool) → i < length (sent (s .fields)) → Each Within (s .fields) → Each (Fits store) (s .fields)
-    → (g ≡ true → Holds (s .fields) (entering (packetAt (sent (s .fields)) i)) store (cellsIn (packetAt (sent (s .fields)) i .before)))
+    → (g ≡ true → Holds (s .fields) (entering (packetAt (sent (s .fields)) i)) store (joinedCells (packetAt (sent (s .fields)) i .before)))
     → let x : Sent = packetAt (sent (s .fields)) i in
     let k : Content = contentAt s i x in
     let z : Gather = follow (cond g (entering x) lost) (carried k) (length store) in
@@ -139,10 +139,10 @@ leb-and-more a b k h = go (leb b k) refl
     go false e = refl
 
 -- a state built of what is gathered has that gathered
-pub gathered-after : (g : Gathered) → gatheredIn (phaseOf g) (timestampOf g) (fOf g) (gatheredRecords g) (gatheredCells g) ≡ g
+pub gathered-after : (g : Gathered) → gatheredIn (phaseOf g) (timestampOf g) (fOf g) (gatheredRecords g) (gatheredCells g) (gatheredPackets g) ≡ g
 gathered-after lost = refl
 gathered-after ready = refl
-gathered-after (filling t f r c) = refl
+gathered-after (filling t f r c n) = refl
 
 module _ {earlier : List Handed} (s : Stream) (js l : List ℕ) (r : Run) (i : ℕ) (offered : List ℕ) (w : WellFormedStream s) (e : Each (Fits offered) (s .fields)) (v : Invariant s earlier js l r) (h : top l ≤ i) (b : i < length (sent (s .fields))) (near : NearLast (packet i) l) where
   abbrev ps : List Sent
@@ -207,8 +207,9 @@ module _ {earlier : List Handed} (s : Stream) (js l : List ℕ) (r : Run) (i : �
         heard = (refl, refl);
         records = ap gatheredRecords (sym (gathered-after (z .gathered)));
         cells = ap gatheredCells (sym (gathered-after (z .gathered)));
+        packets = ap gatheredPackets (sym (gathered-after (z .gathered)));
         gathers = gathered-after (z .gathered) ∙ rw (is-elem, unbroken-below ps l i i (omega arith)) (leaves .gathers);
-        holds = subst (λ (g : Gathered). Holds (s .fields) g left (cellsIn (upTo x))) (sym (gathered-after (z .gathered))) (leaves .holds);
+        holds = subst (λ (g : Gathered). Holds (s .fields) g left (joinedCells (upTo x))) (sym (gathered-after (z .gathered))) (leaves .holds);
         handed =
             rw (is-elem, unbroken-below ps l i i (omega arith), handed-below ps l i i (omega arith), idle)
             (ap₂ (λ (p q : List Handed). p ++ q) (v .handed) (leaves .handed) ∙ append-assoc earlier _ _);

@@ -19,3 +19,4 @@ pub mod WalkLaws
 pub mod DraftRun
 pub mod DeliveryLaws
 pub mod DeliveryExamples
+pub mod IndexExamples

@@ -38,7 +38,7 @@ answersTo [] = []
 answersTo (o ∷ os) = step (stateAfter os) rfc8331 o store .answer ∷ answersTo os
 
 abbrev whole : Answer
-whole = answer.Whole (record { timestamp = record { 0 = 1 }; f = 2; records = 0; cells = 0 })
+whole = answer.Whole (record { timestamp = record { 0 = 1 }; f = 2; records = 0; cells = 0; packets = 1 })
 
 abbrev lateAnswer : Answer
 lateAnswer = answer.Refused (record { number = 32; index = 0 })
@@ -76,6 +76,7 @@ pub restarted : (stateAfter arrivals
       f = 0;
       records = 0;
       cells = 0;
+      packets = 0;
       fresh = 2;
       late = 1;
       missing = 1;
@@ -93,6 +94,7 @@ pub restarted : (stateAfter arrivals
       f = 0;
       records = 0;
       cells = 0;
+      packets = 0;
       fresh = 1;
       late = 0;
       missing = 0;
@@ -108,7 +110,7 @@ earlier =
     record {
       state = stateAfter (bare 0xFFFFFFFD ∷ bare 10000 ∷ []);
       store = store;
-      handed = record { timestamp = 9; f = 3; records = 0; cells = 0; content = [] } ∷ [];
+      handed = record { timestamp = 9; f = 3; records = 0; cells = 0; packets = 1; content = [] } ∷ [];
     }
 
 -- FFFFFFFE, the first packet of a stream, restarts it; FFFFFFFF and 0 follow
@@ -150,7 +152,7 @@ kept = demand3-again sample.stream sample.formed earlier restarting following op
 
 -- handed out is, behind the field from before, the field that wraps; and the counts are those of three packets
 pub handed : runFrom earlier sample.stream (restarting andThen following) .handed
-    ≡ earlier .handed ++ (record { timestamp = 2; f = 2; records = 1; cells = 8; content = 0 ∷ 9 ∷ 0 ∷ 0 ∷ 0 ∷ 0x41 ∷ 0x05 ∷ 0 ∷ [] } ∷ [])
+    ≡ earlier .handed ++ (record { timestamp = 2; f = 2; records = 1; cells = 9; packets = 2; content = 0 ∷ 9 ∷ 0 ∷ 0 ∷ 0 ∷ 0x41 ∷ 0x05 ∷ 0 ∷ 0 ∷ [] } ∷ [])
 handed = kept .handed
 
 pub counts : (runFrom earlier sample.stream (restarting andThen following) .state .fresh ≡ 3)

@@ -57,6 +57,7 @@ other-store s js l st handed old new h v =
       heard = v .heard;
       records = v .records;
       cells = v .cells;
+      packets = v .packets;
       gathers = v .gathers;
       holds = h;
       handed = v .handed;

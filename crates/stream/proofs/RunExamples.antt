@@ -13,7 +13,7 @@ use Rattle.wire.specs.Layout.{rfc8331}
 use Rattle.wire.specs.Result.{accepted, refuse}
 use Rattle.wire.specs.Anc.{Each, ancSize, ancRecord, headersOk, rOk, wordsOk, checksumOk, alignmentOk, ancChecks, readAnc, readRun}
 use Rattle.wire.specs.Packet.{packetRead, headerChecks, paddingChecks, payloadChecks, readRecords, readPacket, readContent}
-use Rattle.wire.specs.Cells.{listOf}
+use Rattle.wire.specs.Cells.{listIn, listOf}
 use Rattle.wire.proofs.Examples.{a, aOctets}
 use Rattle.wire.proofs.PacketExamples.{frame, frame7, frame7Octets, frame8, frame8Octets, frame10, frame10Octets}
 use Rattle.stream.specs.declared.state.Phase.the-variants as phase
@@ -81,7 +81,7 @@ formed = record { few = omega arith; within = omega arith; accepts = accepts }
 
 -- a store one cell longer than a field
 abbrev pub store : List ℕ
-store = 1 ∷ 2 ∷ 3 ∷ 4 ∷ 5 ∷ 6 ∷ 7 ∷ 8 ∷ 9 ∷ []
+store = 1 ∷ 2 ∷ 3 ∷ 4 ∷ 5 ∷ 6 ∷ 7 ∷ 8 ∷ 9 ∷ 10 ∷ []
 
 -- a call for packet `i`, lent that store
 abbrev pub lend : List ℕ → ℕ → Call
@@ -113,7 +113,7 @@ pub kept : Demand3After stream [] calls (run stream calls)
 kept = demand3 stream formed calls proper near
 
 -- handed out is the field of packet 8, alone
-pub handed : run stream calls .handed ≡ record { timestamp = 2501; f = 3; records = 1; cells = 8; content = listOf (a ∷ []) } ∷ []
+pub handed : run stream calls .handed ≡ record { timestamp = 2501; f = 3; records = 1; cells = 9; packets = 1; content = listOf (a ∷ []) } ∷ []
 handed = kept .handed
 
 -- "fresh=3 late=1 missing=1"
@@ -129,7 +129,7 @@ answers s (cs before c) = answers s cs ++ (callStep s (run s cs) c .answer ∷ [
 pub answered : (answers stream calls
     ≡ answer.Skipped
     ∷ answer.Refused (record { number = 2; index = 0 })
-    ∷ answer.Whole (record { timestamp = record { 0 = 2501 }; f = 3; records = 1; cells = 8 })
+    ∷ answer.Whole (record { timestamp = record { 0 = 2501 }; f = 3; records = 1; cells = 9; packets = 1 })
     ∷ answer.Refused (record { number = 32; index = 0 })
     ∷ answer.Skipped
     ∷ [])
@@ -144,6 +144,7 @@ pub answered : (answers stream calls
       f = 0;
       records = 0;
       cells = 0;
+      packets = 0;
       fresh = 3;
       late = 1;
       missing = 1;
@@ -183,22 +184,22 @@ mixed = two (set frame9Octets 17 0xC0)
 abbrev pub retimed : Stream
 retimed = two (set frame9Octets 7 0xA3)
 
--- 17 cells, one more than that field has
+-- 19 cells, one more than that field has
 abbrev wide : List ℕ
-wide = store ++ take 8 store
+wide = store ++ take 9 store
 
 -- the calls for these packets, each lent that store
 abbrev pub lends : List ℕ → List ℕ → Calls
 lends l [] = none
 lends l (i ∷ is) = lends l is before lend l i
 
--- "Held and whole append their cells after the gathered ones", and the last cell lent stays as it was; the store too short for
+-- "Held and whole append their cells after the gathered ones", with the index of each packet (02, K13), and the last cell lent stays as it was; the store too short for
 -- the second packet; the first packet lost; the one sent just before them lost; F differing in the second, which leaves the store
 -- as the call before did; the timestamp differing. The packets stand with the latest first.
 pub pair-answered : (answers pair (lends wide (2 ∷ 1 ∷ 0 ∷ []))
-    ≡ answer.Skipped ∷ answer.Held ∷ answer.Whole (record { timestamp = record { 0 = 4002 }; f = 2; records = 2; cells = 16 }) ∷ [])
-    × (run pair (lends wide (2 ∷ 1 ∷ 0 ∷ [])) .store ≡ listOf (a ∷ a ∷ []) ++ (8 ∷ []))
-    × (answers pair (lends (take 15 wide) (2 ∷ 1 ∷ 0 ∷ [])) ≡ answer.Skipped ∷ answer.Held ∷ answer.Overfull ∷ [])
+    ≡ answer.Skipped ∷ answer.Held ∷ answer.Whole (record { timestamp = record { 0 = 4002 }; f = 2; records = 2; cells = 18; packets = 2 }) ∷ [])
+    × (run pair (lends wide (2 ∷ 1 ∷ 0 ∷ [])) .store ≡ listOf (a ∷ []) ++ (listIn 1 (a ∷ []) ++ (9 ∷ [])))
+    × (answers pair (lends (take 17 wide) (2 ∷ 1 ∷ 0 ∷ [])) ≡ answer.Skipped ∷ answer.Held ∷ answer.Overfull ∷ [])
     × (answers pair (lends wide (2 ∷ 0 ∷ [])) ≡ answer.Skipped ∷ answer.Skipped ∷ [])
     × (answers pair (lends wide (2 ∷ 1 ∷ [])) ≡ answer.Skipped ∷ answer.Skipped ∷ [])
     × (answers mixed (lends wide (2 ∷ 1 ∷ 0 ∷ [])) ≡ answer.Skipped ∷ answer.Held ∷ answer.Mixed ∷ [])

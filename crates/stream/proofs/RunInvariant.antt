@@ -16,9 +16,9 @@ use Rattle.wire.specs.Packet.{Content}
 use Rattle.stream.specs.declared.state.State.{State}
 use Rattle.stream.specs.declared.state.Phase.{Phase}
 use Rattle.stream.specs.declared.state.Phase.the-variants as phase
-use Rattle.stream.specs.Step.{maxCount, Gathered, lost, ready, filling, gatheredIn, gathered, phaseOf, gatheredRecords, gatheredCells, fits, isFilling, isLost, sound, classify, distance, classStep, lateStep, packetStep}
-use Rattle.stream.specs.Stream.{Field, cellsIn, Sent, sent, Stream, contentAt, Within, Fits, WellFormedStream, packet, NearLast, Handed, Run, openRun, storeFor, done, earliest}
-use Rattle.stream.proofs.FitLaws.{gatheredFits, soundIn, sound-lost, sound-heard}
+use Rattle.stream.specs.Step.{maxCount, Gathered, lost, ready, filling, gatheredIn, gathered, phaseOf, gatheredRecords, gatheredCells, gatheredPackets, fits, isFilling, isLost, packetsOk, sound, classify, distance, classStep, lateStep, packetStep}
+use Rattle.stream.specs.Stream.{Field, joinedCells, Sent, sent, Stream, contentAt, Within, Fits, WellFormedStream, packet, NearLast, Handed, Run, openRun, storeFor, done, earliest}
+use Rattle.stream.proofs.FitLaws.{soundIn, sound-lost, sound-heard}
 use Rattle.stream.proofs.DistanceLaws.{class-late}
 use Rattle.stream.proofs.WalkLaws.{packetAt, unbroken, handedBefore, NoneFrom}
 use Rattle.stream.proofs.PlaceLaws.{upTo, leaving, Holds, part-at, field-at}
@@ -43,7 +43,7 @@ gatheredAfter ps (m ∷ l) = cond (unbroken ps (m ∷ l) (suc m)) (leaving (pack
 -- the cells of its field's parts up to it
 abbrev pub cellsAfter : List Sent → List ℕ → List ℕ
 cellsAfter ps [] = []
-cellsAfter ps (m ∷ l) = cellsIn (upTo (packetAt ps m))
+cellsAfter ps (m ∷ l) = joinedCells (upTo (packetAt ps m))
 
 -- fresh and missing together
 abbrev pub Counted : List ℕ → ℕ → Type 0
@@ -60,6 +60,7 @@ pub record Invariant (s : Stream) (earlier : List Handed) (js l : List ℕ) (r :
   pub heard : LastHeard s l (r .state .heard) (r .state .last .0)
   pub records : r .state .records ≡ gatheredRecords (gathered (r .state))
   pub cells : r .state .cells ≡ gatheredCells (gathered (r .state))
+  pub packets : r .state .packets ≡ gatheredPackets (gathered (r .state))
   pub gathers : gathered (r .state) ≡ gatheredAfter (sent (s .fields)) l
   pub holds : Holds (s .fields) (gathered (r .state)) (r .store) (cellsAfter (sent (s .fields)) l)
   pub handed : r .handed ≡ earlier ++ handedBefore (sent (s .fields)) l (top l)
@@ -81,6 +82,7 @@ invariant-open s store earlier =
       heard = refl;
       records = refl;
       cells = refl;
+      packets = refl;
       gathers = refl;
       holds = tt;
       handed = sym (append-nil earlier);
@@ -96,7 +98,7 @@ pub store-holds : (xs : List Field) (g : Gathered) (left offered c : List ℕ) �
     → Holds xs g (storeFor g left offered) c × Each (Fits (storeFor g left offered)) xs
 store-holds xs lost left offered c h e = (tt, e)
 store-holds xs ready left offered c h e = (tt, e)
-store-holds xs (filling t f r n) left offered c h e = (h, h .1)
+store-holds xs (filling t f r n m) left offered c h e = (h, h .1)
 
 -- the store that a call is lent
 abbrev pub storeIn : Run → List ℕ → List ℕ
@@ -115,6 +117,7 @@ invariant-refused s js l r offered x e v =
       heard = v .heard;
       records = v .records;
       cells = v .cells;
+      packets = v .packets;
       gathers = v .gathers;
       holds = (store-holds (s .fields) (gathered (r .state)) (r .store) offered _ (v .holds) e) .0;
       handed = append-nil _ ∙ v .handed;
@@ -155,6 +158,7 @@ invariant-late s js l r i offered e h v =
       heard = v .heard;
       records = v .records;
       cells = v .cells;
+      packets = v .packets;
       gathers = v .gathers;
       holds = (store-holds (s .fields) (gathered (r .state)) (r .store) offered _ (v .holds) e) .0;
       handed = append-nil _ ∙ v .handed;
@@ -165,22 +169,21 @@ invariant-late s js l r i offered e h v =
       late = omega (arith, v .late);
     }
 
-phase-gathered : (p : Phase) (t f r c : ℕ) → phaseOf (gatheredIn p t f r c) ≡ p
-phase-gathered phase.Lost t f r c = refl
-phase-gathered phase.Ready t f r c = refl
-phase-gathered phase.Filling t f r c = refl
+phase-gathered : (p : Phase) (t f r c n : ℕ) → phaseOf (gatheredIn p t f r c n) ≡ p
+phase-gathered phase.Lost t f r c n = refl
+phase-gathered phase.Ready t f r c n = refl
+phase-gathered phase.Filling t f r c n = refl
 
 pub sound-gathered : (st : State) (room : ℕ) → st .records ≡ gatheredRecords (gathered st) → st .cells ≡ gatheredCells (gathered st)
-    → sound st room ≡ soundIn (gathered st) (st .heard) room
-sound-gathered st room r c =
+    → st .packets ≡ gatheredPackets (gathered st) → sound st room ≡ soundIn (gathered st) (st .heard) room
+sound-gathered st room r c n =
     let g : Gathered = gathered st in
-    let p : phaseOf g ≡ st .phase = phase-gathered (st .phase) (st .timestamp .0) (st .f) (st .records) (st .cells) in
-    ap₂ (λ (a b : ℕ). fits a b room && ((isFilling (st .phase) || (eqb a 0 && eqb b 0)) && (st .heard || isLost (st .phase)))) r c
-    ∙ ap
-    (λ (q : Phase).
-    gatheredFits g room
-    && ((isFilling q || (eqb (gatheredRecords g) 0 && eqb (gatheredCells g) 0)) && (st .heard || isLost q)))
-    (sym p)
+    let p : phaseOf g ≡ st .phase = phase-gathered (st .phase) (st .timestamp .0) (st .f) (st .records) (st .cells) (st .packets) in
+    let by : (q : Phase) (a b m : ℕ) → Bool =
+    λ q a b m. fits a b m room && (packetsOk q m && ((isFilling q || (eqb a 0 && eqb b 0)) && (st .heard || isLost q))) in
+    ap₂ (λ (a b : ℕ). by (st .phase) a b (st .packets)) r c
+    ∙ ap (λ (m : ℕ). by (st .phase) (gatheredRecords g) (gatheredCells g) m) n
+    ∙ ap (λ (q : Phase). by q (gatheredRecords g) (gatheredCells g) (gatheredPackets g)) (sym p)
 
 sound-after : (s : Stream) (l store : List ℕ) (heard : Bool) (last : ℕ) → WellFormedStream s → Each (Fits store) (s .fields)
     → top l ≤ length (sent (s .fields)) → LastHeard s l heard last
@@ -200,7 +203,7 @@ pub sound-run : {earlier : List Handed} (s : Stream) (js l : List ℕ) (r : Run)
     → Invariant s earlier js l r → sound (r .state) (length (storeIn r offered)) ≡ true
 sound-run s js l r offered w e v =
     let t : List ℕ = storeIn r offered in
-    sound-gathered (r .state) (length t) (v .records) (v .cells)
+    sound-gathered (r .state) (length t) (v .records) (v .cells) (v .packets)
     ∙ ap (λ (g : Gathered). soundIn g (r .state .heard) (length t)) (v .gathers)
     ∙ sound-after s l t (r .state .heard) (r .state .last .0) w
     ((store-holds (s .fields) (gathered (r .state)) (r .store) offered _ (v .holds) e) .1)

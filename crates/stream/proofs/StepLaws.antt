@@ -33,21 +33,21 @@ taken-answers : (x : Field) (b : Bool) → isRefusal (wholeIfMarked b x) ≡ fal
 taken-answers x true = refl
 taken-answers x false = refl
 
-join-answers : (r c : ℕ) (p : Carried) (room : ℕ) → isRefusal (join r c p room .answer) ≡ false
-join-answers r c p room = go (joinFits r c p room)
+join-answers : (r c n : ℕ) (p : Carried) (room : ℕ) → isRefusal (join r c n p room .answer) ≡ false
+join-answers r c n p room = go (joinFits r c n p room) _
   where
-    go : (b : Bool) → isRefusal (joinIfFits b p (r + p .records) (c + p .cells) .answer) ≡ false
-    go true = taken-answers (fieldWith p (r + p .records) (c + p .cells)) (p .marked)
-    go false = refl
+    go : (b : Bool) (m : ℕ) → isRefusal (joinIfFits b p (r + p .records) (c + p .cells) m .answer) ≡ false
+    go true m = taken-answers (fieldWith p (r + p .records) (c + p .cells) m) (p .marked)
+    go false m = refl
 
 -- a fresh packet is not refused
 follow-answers : (g : Gathered) (p : Carried) (room : ℕ) → isRefusal (follow g p room .answer) ≡ false
 follow-answers lost p room = refl
-follow-answers ready p room = join-answers 0 0 p room
-follow-answers (filling t f r c) p room = go (eqb t (p .timestamp) && eqb f (p .f))
+follow-answers ready p room = join-answers 0 0 0 p room
+follow-answers (filling t f r c n) p room = go (eqb t (p .timestamp) && eqb f (p .f))
   where
-    go : (b : Bool) → isRefusal (joinIfSame b r c p room .answer) ≡ false
-    go true = join-answers r c p room
+    go : (b : Bool) → isRefusal (joinIfSame b r c n p room .answer) ≡ false
+    go true = join-answers r c n p room
     go false = refl
 
 not-refused : (a : Answer) (x : Refusal) → isRefusal a ≡ false → a ≡ answer.Refused x → ⊥

@@ -94,8 +94,8 @@ kept = demand3 stream formed calls (proper (6 ∷ 5 ∷ 3 ∷ 1 ∷ 2 ∷ 1 ∷ 
 
 -- handed out are the field that wraps, and the last; not the one that misses packet 2
 pub handed : run stream calls .handed
-    ≡ record { timestamp = 2; f = 2; records = 1; cells = 8; content = listOf (a ∷ []) }
-    ∷ record { timestamp = 4; f = 2; records = 0; cells = 0; content = [] }
+    ≡ record { timestamp = 2; f = 2; records = 1; cells = 9; packets = 2; content = listOf (a ∷ []) }
+    ∷ record { timestamp = 4; f = 2; records = 0; cells = 0; packets = 1; content = [] }
     ∷ []
 handed = kept .handed
 
@@ -107,11 +107,11 @@ counts = (kept .freshCount, kept .late, omega (arith, kept .freshCount, kept .mi
 pub answered : answers stream calls
     ≡ answer.Skipped
     ∷ answer.Held
-    ∷ answer.Whole (record { timestamp = record { 0 = 2 }; f = 2; records = 1; cells = 8 })
+    ∷ answer.Whole (record { timestamp = record { 0 = 2 }; f = 2; records = 1; cells = 9; packets = 2 })
     ∷ answer.Refused (record { number = 32; index = 0 })
     ∷ answer.Held
     ∷ answer.Skipped
-    ∷ answer.Whole (record { timestamp = record { 0 = 4 }; f = 2; records = 0; cells = 0 })
+    ∷ answer.Whole (record { timestamp = record { 0 = 4 }; f = 2; records = 0; cells = 0; packets = 1 })
     ∷ []
 unfolding toBits num bits bitsAt rowAt headerWord checksumWord ancSize ancRecord headersOk rOk wordsOk checksumOk alignmentOk ancChecks readAnc readRun packetRead headerChecks paddingChecks payloadChecks readRecords readPacket readContent step
 answered = refl

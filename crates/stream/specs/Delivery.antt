@@ -5,6 +5,7 @@ use Prim.Native.Nat.{ℕ, zero, suc, _+_, _-_, _^_, _%_}
 use lib.ListN.{length}
 use Rattle.wire.specs.Result.{accepted}
 use Rattle.wire.specs.Anc.{Record, Each}
+use Rattle.wire.specs.Cells.{Lists}
 use Rattle.wire.specs.Packet.{Content}
 use Rattle.stream.specs.Step.{admit}
 use Rattle.stream.specs.Stream.{Part, Field, parts, sent, Stream, WellFormedStream, Fits, other, packet, Calls, none, _before_, run, Handed, asSent}
@@ -55,6 +56,23 @@ allAsSent (x ∷ xs) = asSent x ∷ allAsSent xs
 abbrev pub DeliveredWhole : Type 0
 DeliveredWhole = (s : Stream) (d : Delivery s) → delivered s d ≡ allAsSent (s .fields)
 
+-- "K8's equality reads apart from this cell" (02, K13), and from the number of packets, which tells the cut: two fields handed out that are else
+-- equal, the cells of both those of the same records
+pub record Alike (x y : Handed) : Type 0 where
+  pub timestamp : x .timestamp ≡ y .timestamp
+  pub f : x .f ≡ y .f
+  pub records : x .records ≡ y .records
+  pub cells : x .cells ≡ y .cells
+  pub said : List Record
+  pub left : Lists said (x .content)
+  pub right : Lists said (y .content)
+
+abbrev pub AllAlike : List Handed → List Handed → Type 0
+AllAlike [] [] = Unit {0}
+AllAlike [] (y ∷ ys) = ⊥
+AllAlike (x ∷ xs) [] = ⊥
+AllAlike (x ∷ xs) (y ∷ ys) = Alike x y × AllAlike xs ys
+
 -- "Then the handed out fields are equal, one by one."
 abbrev pub CutAlike : Type 0
-CutAlike = (s t : Stream) → SameFields (s .fields) (t .fields) → (d : Delivery s) (e : Delivery t) → delivered s d ≡ delivered t e
+CutAlike = (s t : Stream) → SameFields (s .fields) (t .fields) → (d : Delivery s) (e : Delivery t) → AllAlike (delivered s d) (delivered t e)

@@ -8,9 +8,9 @@ use lib.ListN.{length}
 use Rattle.wire.specs.Bits.{splice}
 use Rattle.wire.specs.Layout.{Layout}
 use Rattle.wire.specs.Result.{Result, refused, accepted, Checks, judge, _then_}
-use Rattle.wire.specs.Cells.{listOf}
+use Rattle.wire.specs.Cells.{listIn, listOf}
 use Rattle.wire.specs.Packet.{Content, readContent}
-use Rattle.wire.specs.Writing.{maxFieldRecords, maxFieldCells, maxType}
+use Rattle.wire.specs.Writing.{maxFieldRecords, maxFieldCells, maxFieldPackets, maxType}
 use Rattle.stream.specs.declared.state.State.{State}
 use Rattle.stream.specs.declared.state.Phase.{Phase}
 use Rattle.stream.specs.declared.state.Phase.the-variants as phase
@@ -59,47 +59,53 @@ classify (pos (suc (suc n))) = cond (leb (suc (suc n)) maxAhead) (ahead (suc n))
 -- one; part of a field
 pub data Gathered : Type 0 where
   lost ready : Gathered
-  filling : (timestamp f records cells : ℕ) → Gathered
+  filling : (timestamp f records cells packets : ℕ) → Gathered
 
 -- "Only a filling keeper has gathered records."
-abbrev pub gatheredIn : Phase → (timestamp f records cells : ℕ) → Gathered
-gatheredIn phase.Lost t f r c = lost
-gatheredIn phase.Ready t f r c = ready
-gatheredIn phase.Filling t f r c = filling t f r c
+abbrev pub gatheredIn : Phase → (timestamp f records cells packets : ℕ) → Gathered
+gatheredIn phase.Lost t f r c n = lost
+gatheredIn phase.Ready t f r c n = ready
+gatheredIn phase.Filling t f r c n = filling t f r c n
 
 -- what a state has gathered
 abbrev pub gathered : State → Gathered
-gathered st = gatheredIn (st .phase) (st .timestamp .0) (st .f) (st .records) (st .cells)
+gathered st = gatheredIn (st .phase) (st .timestamp .0) (st .f) (st .records) (st .cells) (st .packets)
 
 -- the phase of a state that has this gathered
 abbrev pub phaseOf : Gathered → Phase
 phaseOf lost = phase.Lost
 phaseOf ready = phase.Ready
-phaseOf (filling t f r c) = phase.Filling
+phaseOf (filling t f r c n) = phase.Filling
 
--- the timestamp of the field that is gathered; 0 where there is none, as for the next three
+-- the timestamp of the field that is gathered; 0 where there is none, as for the next four
 abbrev pub timestampOf : Gathered → ℕ
 timestampOf lost = 0
 timestampOf ready = 0
-timestampOf (filling t f r c) = t
+timestampOf (filling t f r c n) = t
 
 -- its F
 abbrev pub fOf : Gathered → ℕ
 fOf lost = 0
 fOf ready = 0
-fOf (filling t f r c) = f
+fOf (filling t f r c n) = f
 
 -- its records that are gathered
 abbrev pub gatheredRecords : Gathered → ℕ
 gatheredRecords lost = 0
 gatheredRecords ready = 0
-gatheredRecords (filling t f r c) = r
+gatheredRecords (filling t f r c n) = r
 
 -- and their cells
 abbrev pub gatheredCells : Gathered → ℕ
 gatheredCells lost = 0
 gatheredCells ready = 0
-gatheredCells (filling t f r c) = c
+gatheredCells (filling t f r c n) = c
+
+-- and the packets that they came in, with records or without: the index of the next (02, K13)
+abbrev pub gatheredPackets : Gathered → ℕ
+gatheredPackets lost = 0
+gatheredPackets ready = 0
+gatheredPackets (filling t f r c n) = n
 
 -- What a packet brings to a field: whether it is marked, timestamp, F, and how many records in how many cells.
 pub record Carried : Type 0 where
@@ -134,9 +140,9 @@ pub record Gather : Type 0 where
 abbrev pub dropped : Answer → (marker : Bool) → Gather
 dropped a marker = record { answer = a; gathered = cond marker ready lost; append = false }
 
--- "with timestamp, F, records, cells used": the field that a packet completes
-abbrev pub fieldWith : Carried → (records cells : ℕ) → Field
-fieldWith p r c = record { timestamp = record { 0 = p .timestamp }; f = p .f; records = r; cells = c }
+-- "with timestamp, F, records, cells used": the field that a packet completes, and its packets
+abbrev pub fieldWith : Carried → (records cells packets : ℕ) → Field
+fieldWith p r c n = record { timestamp = record { 0 = p .timestamp }; f = p .f; records = r; cells = c; packets = n }
 
 -- "Started or joined, and marked (M): answer whole, .. Unmarked: held, ..
 abbrev pub wholeIfMarked : Bool → Field → Answer
@@ -144,41 +150,42 @@ wholeIfMarked true x = answer.Whole x
 wholeIfMarked false x = answer.Held
 
 -- .. now filling."
-abbrev pub taken : Carried → (records cells : ℕ) → Gather
-taken p r c =
+abbrev pub taken : Carried → (records cells packets : ℕ) → Gather
+taken p r c n =
     record {
-      answer = wholeIfMarked (p .marked) (fieldWith p r c);
-      gathered = cond (p .marked) ready (filling (p .timestamp) (p .f) r c);
+      answer = wholeIfMarked (p .marked) (fieldWith p r c n);
+      gathered = cond (p .marked) ready (filling (p .timestamp) (p .f) r c n);
       append = true;
     }
 
--- "A start or join that takes the field past .. records, .. cells or the store: answer overfull, the field dropped" (01; limits: 02, K2)
-abbrev pub fits : (records cells room : ℕ) → Bool
-fits r c room = leb r maxFieldRecords && (leb c maxFieldCells && leb c room)
+-- "A start or join that takes the field past .. records, .. cells or the store: answer overfull, the field dropped" (01; limits: 02, K2); "a
+-- packet whose index would be larger, with records or without, makes the field overfull" (K13)
+abbrev pub fits : (records cells packets room : ℕ) → Bool
+fits r c n room = leb r maxFieldRecords && (leb c maxFieldCells && (leb c room && leb n maxFieldPackets))
 
--- whether it fits with a packet that joins `r` records in `c` cells
-abbrev pub joinFits : (r c : ℕ) → Carried → (room : ℕ) → Bool
-joinFits r c p room = fits (r + p .records) (c + p .cells) room
+-- whether it fits with a packet that joins `r` records in `c` cells of `n` packets
+abbrev pub joinFits : (r c n : ℕ) → Carried → (room : ℕ) → Bool
+joinFits r c n p room = fits (r + p .records) (c + p .cells) (n + 1) room
 
--- a packet takes the field to `r` records in `c` cells, which fit or not
-abbrev pub joinIfFits : Bool → Carried → (r c : ℕ) → Gather
-joinIfFits true p r c = taken p r c
-joinIfFits false p r c = dropped answer.Overfull (p .marked)
+-- a packet takes the field to `r` records in `c` cells of `n` packets, which fit or not
+abbrev pub joinIfFits : Bool → Carried → (r c n : ℕ) → Gather
+joinIfFits true p r c n = taken p r c n
+joinIfFits false p r c n = dropped answer.Overfull (p .marked)
 
--- a packet joins `r` records in `c` cells, in a store of so many cells
-abbrev pub join : (r c : ℕ) → Carried → (room : ℕ) → Gather
-join r c p room = joinIfFits (joinFits r c p room) p (r + p .records) (c + p .cells)
+-- a packet joins `r` records in `c` cells of `n` packets, in a store of so many cells
+abbrev pub join : (r c n : ℕ) → Carried → (room : ℕ) → Gather
+join r c n p room = joinIfFits (joinFits r c n p room) p (r + p .records) (c + p .cells) (n + 1)
 
 -- "if timestamp or F differs, answer mixed, the gathered part dropped. Otherwise it joins."
-abbrev pub joinIfSame : Bool → (r c : ℕ) → Carried → (room : ℕ) → Gather
-joinIfSame true r c p room = join r c p room
-joinIfSame false r c p room = dropped answer.Mixed (p .marked)
+abbrev pub joinIfSame : Bool → (r c n : ℕ) → Carried → (room : ℕ) → Gather
+joinIfSame true r c n p room = join r c n p room
+joinIfSame false r c n p room = dropped answer.Mixed (p .marked)
 
 -- distance 1: "when lost: skipped"; "when ready: starts a field"; "when filling": joins or is mixed
 abbrev pub follow : Gathered → Carried → (room : ℕ) → Gather
 follow lost p room = dropped answer.Skipped (p .marked)
-follow ready p room = join 0 0 p room
-follow (filling t f r c) p room = joinIfSame (eqb t (p .timestamp) && eqb f (p .f)) r c p room
+follow ready p room = join 0 0 0 p room
+follow (filling t f r c n) p room = joinIfSame (eqb t (p .timestamp) && eqb f (p .f)) r c n p room
 
 -- One step: the answer, the next state, and the store.
 pub record Step : Type 0 where
@@ -188,8 +195,8 @@ pub record Step : Type 0 where
 
 -- the state after a fresh packet, with so many more missing, and what is then gathered flat. "Counts: fresh; late; missing, the sum
 -- of distance - 1." "Any fresh arrival clears the memory."
-abbrev pub afterWith : State → (number : ℕ) → Phase → (timestamp f records cells missing : ℕ) → State
-afterWith st number p t f r c missing =
+abbrev pub afterWith : State → (number : ℕ) → Phase → (timestamp f records cells packets missing : ℕ) → State
+afterWith st number p t f r c n missing =
     record {
       source = st .source;
       «payload_type» = st .«payload_type»;
@@ -200,6 +207,7 @@ afterWith st number p t f r c missing =
       f = f;
       records = r;
       cells = c;
+      packets = n;
       fresh = st .fresh ⊞ 1;
       late = st .late;
       missing = st .missing ⊞ missing;
@@ -210,7 +218,7 @@ afterWith st number p t f r c missing =
 -- the same, with what is then gathered
 abbrev pub after : State → (number : ℕ) → Gathered → (missing : ℕ) → State
 after st number g missing =
-    afterWith st number (phaseOf g) (timestampOf g) (fOf g) (gatheredRecords g) (gatheredCells g) missing
+    afterWith st number (phaseOf g) (timestampOf g) (fOf g) (gatheredRecords g) (gatheredCells g) (gatheredPackets g) missing
 
 -- 36 "changes only the remembered number"
 abbrev pub remembering : State → ℕ → State
@@ -225,6 +233,7 @@ remembering st number =
       f = st .f;
       records = st .records;
       cells = st .cells;
+      packets = st .packets;
       fresh = st .fresh;
       late = st .late;
       missing = st .missing;
@@ -232,9 +241,10 @@ remembering st number =
       remembered = record { 0 = number };
     }
 
--- "Held and whole append their cells after the gathered ones; other answers write nothing."
+-- "Held and whole append their cells after the gathered ones; other answers write nothing." The cells have "the index of its packet within its
+-- field, from 0" (02, K13).
 abbrev pub appended : Bool → Gathered → Content → List ℕ → List ℕ
-appended append g k store = cond append (splice store (gatheredCells g) (listOf (k .records))) store
+appended append g k store = cond append (splice store (gatheredCells g) (listIn (gatheredPackets g) (k .records))) store
 
 -- a fresh packet that finds `g` gathered: what the state has, or lost where packets are missing before it
 abbrev pub freshStep : State → Gathered → ℕ → Content → List ℕ → Step
@@ -255,6 +265,7 @@ later st =
       f = st .f;
       records = st .records;
       cells = st .cells;
+      packets = st .packets;
       fresh = st .fresh;
       late = st .late ⊞ 1;
       missing = st .missing;
@@ -280,6 +291,7 @@ openState source type =
       f = 0;
       records = 0;
       cells = 0;
+      packets = 0;
       fresh = 0;
       late = 0;
       missing = 0;
@@ -347,12 +359,19 @@ isLost phase.Lost = true
 isLost phase.Ready = false
 isLost phase.Filling = false
 
+-- 35 of the packets: ".. none when filling or any when not" (02, K13)
+abbrev pub packetsOk : Phase → (packets : ℕ) → Bool
+packetsOk phase.Lost n = eqb n 0
+packetsOk phase.Ready n = eqb n 0
+packetsOk phase.Filling n = leb 1 n
+
 -- 35: "keeper state says over .. records, over .. cells, more cells than the store has, records or cells when not filling, or ready
--- or filling before a first arrival" (01; limits: 02, K2)
+-- or filling before a first arrival" (01; limits: 02, K2); "35 also if the state says over 4,096 packets, .." (K13)
 abbrev pub sound : State → ℕ → Bool
 sound st room =
-    fits (st .records) (st .cells) room
-    && ((isFilling (st .phase) || (eqb (st .records) 0 && eqb (st .cells) 0)) && (st .heard || isLost (st .phase)))
+    fits (st .records) (st .cells) (st .packets) room
+    && (packetsOk (st .phase) (st .packets)
+    && ((isFilling (st .phase) || (eqb (st .records) 0 && eqb (st .cells) 0)) && (st .heard || isLost (st .phase))))
 
 -- "An arrival passes 35, then 1 to 13, then 30, 31, ..": what it says, or the refusal
 abbrev pub admission : State → Layout → (room : ℕ) → List ℕ → Result Content

@@ -9,9 +9,9 @@ use Rattle.wire.specs.declared.refusal.Refusal.{Refusal}
 use Rattle.wire.specs.Layout.{Layout}
 use Rattle.wire.specs.Result.{refused, accepted}
 use Rattle.wire.specs.Anc.{Record, Each}
-use Rattle.wire.specs.Cells.{listOf, allBelow}
+use Rattle.wire.specs.Cells.{listIn, allBelow}
 use Rattle.wire.specs.Packet.{Content}
-use Rattle.wire.specs.Writing.{maxFieldRecords, maxFieldCells}
+use Rattle.wire.specs.Writing.{maxFieldRecords, maxFieldCells, maxFieldPackets}
 use Rattle.stream.specs.declared.state.State.{State}
 use Rattle.stream.specs.declared.state.Answer.{Answer}
 use Rattle.stream.specs.declared.state.Answer.the-variants as answer
@@ -38,10 +38,14 @@ abbrev pub recordCount : List Part → ℕ
 recordCount [] = 0
 recordCount (p ∷ ps) = length (p .records) + recordCount ps
 
--- the cells of the parts' records, joined in order
-abbrev pub cellsIn : List Part → List ℕ
-cellsIn [] = []
-cellsIn (p ∷ ps) = listOf (p .records) ++ cellsIn ps
+-- the cells of the parts' records, joined in order; the first part has index `k`: "it is the packet's index in that field" (02, K13)
+abbrev pub cellsFrom : ℕ → List Part → List ℕ
+cellsFrom k [] = []
+cellsFrom k (p ∷ ps) = listIn k (p .records) ++ cellsFrom (suc k) ps
+
+-- of a field's parts, from its first
+abbrev pub joinedCells : List Part → List ℕ
+joinedCells ps = cellsFrom 0 ps
 
 -- A packet as sent: its field, its part, and the field's parts before and behind it.
 pub record Sent : Type 0 where
@@ -99,9 +103,10 @@ noPacket =
 abbrev pub nth : Stream → ℕ → Sent
 nth s i = getD (sent (s .fields)) i noPacket
 
--- "within the limits"
+-- "within the limits", of packets too: "a limit for demand 3 too" (02, K13)
 abbrev pub Within : Field → Type 0
-Within x = (recordCount (parts x) ≤ maxFieldRecords) × (length (cellsIn (parts x)) ≤ maxFieldCells)
+Within x =
+    (recordCount (parts x) ≤ maxFieldRecords) × (length (joinedCells (parts x)) ≤ maxFieldCells) × (length (parts x) ≤ maxFieldPackets)
 
 -- "A sender sends at most 2,147,483,648 packets, .., in well-formed fields": each is accepted, of the opened source and type
 pub record WellFormedStream (s : Stream) : Type 0 where
@@ -121,7 +126,7 @@ OfStream s (packet i) = i < length (sent (s .fields))
 
 -- a store that the fields fit
 abbrev pub Fits : List ℕ → Field → Type 0
-Fits store x = length (cellsIn (parts x)) ≤ length store
+Fits store x = length (joinedCells (parts x)) ≤ length store
 
 -- A call: what arrives, and the store that is lent where the depacketizer is not filling.
 pub record Call : Type 0 where
@@ -145,6 +150,7 @@ pub record Handed : Type 0 where
   pub f : ℕ
   pub records : ℕ
   pub cells : ℕ
+  pub packets : ℕ
   pub content : List ℕ
 
 -- "A field is handed out by the answer whole"
@@ -154,7 +160,14 @@ handedBy answer.Held store = []
 handedBy answer.Mixed store = []
 handedBy answer.Overfull store = []
 handedBy (answer.Whole x) store =
-    record { timestamp = x .timestamp .0; f = x .f; records = x .records; cells = x .cells; content = take (x .cells) store } ∷ []
+    record {
+      timestamp = x .timestamp .0;
+      f = x .f;
+      records = x .records;
+      cells = x .cells;
+      packets = x .packets;
+      content = take (x .cells) store;
+    } ∷ []
 handedBy (answer.Refused x) store = []
 
 -- What a run leaves: the state, the store, and the fields handed out, the latest last.
@@ -167,7 +180,7 @@ pub record Run : Type 0 where
 abbrev pub storeFor : Gathered → (left offered : List ℕ) → List ℕ
 storeFor lost left offered = offered
 storeFor ready left offered = offered
-storeFor (filling t f r c) left offered = left
+storeFor (filling t f r c n) left offered = left
 
 -- "An arrival of a sent packet has exactly that packet's octets."
 abbrev pub octetsOf : Stream → Arriving → List ℕ
@@ -236,15 +249,16 @@ oneBefore zero l = false
 oneBefore (suc k) l = elem k l
 
 -- "As sent means: the answer has the field's timestamp and F, its records and cells used are the sums over the field's packets,
--- and the store then begins with the cells of their records, joined in order."
+-- and the store then begins with the cells of their records, joined in order." The answer tells the field's packets too, with records or without.
 abbrev pub asSent : Field → Handed
 asSent x =
     record {
       timestamp = x .timestamp;
       f = x .f;
       records = recordCount (parts x);
-      cells = length (cellsIn (parts x));
-      content = cellsIn (parts x);
+      cells = length (joinedCells (parts x));
+      packets = length (parts x);
+      content = joinedCells (parts x);
     }
 
 -- a field as sent, where the test holds

@@ -10,7 +10,7 @@ pub enum Phase {
     Filling,
 }
 
-// Flat, so that a state that refusal 35 names can be said. Not filling, `timestamp`, `f`, `records` and `cells` are 0; so is
+// Flat, so that a state that refusal 35 names can be said. Not filling, `timestamp`, `f`, `records`, `cells` and `packets` are 0; so is
 // `remembered` where no number is remembered.
 pub struct State {
     pub source: u32,
@@ -23,6 +23,8 @@ pub struct State {
     pub f: u8,
     pub records: usize,
     pub cells: usize,
+    // The packets of the field that is gathered; its next one has this index (02, K13).
+    pub packets: usize,
     pub fresh: u64,
     pub late: u64,
     pub missing: u64,
@@ -31,12 +33,13 @@ pub struct State {
     pub remembered: PacketNumber,
 }
 
-// A whole field: its records are the first `cells` cells of the store.
+// A whole field: its records are the first `cells` cells of the store. It came in so many packets, with records or without.
 pub struct Field {
     pub timestamp: Timestamp,
     pub f: u8,
     pub records: usize,
     pub cells: usize,
+    pub packets: usize,
 }
 
 pub enum Answer {

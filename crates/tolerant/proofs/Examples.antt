@@ -57,11 +57,11 @@ pub not-only : (tolerateContent rfc8331 (packet badA (set bOctets 4 0x18)) ≡ r
 unfolding toBits num bits bitsAt rowAt headerWord checksumWord ancSize ancRecord headersOk rOk wordsOk checksumOk alignmentOk packetRead headerChecks paddingChecks payloadChecks tolerantChecks tolerateRun tolerated tolerateContent
 not-only = (refl, refl, refl, refl, refl)
 
--- "14 goes by the records that come through": A takes 8 cells and B 10
-pub refused-14 : (tolerateInto rfc8331 (packet badA bOctets) 10 ≡ accepted (giving (b ∷ []) 1))
-    × (tolerateInto rfc8331 (packet badA bOctets) 9 ≡ refuse 14 0)
+-- "14 goes by the records that come through": A takes 9 cells and B 11
+pub refused-14 : (tolerateInto rfc8331 (packet badA bOctets) 11 ≡ accepted (giving (b ∷ []) 1))
+    × (tolerateInto rfc8331 (packet badA bOctets) 10 ≡ refuse 14 0)
     × (tolerateInto rfc8331 (packet badA badB) 0 ≡ accepted (giving [] 2))
-    × (tolerateInto rfc8331 (packet aOctets bOctets) 17 ≡ refuse 14 0)
+    × (tolerateInto rfc8331 (packet aOctets bOctets) 19 ≡ refuse 14 0)
 unfolding toBits num bits bitsAt rowAt headerWord checksumWord ancSize ancRecord headersOk rOk wordsOk checksumOk alignmentOk packetRead headerChecks paddingChecks payloadChecks tolerantChecks tolerateRun tolerated tolerateContent tolerateInto
 refused-14 = (refl, refl, refl, refl)
 

@@ -1,6 +1,6 @@
 -- Demand 2: which packets are accepted, that what is written reads back, and when rewriting gives the same octets; also that no packet within the limits is too long.
 -- From `packet-iff` and `list-iff`: a packet that is accepted, and a list that is taken, are what they are written as.
-use mathlib.Core.Path.{_≡_, refl, ap, sym, _∙_, subst}
+use mathlib.Core.Path.{_≡_, refl, ap, ap₂, sym, _∙_, subst}
 use mathlib.Core.Bool.{true, not, _&&_}
 use mathlib.Core.Logic.{_↔_}
 use mathlib.Core.List.{List, [], _∷_, _++_}
@@ -13,9 +13,9 @@ use lib.Pow.{pow-pos}
 use borrow.Author.Tests.{ne-eqb, leb-true, le-leb}
 use Rattle.wire.specs.Bits.{pack, Fit, Below, row}
 use Rattle.wire.specs.Layout.{Layout, rfc8331, draft2015, fBits, reservedBits, payloadHeaderSize}
-use Rattle.wire.specs.Result.{accepted, _then_}
+use Rattle.wire.specs.Result.{Result, accepted, judge, _then_}
 use Rattle.wire.specs.Anc.{Record, WellFormed, Each, ancOctets, runOctets}
-use Rattle.wire.specs.Cells.{listOf, readList}
+use Rattle.wire.specs.Cells.{listOf, Lists, readList}
 use Rattle.wire.specs.Packet.{maxPacket, Packet, rtpFields, extensionFields, payloadFields, packetFields, packetOctets, lastOctet, WellFormedPacket, sourceCount, hasExtension, paddingFlag, packetRead, readPacket, BareOctets, Content, content, readContent}
 use Rattle.wire.specs.Writing.{layoutOk, maxRecords, maxCells, maxType, plain, contentOctets, HeadFits, withRecords, headChecks, limitChecks, packetRecords, writeContent}
 use Rattle.wire.proofs.BitLaws.{no-bits, length-rowAt, below-octets, below-append, fit-append}
@@ -23,7 +23,7 @@ use Rattle.wire.proofs.ResultLaws.{Passed, accepted-inj, then-accepts, 
 use Rattle.wire.proofs.LayoutLaws.{places, layout-iff}
 use Rattle.wire.proofs.SizeLaws.{length-anc, size-cells}
 use Rattle.wire.proofs.AncLaws.{below-run}
-use Rattle.wire.proofs.CellLaws.{list-iff}
+use Rattle.wire.proofs.CellLaws.{list-iff, lists-own, lists-length}
 use Rattle.wire.proofs.PacketLaws.{no-length, not-eqb, length-packet}
 use Rattle.wire.proofs.PacketIff.{packet-iff, read-is}
 use Rattle.wire.proofs.WritingLaws.{passes, all-pass}
@@ -85,9 +85,21 @@ run-cells L (r ∷ rs) =
 pub fits-packet : (L : Layout) (k : Content) → length (listOf (k .records)) ≤ maxCells → length (contentOctets L k) ≤ maxPacket
 fits-packet L k l = omega (arith, run-cells L (k .records), places L .payload-near, length-packet L (plain k))
 
--- "Writing records and reading them gives the same records."
+-- "the writers only check the cell" (02, K13): lists of the same records are written alike
+pub only-checked : (L : Layout) (k : Content) (rs : List Record) (l m : List ℕ) (room : ℕ) → Each (WellFormed rfc8331) rs → Lists rs l → Lists rs m
+    → writeContent L k l room ≡ writeContent L k m room
+unfolding writeContent
+only-checked L k rs l m room h a b =
+    ap₂
+    (λ (q : Result (List Record)) (n : ℕ).
+    judge 0 (headChecks k) (q then λ rs. judge 0 (limitChecks L (withRecords k rs) n room) (accepted rs)) then
+    λ rs. accepted (contentOctets L (withRecords k rs)))
+    (list-iff l rs .1 (h, a) ∙ sym (list-iff m rs .1 (h, b)))
+    (lists-length rs l a ∙ sym (lists-length rs m b))
+
+-- "Writing records and reading them gives the same records.", "apart from this cell" (02, K13)
 pub written-read : (L : Layout) (k : Content) (cells : List ℕ) (room : ℕ) (o : List ℕ) → HeadFits k → writeContent L k cells room ≡ accepted o
-    → (rs : List Record) × (cells ≡ listOf rs) × Each (WellFormed rfc8331) rs × (o ≡ contentOctets L (withRecords k rs)) × (length o ≤ room)
+    → (rs : List Record) × Lists rs cells × Each (WellFormed rfc8331) rs × (o ≡ contentOctets L (withRecords k rs)) × (length o ≤ room)
     × (readContent L o ≡ accepted (withRecords k rs))
 unfolding writeContent
 written-read L k cells room o h e =
@@ -103,7 +115,8 @@ written-read L k cells room o h e =
     let n = leb-true (length rs) maxRecords (and-true _ _ within .0) in
     let m = leb-true (length (contentOctets L q)) room search in
     let r = list-iff cells rs .0 (p .reads) in
-    let l = fits-packet L q (subst (λ (x : List ℕ). length x ≤ maxCells) (r .1) (leb-true (length cells) maxCells (and-true (leb (length rs) maxRecords) (leb (length cells) maxCells) within .1))) in
+    let short = leb-true (length cells) maxCells (and-true (leb (length rs) maxRecords) (leb (length cells) maxCells) within .1) in
+    let l = fits-packet L q (omega (arith, lists-length rs cells (r .1), short)) in
     let hq : HeadFits q = record { marker = h .marker; number = h .number; timestamp = h .timestamp; source = h .source } in
     let g = plain-formed L q hq (leb-true (k .type) maxType (a1 .0)) (leb-true (k .f) 3 (a2 .0)) (not-eqb (k .f) 1 (a2 .1)) (r .0) held n l in
     let same : contentOctets L q ≡ o = accepted-inj (b .2) in
@@ -117,7 +130,7 @@ writes L k rs room h l m =
     let q = withRecords k rs in
     let n = length (listOf rs) in
     let y = layout-iff L (k .f) rs .1 (h .records, omega (arith, h .fit)) in
-    let r = list-iff (listOf rs) rs .1 (y .0, refl) in
+    let r = list-iff (listOf rs) rs .1 (y .0, lists-own rs) in
     let head : Passed (headChecks k) = (
       and-both (le-leb (k .type) maxType (omega (arith, h .fit))) (and-both (le-leb (k .f) 3 (y .1)) (rw (ne-eqb (k .f) 1 (h .f)))),
       tt,
@@ -136,7 +149,7 @@ unfolding writeContent
 written-octets L k rs room o h e =
     let b = then-accepts (packetRecords L k (listOf rs) room) _ o e in
     let p = passes (headChecks k) (λ ks. limitChecks L (withRecords k ks) (length (listOf rs)) room) (listOf rs) (b .0) (b .1) in
-    let same : rs ≡ b .0 = accepted-inj (sym (list-iff (listOf rs) rs .1 (h, refl)) ∙ p .reads) in
+    let same : rs ≡ b .0 = accepted-inj (sym (list-iff (listOf rs) rs .1 (h, lists-own rs)) ∙ p .reads) in
     ap (λ (x : List Record). contentOctets L (withRecords k x)) same ∙ accepted-inj (b .2)
 
 -- nothing stands in a packet that writing leaves out

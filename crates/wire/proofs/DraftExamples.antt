@@ -114,8 +114,8 @@ other-layout = (refl, refl, refl)
 -- 25: F, S or StreamNum not zero, also where the room is short. 24 comes before it, and 20 with the record's index. In RFC 8331's layout it is
 -- not given.
 pub refused-writing : (writeContent draft2015 (saying 112 2 []) [] 17 ≡ refuse 25 0)
-    × (writeContent draft2015 (saying 112 0 []) (set (listOf (a ∷ a ∷ [])) 11 1) 35 ≡ refuse 25 0)
-    × (writeContent draft2015 (saying 112 0 []) (set (listOf (a ∷ a ∷ [])) 12 3) 0 ≡ refuse 25 0)
+    × (writeContent draft2015 (saying 112 0 []) (set (listOf (a ∷ a ∷ [])) 12 1) 35 ≡ refuse 25 0)
+    × (writeContent draft2015 (saying 112 0 []) (set (listOf (a ∷ a ∷ [])) 13 3) 0 ≡ refuse 25 0)
     × (writeContent draft2015 (saying 112 1 []) [] 17 ≡ refuse 24 0)
     × (writeContent draft2015 (saying 112 2 []) (cellsOf b ++ (1 ∷ [])) 37 ≡ refuse 20 1)
     × (writeContent draft2015 (saying 112 0 []) [] 16 ≡ refuse 23 0)

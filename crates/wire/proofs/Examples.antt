@@ -9,7 +9,7 @@ use Rattle.wire.specs.Words.{headerWord, checksumWord}
 use Rattle.wire.specs.Layout.{rfc8331}
 use Rattle.wire.specs.Result.{accepted, refuse}
 use Rattle.wire.specs.Anc.{Record, checksum, bodyBits, padding, ancOctets, ancSize, ancRecord, headersOk, rOk, wordsOk, checksumOk, alignmentOk, ancChecks, readAnc, readRun}
-use Rattle.wire.specs.Cells.{cellsOf, listOf, cellRecord, headInRange, cellChecks, recordsFrom, clearFrom, readList}
+use Rattle.wire.specs.Cells.{cellsIn, cellsOf, listOf, cellRecord, headInRange, cellChecks, recordsFrom, clearFrom, readList}
 
 -- header words
 pub words : (headerWord 0x00 ≡ 0x200) × (headerWord 0x41 ≡ 0x241) × (headerWord 0x61 ≡ 0x161) × (headerWord 0xFF ≡ 0x2FF)
@@ -47,7 +47,7 @@ read i = (refl, refl, refl)
 
 -- A and B as cells
 pub cells : (listOf (a ∷ b ∷ [])
-    ≡ 0 ∷ 9 ∷ 0 ∷ 0 ∷ 0 ∷ 0x41 ∷ 0x05 ∷ 0 ∷ 1 ∷ 0x7FF ∷ 0xFFF ∷ 1 ∷ 3 ∷ 0x61 ∷ 0x02 ∷ 2 ∷ 0x2AA ∷ 0x155 ∷ [])
+    ≡ 0 ∷ 9 ∷ 0 ∷ 0 ∷ 0 ∷ 0x41 ∷ 0x05 ∷ 0 ∷ 0 ∷ 1 ∷ 0x7FF ∷ 0xFFF ∷ 1 ∷ 3 ∷ 0x61 ∷ 0x02 ∷ 2 ∷ 0 ∷ 0x2AA ∷ 0x155 ∷ [])
     × (readList (listOf (a ∷ b ∷ [])) ≡ accepted (a ∷ b ∷ []))
 unfolding cellRecord headInRange cellChecks recordsFrom clearFrom
 cells = (refl, refl)
@@ -74,9 +74,18 @@ pub refusals : (i : ℕ) → (readAnc rfc8331 i (take 11 aOctets) ≡ refuse 9 i
 unfolding toBits num bits octets fieldBits bitsAt rowAt headerWord checksumWord ancSize ancRecord headersOk rOk wordsOk checksumOk alignmentOk ancChecks readAnc readRun
 refusals i = (refl, refl, refl, refl, refl, refl, refl, refl)
 
--- a list refused: a record cut in its first eight cells and in its words, a cell too large, a word too large
+-- The ninth cell: B as it came in packet 7, with the largest index and with one more, and without the cell (02, K13).
+pub index : (cellsIn 7 b ≡ 1 ∷ 0x7FF ∷ 0xFFF ∷ 1 ∷ 3 ∷ 0x61 ∷ 0x02 ∷ 2 ∷ 7 ∷ 0x2AA ∷ 0x155 ∷ [])
+    × (readList (cellsIn 7 b) ≡ accepted (b ∷ []))
+    × (readList (cellsOf a ++ cellsIn 4095 b) ≡ accepted (a ∷ b ∷ []))
+    × (readList (cellsOf a ++ cellsIn 4096 b) ≡ refuse 20 1)
+    × (readList (1 ∷ 0x7FF ∷ 0xFFF ∷ 1 ∷ 3 ∷ 0x61 ∷ 0x02 ∷ 2 ∷ 0x2AA ∷ 0x155 ∷ []) ≡ refuse 20 0)
+unfolding cellRecord headInRange cellChecks recordsFrom clearFrom
+index = (refl, refl, refl, refl, refl)
+
+-- a list refused: a record cut in its first nine cells and in its words, a cell too large, a word too large
 pub list-refusals : (readList (cellsOf a ++ (1 ∷ [])) ≡ refuse 20 1)
-    × (readList (cellsOf a ++ take 9 (cellsOf b)) ≡ refuse 20 1)
+    × (readList (cellsOf a ++ take 10 (cellsOf b)) ≡ refuse 20 1)
     × (readList (set (cellsOf a) 1 0x800) ≡ refuse 20 0)
     × (readList (set (cellsOf b) 9 0x400) ≡ refuse 20 0)
 unfolding cellRecord headInRange cellChecks recordsFrom clearFrom

@@ -1,20 +1,21 @@
 -- 22 cannot be given, in either layout (02, K7): the writer with the test of 22 in its place answers as the writer without it, whatever it is given.
 -- What passes 21 fits a packet, so the test passes wherever it is reached.
-use mathlib.Core.Path.{_≡_, refl, ap, subst}
+use mathlib.Core.Path.{_≡_, refl, ap}
 use mathlib.Core.Bool.{Bool, true, false, _&&_}
 use mathlib.Core.List.{List}
-use Prim.Native.Nat.{ℕ, _≤_}
+use Prim.Native.Nat.{ℕ}
+use native.Mathlib.Omega.{arith}
 use lib.Dec.{leb}
 use lib.ListN.{length}
 use borrow.Author.Tests.{leb-true, le-leb}
 use Rattle.wire.specs.Layout.{Layout}
 use Rattle.wire.specs.Result.{Result, refused, accepted, judge, _then_}
 use Rattle.wire.specs.Anc.{Record}
-use Rattle.wire.specs.Cells.{listOf, readList}
+use Rattle.wire.specs.Cells.{Lists, readList}
 use Rattle.wire.specs.Packet.{maxPacket, Content}
 use Rattle.wire.specs.Writing.{maxRecords, maxCells, contentOctets, withRecords, headChecks, limitChecks, limitChecks22, writeContent, writeContent22}
 use Rattle.wire.proofs.ResultLaws.{and-true}
-use Rattle.wire.proofs.CellLaws.{list-iff}
+use Rattle.wire.proofs.CellLaws.{list-iff, lists-length}
 use Rattle.wire.proofs.Demand2.{fits-packet}
 
 module _ (L : Layout) (k : Content) (cells : List ℕ) (room : ℕ) where
@@ -25,7 +26,7 @@ module _ (L : Layout) (k : Content) (cells : List ℕ) (room : ℕ) where
   without : List Record → Result (List Record)
   without rs = judge 0 (limitChecks L (withRecords k rs) (length cells) room) (accepted rs)
 
-  alike : (rs : List Record) → cells ≡ listOf rs → with-22 rs ≡ without rs
+  alike : (rs : List Record) → Lists rs cells → with-22 rs ≡ without rs
   unfolding with-22 without
   alike rs e = go (leb (length rs) maxRecords && leb (length cells) maxCells) refl
     where
@@ -33,7 +34,7 @@ module _ (L : Layout) (k : Content) (cells : List ℕ) (room : ℕ) where
       go false h = rw h
       go true h =
           let l = leb-true (length cells) maxCells (and-true (leb (length rs) maxRecords) (leb (length cells) maxCells) h .1) in
-          let f = fits-packet L (withRecords k rs) (subst (λ (x : List ℕ). length x ≤ maxCells) e l) in
+          let f = fits-packet L (withRecords k rs) (omega (arith, lists-length rs cells e, l)) in
           let s : leb (length (contentOctets L (withRecords k rs))) maxPacket ≡ true = le-leb (length (contentOctets L (withRecords k rs))) maxPacket f in
           rw (h, s)
 

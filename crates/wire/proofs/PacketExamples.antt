@@ -9,7 +9,7 @@ use Rattle.wire.specs.Words.{headerWord, checksumWord}
 use Rattle.wire.specs.Layout.{rfc8331}
 use Rattle.wire.specs.Result.{accepted, refuse}
 use Rattle.wire.specs.Anc.{ancSize, ancRecord, headersOk, rOk, wordsOk, checksumOk, alignmentOk, ancChecks, readAnc, readRun}
-use Rattle.wire.specs.Cells.{cellsOf, listOf, cellRecord, headInRange, cellChecks, recordsFrom, clearFrom}
+use Rattle.wire.specs.Cells.{cellsIn, cellsOf, listOf, cellRecord, headInRange, cellChecks, recordsFrom, clearFrom}
 use Rattle.wire.specs.Packet.{Packet, packetOctets, packetRead, headerChecks, paddingChecks, payloadChecks, readRecords, readPacket, Content, readContent, readInto}
 use Rattle.wire.specs.Writing.{writeContent}
 use Rattle.wire.proofs.Examples.{a, aOctets, b, bOctets}
@@ -71,9 +71,10 @@ fullOctets = fullFront ++ (aOctets ++ (bOctets ++ (7 ∷ 2 ∷ [])))
 -- the full packet's octets, what stands in them, what they say, and what the writer makes of that
 pub full-packet : (packetOctets rfc8331 full ≡ fullOctets) × (readPacket rfc8331 fullOctets ≡ accepted full)
     × (readContent rfc8331 fullOctets ≡ accepted both)
-    × (writeContent rfc8331 both (listOf (a ∷ b ∷ [])) 44 ≡ accepted bothOctets) × (readContent rfc8331 bothOctets ≡ accepted both)
+    × (writeContent rfc8331 both (listOf (a ∷ b ∷ [])) 44 ≡ accepted bothOctets)
+    × (writeContent rfc8331 both (cellsIn 3 a ++ cellsIn 4095 b) 44 ≡ accepted bothOctets) × (readContent rfc8331 bothOctets ≡ accepted both)
 unfolding toBits num bits octets bitsAt rowAt fieldBits headerWord checksumWord ancSize ancRecord headersOk rOk wordsOk checksumOk alignmentOk ancChecks readAnc readRun packetOctets packetRead headerChecks paddingChecks payloadChecks readRecords readPacket readContent cellRecord headInRange cellChecks recordsFrom clearFrom writeContent
-full-packet = (refl, refl, refl, refl, refl)
+full-packet = (refl, refl, refl, refl, refl, refl)
 
 -- 2: under 12 octets; a contributing source cut; the extension's first four octets cut; its words cut
 pub refused-2 : (readContent rfc8331 (take 11 emptyOctets) ≡ refuse 2 0)
@@ -116,8 +117,8 @@ pub refused-anc : (readContent rfc8331 (set fullFront 28 3 ++ (aOctets ++ (bOcte
 unfolding toBits num bits bitsAt rowAt headerWord checksumWord ancSize ancRecord headersOk rOk wordsOk checksumOk alignmentOk ancChecks readAnc readRun headerChecks paddingChecks payloadChecks readRecords readPacket readContent
 refused-anc = (refl, refl)
 
--- 14: A and B take 18 cells; refused octets are not asked for their cells
-pub refused-14 : (readInto rfc8331 fullOctets 18 ≡ accepted both) × (readInto rfc8331 fullOctets 17 ≡ refuse 14 0)
+-- 14: A and B take 20 cells; refused octets are not asked for their cells
+pub refused-14 : (readInto rfc8331 fullOctets 20 ≡ accepted both) × (readInto rfc8331 fullOctets 19 ≡ refuse 14 0)
     × (readInto rfc8331 (set emptyOctets 17 0x40) 0 ≡ refuse 6 0)
 unfolding toBits num bits bitsAt rowAt headerWord checksumWord ancSize ancRecord headersOk rOk wordsOk checksumOk alignmentOk ancChecks readAnc readRun packetRead headerChecks paddingChecks payloadChecks readRecords readPacket readContent readInto
 refused-14 = (refl, refl, refl)

@@ -11,12 +11,12 @@ use Rattle.wire.specs.Bits.{Below}
 use Rattle.wire.specs.Layout.{Layout, fBits}
 use Rattle.wire.specs.Result.{accepted}
 use Rattle.wire.specs.Anc.{Each, Record, WellFormed, runOctets, readRun, runSize}
-use Rattle.wire.specs.Cells.{listOf, readList}
+use Rattle.wire.specs.Cells.{listOf, Lists, readList}
 use Rattle.wire.specs.Writing.{layoutOk}
 use Rattle.wire.proofs.BitLaws.{below-append}
 use Rattle.wire.proofs.LayoutLaws.{layout-iff}
 use Rattle.wire.proofs.AncLaws.{run-iff, length-run, below-run}
-use Rattle.wire.proofs.CellLaws.{list-iff}
+use Rattle.wire.proofs.CellLaws.{list-iff, lists-own}
 
 module _ (L : Layout) where
   -- WRITTEN, THEN READ: the octets of well-formed records read as those records, and what follows is left
@@ -26,18 +26,18 @@ module _ (L : Layout) where
       let o = runOctets L rs in
       run-iff L 0 (length rs) (o ++ t) (below-append 256 o t (below-run L rs) b) rs t .1 (refl, h, refl)
 
-  -- the same over cells: the run of a list that is taken, and that the layout can hold, reads as records whose cells are the list
+  -- the same over cells: the run of a list that is taken, and that the layout can hold, reads as records whose cells, apart from the ninth, are the list
   pub list-written-read : (l : List ℕ) (rs : List Record) → readList l ≡ accepted rs → layoutOk L 0 rs ≡ true → (t : List ℕ) → Below 256 t
-      → (readRun L 0 (length rs) (runOctets L rs ++ t) ≡ accepted (rs, t)) × (listOf rs ≡ l)
+      → (readRun L 0 (length rs) (runOctets L rs ++ t) ≡ accepted (rs, t)) × Lists rs l
   list-written-read l rs e ok t b =
       let p = list-iff l rs .0 e in
-      (written-read rs (layout-iff L 0 rs .0 (p .0, zero-le, ok) .0) t b, sym (p .1))
+      (written-read rs (layout-iff L 0 rs .0 (p .0, zero-le, ok) .0) t b, p .1)
 
   -- READ, THEN WRITTEN: the records of a run are a list that is taken, and their octets are those that were read
   pub read-written : (n : ℕ) (s : List ℕ) → Below 256 s → (rs : List Record) (rest : List ℕ) → readRun L 0 n s ≡ accepted (rs, rest)
       → (readList (listOf rs) ≡ accepted rs) × (runOctets L rs ≡ take (runSize L rs) s)
   read-written n s b rs rest e =
       let p = run-iff L 0 n s b rs rest .0 e in (
-        list-iff (listOf rs) rs .1 (layout-iff L 0 rs .1 (p .1, pow-pos (fBits L)) .0, refl),
+        list-iff (listOf rs) rs .1 (layout-iff L 0 rs .1 (p .1, pow-pos (fBits L)) .0, lists-own rs),
         sym (ap (take (runSize L rs)) (p .2) ∙ take-at (runOctets L rs) rest (runSize L rs) (length-run L rs)),
       )

@@ -1,7 +1,8 @@
 -- Records in a lent list of sixteen-bit cells (01, "Records in a lent list").
+use mathlib.Core.Path.{_≡_}
 use mathlib.Core.Bool.{Bool, true, _&&_}
 use mathlib.Core.List.{List, [], _∷_, _++_}
-use Prim.Native.Nat.{ℕ, zero, suc, _+_, _^_}
+use Prim.Native.Nat.{ℕ, zero, suc, _+_, _^_, _≤_}
 use lib.Dec.{leb, ltb}
 use lib.ListN.{length, take, drop, getD}
 use Rattle.wire.specs.Words.{wordBits, headerNumbers, allClear}
@@ -9,23 +10,43 @@ use Rattle.wire.specs.Layout.{rfc8331, sBits, streamBits}
 use Rattle.wire.specs.Anc.{Record}
 use Rattle.wire.specs.Result.{Result, accepted, refuse, Checks, judge, _then_}
 
--- "8 + n cells": those before a record's words
+-- "A record is 9 + n cells" (02, K13): those before its words
 abbrev pub headCells : ℕ
-headCells = 8
+headCells = 9
 
--- "A record is C, line, offset, S, StreamNum, DID, SDID, n, then n words"
+-- "A record is C, line, offset, S, StreamNum, DID, SDID, n, then n words"; "Each record gets a ninth cell after n: the index of its packet
+-- within its field, from 0" (02, K13). The cells of a record that came in packet `p`.
+abbrev pub cellsIn : ℕ → Record → List ℕ
+cellsIn p r =
+    r .c ∷ r .line ∷ r .offset ∷ r .s ∷ r .stream ∷ r .did ∷ r .sdid ∷ length (r .words) ∷ p ∷ r .words
+
+-- records of packet `p`, one behind the other
+abbrev pub listIn : ℕ → List Record → List ℕ
+listIn p [] = []
+listIn p (r ∷ rs) = cellsIn p r ++ listIn p rs
+
+-- "The packet and line readers give 0", and "Files .. read as 0" (02, K13)
 abbrev pub cellsOf : Record → List ℕ
-cellsOf r =
-    r .c ∷ r .line ∷ r .offset ∷ r .s ∷ r .stream ∷ r .did ∷ r .sdid ∷ length (r .words) ∷ r .words
+cellsOf r = cellsIn 0 r
 
--- records one behind the other
 abbrev pub listOf : List Record → List ℕ
-listOf [] = []
-listOf (r ∷ rs) = cellsOf r ++ listOf rs
+listOf rs = listIn 0 rs
 
--- Reading the record at the front of the cells `l`: n, the last cell before its words.
+-- "20 if the cell is over 4,095" (02, K13)
+abbrev pub maxIndex : ℕ
+maxIndex = 4095
+
+-- The cells `l` are those of the records "apart from this cell" (02, K13): each record's ninth is any index that is taken.
+abbrev pub Lists : List Record → List ℕ → Type 0
+Lists [] l = l ≡ []
+Lists (r ∷ rs) l = (p : ℕ) × (t : List ℕ) × (p ≤ maxIndex) × (l ≡ cellsIn p r ++ t) × Lists rs t
+
+-- Reading the record at the front of the cells `l`: n, and behind it the index, the last cell before its words.
 abbrev pub cellCount : List ℕ → ℕ
 cellCount l = getD l 7 0
+
+abbrev pub cellIndex : List ℕ → ℕ
+cellIndex l = getD l 8 0
 
 -- the record that stands there
 unfoldable pub cellRecord : List ℕ → Record
@@ -54,7 +75,8 @@ headInRange l =
     && (ltb (getD l 2 0) (2 ^ 12)
     && (ltb (getD l 3 0) (2 ^ sBits rfc8331)
     && (ltb (getD l 4 0) (2 ^ streamBits rfc8331)
-    && (ltb (getD l 5 0) headerNumbers && (ltb (getD l 6 0) headerNumbers && ltb (cellCount l) headerNumbers))))))
+    && (ltb (getD l 5 0) headerNumbers
+    && (ltb (getD l 6 0) headerNumbers && (ltb (cellCount l) headerNumbers && leb (cellIndex l) maxIndex)))))))
 
 -- ".. a record cut"
 unfoldable pub cellChecks : List ℕ → Checks

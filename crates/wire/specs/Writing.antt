@@ -8,22 +8,40 @@ use Rattle.wire.specs.declared.layout.Layout.the-variants as layout
 use Rattle.wire.specs.Layout.{Layout}
 use Rattle.wire.specs.Result.{Result, accepted, Checks, judge, _then_}
 use Rattle.wire.specs.Anc.{Record, ancSize}
-use Rattle.wire.specs.Cells.{readList}
+use Rattle.wire.specs.Cells.{listOf, readList}
 use Rattle.wire.specs.Packet.{maxPacket, Packet, packetOctets, Content}
 
--- 21 of a packet: "over 255 records or 32,768 cells for an RTP packet" (02, K2)
+-- 21 of a packet: "over 255 records or 32,768 cells for an RTP packet" (02, K2); "limits in cells become 36,864" (K13)
 abbrev pub maxRecords : ℕ
 maxRecords = 255
 
 abbrev pub maxCells : ℕ
-maxCells = 32768
+maxCells = 36864
 
--- 21 of a field, 35 and "overfull": "A field may hold 4,095 records and 32,768 cells" (02, K2)
+-- 21 of a field, 35 and "overfull": "A field may hold 4,095 records and 32,768 cells" (02, K2), with K13 36,864
 abbrev pub maxFieldRecords : ℕ
 maxFieldRecords = 4095
 
 abbrev pub maxFieldCells : ℕ
-maxFieldCells = 32768
+maxFieldCells = 36864
+
+-- 35 and "overfull": "over 4,096 packets" of a field (02, K13)
+abbrev pub maxFieldPackets : ℕ
+maxFieldPackets = 4096
+
+-- the cells of records as they were, "8 + n" each, and the limit as it was (01; 02, K2)
+abbrev pub cellsBefore : List Record → ℕ
+cellsBefore [] = 0
+cellsBefore (r ∷ rs) = 8 + length (r .words) + cellsBefore rs
+
+abbrev pub maxCellsBefore : ℕ
+maxCellsBefore = 32768
+
+-- "limits in cells become 36,864, so that what they allowed still fits" (02, K13)
+abbrev pub StillFits : Type 0
+StillFits =
+    (rs : List Record) → cellsBefore rs ≤ maxCellsBefore
+    → (length rs ≤ maxRecords → length (listOf rs) ≤ maxCells) × (length rs ≤ maxFieldRecords → length (listOf rs) ≤ maxFieldCells)
 
 -- 24: "payload type over 127"
 abbrev pub maxType : ℕ

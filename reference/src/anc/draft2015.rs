@@ -67,7 +67,7 @@ impl Form for Draft2015 {
     }
 
     #[inline(always)]
-    fn read(packet: &[u8], record: &mut [u16]) {
+    fn read(packet: &[u8], index: u16, record: &mut [u16]) {
         let Some((head, words)) = record.split_first_chunk_mut::<RECORD_HEAD>() else {
             return;
         };
@@ -82,6 +82,7 @@ impl Form for Draft2015 {
             (start >> 22 & 0xFF) as u16,
             (start >> 12 & 0xFF) as u16,
             words.len() as u16,
+            index,
         ];
         let n = words.len();
         let (grouped, over) = words.split_at_mut(n & !3);
@@ -95,7 +96,7 @@ impl Form for Draft2015 {
         let Some((head, words)) = record.split_first_chunk::<RECORD_HEAD>() else {
             return;
         };
-        let [c, line, offset, _, _, did, sdid, n] = head.map(u32::from);
+        let [c, line, offset, _, _, did, sdid, n, _] = head.map(u32::from);
         let place = c << 23 | line << 12 | offset;
         packet[..3].copy_from_slice(&place.to_be_bytes()[1..]);
         let header = [did, sdid, n].map(|x| HEADER_WORDS[(x & 0xFF) as usize]);

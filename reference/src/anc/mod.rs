@@ -1,6 +1,6 @@
 //! ANC packets in octets, in both layouts, and records in lists of
 //! sixteen-bit cells. A record is C, line, offset, S, StreamNum, DID, SDID,
-//! n, then n words.
+//! n, the index of its packet within its field (02, K13), then n words.
 
 mod draft2015;
 mod rfc8331;
@@ -14,9 +14,15 @@ use rfc8331::Rfc8331;
 pub use words::{checksum_word, is_protected, HEADER_WORDS};
 
 /// Cells of a record before its words.
-pub const RECORD_HEAD: usize = 8;
+pub const RECORD_HEAD: usize = 9;
+/// Where in a record n stands.
+pub const COUNT: usize = 7;
+/// Where in a record its packet's index stands.
+pub const INDEX: usize = 8;
+/// The largest index of a packet.
+pub const MAX_INDEX: u16 = 4_095;
 
-/// Most records and cells (02, K2).
+/// Most records and cells (02, K2 and K13).
 #[derive(Clone, Copy, Debug, PartialEq, Eq)]
 pub struct Limits {
     pub records: usize,
@@ -27,12 +33,12 @@ impl Limits {
     /// Of a list that is written as an RTP packet.
     pub const PACKET: Limits = Limits {
         records: 255,
-        cells: 32_768,
+        cells: 36_864,
     };
     /// Of a field, gathered or in a file.
     pub const FIELD: Limits = Limits {
         records: 4_095,
-        cells: 32_768,
+        cells: 36_864,
     };
 
     #[inline(always)]
@@ -54,10 +60,12 @@ trait Form {
     /// n of a checked packet.
     fn count(packet: &[u8]) -> usize;
 
-    /// One checked ANC packet into the cells of its record.
-    fn read(packet: &[u8], record: &mut [u16]);
+    /// One checked ANC packet into the cells of its record, which came in the
+    /// packet of that index.
+    fn read(packet: &[u8], index: u16, record: &mut [u16]);
 
-    /// One checked record into the octets of its ANC packet.
+    /// One checked record into the octets of its ANC packet, which does not
+    /// have the index.
     fn write(record: &[u16], packet: &mut [u8]);
 }
 
@@ -142,34 +150,34 @@ impl Run<'_> {
         self.cells
     }
 
-    /// Puts the records at the start of `cells`: 14 if they do not fit.
-    /// Only the records' cells are written.
+    /// Puts the records at the start of `cells`, all with the index of the
+    /// packet: 14 if they do not fit. Only the records' cells are written.
     #[inline]
-    pub fn read(&self, cells: &mut [u16]) -> Result<(), Refusal> {
+    pub fn read(&self, index: u16, cells: &mut [u16]) -> Result<(), Refusal> {
         let Some(cells) = cells.get_mut(..self.cells) else {
             return Err(Refusal::plain(14));
         };
-        self.read_all(cells);
+        self.read_all(index, cells);
         Ok(())
     }
 
     /// The records in a list of their own.
     pub fn list(&self) -> Vec<u16> {
         let mut cells = vec![0; self.cells];
-        self.read_all(&mut cells);
+        self.read_all(0, &mut cells);
         cells
     }
 
     #[inline(always)]
-    fn read_all(&self, cells: &mut [u16]) {
+    fn read_all(&self, index: u16, cells: &mut [u16]) {
         match self.layout {
-            Layout::Rfc8331 => self.read_packets::<Rfc8331>(cells),
-            Layout::Draft2015 => self.read_packets::<Draft2015>(cells),
+            Layout::Rfc8331 => self.read_packets::<Rfc8331>(index, cells),
+            Layout::Draft2015 => self.read_packets::<Draft2015>(index, cells),
         }
     }
 
     #[inline(always)]
-    fn read_packets<F: Form>(&self, mut cells: &mut [u16]) {
+    fn read_packets<F: Form>(&self, index: u16, mut cells: &mut [u16]) {
         let mut octets = self.octets;
         let all = self.left_out() == 0;
         for _ in 0..self.packets {
@@ -178,7 +186,7 @@ impl Run<'_> {
             octets = rest;
             if all || F::check::<true>(packet).is_ok() {
                 let (record, left) = cells.split_at_mut(RECORD_HEAD + n);
-                F::read(packet, record);
+                F::read(packet, index, record);
                 cells = left;
             }
         }
@@ -234,8 +242,8 @@ pub fn check_list(layout: Layout, cells: &[u16]) -> Result<List<'_>, Refusal> {
 #[inline(always)]
 fn check_record(left: &[u16]) -> Option<(usize, bool)> {
     let (head, rest) = left.split_first_chunk::<RECORD_HEAD>()?;
-    let [c, line, offset, s, stream, did, sdid, n] = *head;
-    let bits = (c | s) >> 1 | line >> 11 | offset >> 12 | stream >> 7;
+    let [c, line, offset, s, stream, did, sdid, n, index] = *head;
+    let bits = (c | s) >> 1 | line >> 11 | (offset | index) >> 12 | stream >> 7;
     let octets = (did | sdid | n) >> 8;
     if bits | octets != 0 {
         return None;
@@ -304,7 +312,7 @@ impl List<'_> {
     fn write_packets<F: Form>(&self, mut out: &mut [u8]) {
         let mut cells = self.cells;
         for _ in 0..self.records {
-            let n = cells[RECORD_HEAD - 1] as usize;
+            let n = cells[COUNT] as usize;
             let (record, left) = cells.split_at(RECORD_HEAD + n);
             let (packet, rest) = out.split_at_mut(F::LAYOUT.packet_octets(n));
             F::write(record, packet);
@@ -317,10 +325,10 @@ impl List<'_> {
 mod tests {
     use super::*;
 
-    const A_CELLS: [u16; 8] = [0, 9, 0, 0, 0, 0x41, 0x05, 0];
+    const A_CELLS: [u16; 9] = [0, 9, 0, 0, 0, 0x41, 0x05, 0, 0];
     const A_OCTETS: [u8; 12] = [0, 0x90, 0, 0, 0x90, 0x60, 0x58, 0x02, 0x46, 0, 0, 0];
     const A_OLD: [u8; 9] = [0, 0x90, 0, 0x90, 0x60, 0x58, 0, 0x91, 0x80];
-    const B_CELLS: [u16; 10] = [1, 0x7FF, 0xFFF, 1, 3, 0x61, 0x02, 2, 0x2AA, 0x155];
+    const B_CELLS: [u16; 11] = [1, 0x7FF, 0xFFF, 1, 3, 0x61, 0x02, 2, 0, 0x2AA, 0x155];
     const B_OCTETS: [u8; 12] = [
         0xFF, 0xFF, 0xFF, 0x83, 0x58, 0x50, 0x24, 0x0A, 0xAA, 0x55, 0x56, 0x40,
     ];
@@ -333,7 +341,7 @@ mod tests {
             (size, 1, cells.len())
         );
         let mut read = vec![0xFFFF; cells.len() + 3];
-        run.read(&mut read).unwrap();
+        run.read(cells[INDEX], &mut read).unwrap();
         assert_eq!(&read[..cells.len()], cells);
         assert_eq!(&read[cells.len()..], [0xFFFF; 3]);
         let list = check_list(layout, cells).unwrap();
@@ -348,5 +356,9 @@ mod tests {
         there_and_back(Layout::Rfc8331, &A_CELLS, &A_OCTETS);
         there_and_back(Layout::Rfc8331, &B_CELLS, &B_OCTETS);
         there_and_back(Layout::Draft2015, &A_CELLS, &A_OLD);
+        // Whichever packet it came in.
+        let mut later = B_CELLS;
+        later[INDEX] = MAX_INDEX;
+        there_and_back(Layout::Rfc8331, &later, &B_OCTETS);
     }
 }

@@ -52,7 +52,7 @@ impl Form for Rfc8331 {
     }
 
     #[inline(always)]
-    fn read(packet: &[u8], record: &mut [u16]) {
+    fn read(packet: &[u8], index: u16, record: &mut [u16]) {
         let Some((head, words)) = record.split_first_chunk_mut::<RECORD_HEAD>() else {
             return;
         };
@@ -67,6 +67,7 @@ impl Form for Rfc8331 {
             (start >> 54 & 0xFF) as u16,
             (start >> 44 & 0xFF) as u16,
             words.len() as u16,
+            index,
         ];
         read_words(packet, (start >> 24 & WORD) as u16, words);
     }
@@ -76,7 +77,7 @@ impl Form for Rfc8331 {
         let Some((head, words)) = record.split_first_chunk::<RECORD_HEAD>() else {
             return;
         };
-        let [c, line, offset, s, stream, did, sdid, n] = head.map(u32::from);
+        let [c, line, offset, s, stream, did, sdid, n, _] = head.map(u32::from);
         let place = c << 31 | line << 20 | offset << 8 | s << 7 | stream;
         packet[..4].copy_from_slice(&place.to_be_bytes());
         let header = [did, sdid, n].map(|x| HEADER_WORDS[(x & 0xFF) as usize]);

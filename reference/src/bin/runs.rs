@@ -11,13 +11,13 @@
 //!
 //! The layout is RFC 8331's, the reader the strict one. Every packet has
 //! source 1, payload type 112, M set, number 7, timestamp 1000 and F 2. The
-//! writer is lent 65,535 octets, the reader 32,768 cells. The lines, in order:
+//! writer is lent 65,535 octets, the reader 36,864 cells. The lines, in order:
 //!
 //! - `records 255`, `records 256`: a list of that many records A (cells
-//!   0 9 0 0 0 0x41 0x05 0) is written and, if it was, the packet is read.
-//! - `cells 32768`, `cells 32769`: the same for a list of 124 records of 255
-//!   words and one of 148 words, or of 149. Their first seven cells are those
-//!   of record A. The words count on through the whole list from 4 to
+//!   0 9 0 0 0 0x41 0x05 0 0) is written and, if it was, the packet is read.
+//! - `cells 36864`, `cells 36865`: the same for a list of 139 records of 255
+//!   words and one of 159 words, or of 160. Their nine cells before the words
+//!   are those of record A but for n. The words count on through the whole list from 4 to
 //!   1,019 and again: the first record's are 4 to 258, the second's begin
 //!   with 259.
 //! - `padding 0`: the packet of one record A, with 0x20 added to its first

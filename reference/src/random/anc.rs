@@ -1,6 +1,7 @@
 //! ANC packets, built bit by bit.
 
 use super::*;
+use crate::anc::RECORD_HEAD;
 
 /// The parts of an ANC packet: its ten-bit words are DID to checksum. The
 /// drafts' layout has no S and StreamNum, and RFC 8331's no R bits: what a
@@ -27,10 +28,11 @@ pub(super) fn checksum(words: &[u16]) -> u16 {
 }
 
 impl Anc {
+    /// The packet that a record came in is not in it.
     pub fn of(record: &[u16]) -> Anc {
         let [c, line, offset, s, stream] = [0, 1, 2, 3, 4].map(|i| record[i] as u32);
         let mut words: Vec<u16> = record[5..8].iter().map(|&x| with_parity(x)).collect();
-        words.extend(&record[8..]);
+        words.extend(&record[RECORD_HEAD..]);
         words.push(checksum(&words));
         Anc {
             place: c << 31 | line << 20 | offset << 8 | s << 7 | stream,

@@ -59,6 +59,7 @@ pub fn state(r: &mut Random) -> State {
         f: 0,
         records: 0,
         cells: 0,
+        packets: 0,
         fresh: count64(r),
         late: count64(r),
         missing: count64(r),
@@ -72,7 +73,8 @@ pub fn state(r: &mut Random) -> State {
         state.timestamp = r.below(3) as u32;
         state.f = r.pick(&[0, 2, 3]);
         state.records = r.pick(&[0, 1, 2, 255, 256, 4_090, 4_094, 4_095]);
-        state.cells = r.pick(&[0, 8, 20, 300, 16_384, 32_700, 32_760, 32_768]);
+        state.cells = r.pick(&[0, 9, 20, 300, 32_768, 36_800, 36_855, 36_864]);
+        state.packets = r.pick(&[1, 1, 1, 2, 300, 4_094, 4_095, 4_096]);
     }
     if r.one_in(10) {
         spoil_state(r, &mut state);
@@ -81,9 +83,10 @@ pub fn state(r: &mut Random) -> State {
 }
 
 pub(super) fn spoil_state(r: &mut Random, state: &mut State) {
-    match r.below(6) {
+    match r.below(7) {
         0 => state.records = r.pick(&[4_096, 1, usize::MAX]),
-        1 => state.cells = r.pick(&[32_769, 8, usize::MAX]),
+        1 => state.cells = r.pick(&[36_865, 9, usize::MAX]),
+        6 => state.packets = r.pick(&[0, 1, 4_097, 65_536, usize::MAX]),
         2 => state.heard = false,
         3 => state.phase = LOST,
         4 => state.phase = READY,

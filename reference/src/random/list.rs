@@ -1,7 +1,7 @@
 //! Records in cells, and lists of them, valid and damaged.
 
 use super::*;
-use crate::anc::{Limits, RECORD_HEAD};
+use crate::anc::{Limits, COUNT, INDEX, MAX_INDEX, RECORD_HEAD};
 use crate::packet::Head;
 
 pub fn word_count(r: &mut Random) -> usize {
@@ -26,7 +26,7 @@ pub fn protected_word(r: &mut Random) -> u16 {
     r.pick(&[0, 1, 2, 3, 0x3FC, 0x3FD, 0x3FE, 0x3FF])
 }
 
-/// A record of n words, in cells.
+/// A record of n words, in cells; its packet's index may be any.
 pub fn record(r: &mut Random, n: usize) -> Vec<u16> {
     let line = r.below(2048) as u16;
     let offset = r.below(4096) as u16;
@@ -39,9 +39,17 @@ pub fn record(r: &mut Random, n: usize) -> Vec<u16> {
         r.below(256) as u16,
         r.below(256) as u16,
         n as u16,
+        packet_index(r),
     ];
     cells.extend((0..n).map(|_| clear_word(r)));
     cells
+}
+
+fn packet_index(r: &mut Random) -> u16 {
+    match r.below(4) {
+        0 => r.below(MAX_INDEX as usize + 1) as u16,
+        _ => r.pick(&[0, 0, 1, MAX_INDEX]),
+    }
 }
 
 /// A list of that many records.
@@ -61,7 +69,7 @@ pub fn list_of_cells(r: &mut Random, cells: usize) -> Vec<u16> {
         let left = cells - made.len();
         let n = match left - RECORD_HEAD {
             fits if fits <= 255 => fits,
-            over if over < 263 => 200,
+            over if over < 255 + RECORD_HEAD => 200,
             _ => 255,
         };
         made.extend(record(r, n));
@@ -79,7 +87,17 @@ pub fn carried(layout: Layout, mut cells: Vec<u16>) -> Vec<u16> {
                 cells[cell] = 0;
             }
         }
-        at += RECORD_HEAD + cells[at + 7] as usize;
+        at += RECORD_HEAD + cells[at + COUNT] as usize;
+    }
+    cells
+}
+
+/// A well-formed list with that index in every record: as it is read, where
+/// the packet has that index, and 0 where there is none.
+pub fn indexed(cells: &[u16], index: u16) -> Vec<u16> {
+    let mut cells = cells.to_vec();
+    for start in record_starts(&cells) {
+        cells[start + INDEX] = index;
     }
     cells
 }
@@ -88,7 +106,7 @@ pub fn carried(layout: Layout, mut cells: Vec<u16>) -> Vec<u16> {
 pub fn split_records(mut cells: &[u16]) -> Vec<&[u16]> {
     let mut records = Vec::new();
     while !cells.is_empty() {
-        let (record, left) = cells.split_at(RECORD_HEAD + cells[7] as usize);
+        let (record, left) = cells.split_at(RECORD_HEAD + cells[COUNT] as usize);
         records.push(record);
         cells = left;
     }
@@ -100,7 +118,7 @@ pub(super) fn protect_list(r: &mut Random, cells: &mut [u16]) {
     let starts = record_starts(cells);
     for _ in 0..1 + r.below(3) {
         let start = r.pick(&starts);
-        let n = cells[start + 7] as usize;
+        let n = cells[start + COUNT] as usize;
         if n > 0 {
             cells[start + RECORD_HEAD + r.below(n)] = protected_word(r);
         }
@@ -128,10 +146,10 @@ pub fn damaged_list(r: &mut Random) -> Vec<u16> {
         }
         3 => {
             let cell = r.below(RECORD_HEAD);
-            let limit = [1, 0x7FF, 0xFFF, 1, 127, 255, 255, 255][cell];
+            let limit = [1, 0x7FF, 0xFFF, 1, 127, 255, 255, 255, MAX_INDEX][cell];
             cells[r.pick(&starts) + cell] = limit + 1 + r.pick(&[0, 1, 0x4000]);
         }
-        4 => cells[r.pick(&starts) + 7] = r.below(256) as u16,
+        4 => cells[r.pick(&starts) + COUNT] = r.below(256) as u16,
         _ => cells.extend((0..r.below(40)).map(|_| r.number32() as u16)),
     }
     cells
@@ -142,7 +160,7 @@ pub(super) fn record_starts(cells: &[u16]) -> Vec<usize> {
     let mut at = 0;
     while at < cells.len() {
         starts.push(at);
-        at += RECORD_HEAD + cells[at + 7] as usize;
+        at += RECORD_HEAD + cells[at + COUNT] as usize;
     }
     starts
 }

@@ -45,8 +45,8 @@ enum Way {
     Tolerant,
 }
 
-/// The cells of `count` ANC packets, the octets they take, and how many were
-/// left out.
+/// The cells of `count` ANC packets, which came in a packet of index 0, the
+/// octets they take, and how many were left out.
 fn naive_run(
     layout: Layout,
     way: Way,
@@ -101,6 +101,7 @@ fn naive_run(
             cells.push(bits(octets, 8 * at + place, width) as u16);
         }
         cells.extend((0..3).map(|k| (word(k) % 256) as u16));
+        cells.push(0);
         cells.extend((3..n + 3).map(|k| word(k) as u16));
         at += size;
     }
@@ -209,14 +210,14 @@ fn naive_list(cells: &[u16]) -> Refused<Vec<&[u16]>> {
     let (mut records, mut at) = (Vec::new(), 0);
     while at < cells.len() {
         let refusal = (20, records.len());
-        let head = cells.get(at..at + 8).ok_or(refusal)?;
-        let limits = [1, 2047, 4095, 1, 127, 255, 255, 255];
-        if (0..8).any(|k| head[k] > limits[k]) {
+        let head = cells.get(at..at + 9).ok_or(refusal)?;
+        let limits = [1, 2047, 4095, 1, 127, 255, 255, 255, 4095];
+        if (0..9).any(|k| head[k] > limits[k]) {
             return Err(refusal);
         }
-        let end = at + 8 + head[7] as usize;
+        let end = at + 9 + head[7] as usize;
         let record = cells.get(at..end).ok_or(refusal)?;
-        if record[8..].iter().any(|&word| word > 1023) {
+        if record[9..].iter().any(|&word| word > 1023) {
             return Err(refusal);
         }
         records.push(record);
@@ -229,7 +230,7 @@ fn naive_list(cells: &[u16]) -> Refused<Vec<&[u16]>> {
 fn naive_clear(cells: &[u16]) -> Refused<Vec<&[u16]>> {
     let records = naive_list(cells)?;
     for (index, record) in records.iter().enumerate() {
-        if record[8..]
+        if record[9..]
             .iter()
             .any(|word| [0, 255].contains(&(word / 4)))
         {
@@ -242,7 +243,7 @@ fn naive_clear(cells: &[u16]) -> Refused<Vec<&[u16]>> {
 /// The same, and then 21.
 fn naive_records(cells: &[u16], most: usize) -> Refused<Vec<&[u16]>> {
     let records = naive_clear(cells)?;
-    if records.len() > most || cells.len() > 32_768 {
+    if records.len() > most || cells.len() > 36_864 {
         return Err((21, 0));
     }
     Ok(records)
@@ -338,7 +339,7 @@ fn naive_field(file: &[u8], offset: usize) -> Refused<(file::Field, Vec<u16>)> {
     let count = bits(at, 40, 8 * width) as usize;
     let packets = &at[5 + width..];
     let (cells, used, _) = naive_run(Layout::Rfc8331, Way::Strict, packets, count)?;
-    if count > 4_095 || cells.len() > 32_768 {
+    if count > 4_095 || cells.len() > 36_864 {
         return Err((21, 0));
     }
     let field = file::Field {
@@ -380,7 +381,10 @@ fn naive_arrive(
     let unchanged = store.to_vec();
     let (r, c) = (s.records, s.cells);
     let unsound = r > 4_095
-        || c > 32_768
+        || c > 36_864
+        || s.packets > 4_096
+        || (s.phase == FILLING && s.packets == 0)
+        || (s.phase != FILLING && s.packets != 0)
         || c > store.len()
         || (s.phase != FILLING && (r != 0 || c != 0))
         || (!s.heard && s.phase != LOST);
@@ -419,7 +423,8 @@ fn naive_arrive(
     if s.heard {
         after.missing = s.missing.saturating_add(away as u64 - 1);
     }
-    (after.timestamp, after.f, after.records, after.cells) = (0, 0, 0, 0);
+    (after.timestamp, after.f) = (0, 0);
+    (after.records, after.cells, after.packets) = (0, 0, 0);
     after.phase = if p.marker { READY } else { LOST };
     if !s.heard || away > 1 || s.phase == LOST {
         return (after, Ok(Answer::Skipped), unchanged);
@@ -428,8 +433,15 @@ fn naive_arrive(
         return (after, Ok(Answer::Mixed), unchanged);
     }
     let (records, all) = (r + p.records as usize, c + cells.len());
-    if records > 4_095 || all > 32_768 || all > store.len() {
+    // Its index is the number of packets before it.
+    if s.packets > 4_095 || records > 4_095 || all > 36_864 || all > store.len() {
         return (after, Ok(Answer::Overfull), unchanged);
+    }
+    let mut cells = cells;
+    let mut at = 0;
+    while at < cells.len() {
+        cells[at + 8] = s.packets as u16;
+        at += 9 + cells[at + 7] as usize;
     }
     let written = overwritten(store, c, &cells);
     if p.marker {
@@ -438,11 +450,13 @@ fn naive_arrive(
             f: p.f,
             records,
             cells: all,
+            packets: s.packets + 1,
         };
         return (after, Ok(whole), written);
     }
     after.phase = FILLING;
-    (after.timestamp, after.f, after.records, after.cells) = (p.timestamp, p.f, records, all);
+    (after.timestamp, after.f) = (p.timestamp, p.f);
+    (after.records, after.cells, after.packets) = (records, all, s.packets + 1);
     (after, Ok(Answer::Held), written)
 }
 
@@ -480,7 +494,7 @@ fn depacketizer_over_wild_packets() {
         };
         let mut state =
             reference::depacketizer::open(first.0.source, first.0.payload_type).unwrap();
-        let size = r.pick(&[0, 40, 200, 1000, 32_767, 32_768, 40_000]);
+        let size = r.pick(&[0, 40, 200, 1000, 36_863, 36_864, 40_000]);
         let mut store = vec![0x5A5A; size];
         for octets in &packets {
             state = compare_arrival(state, layout, octets, &mut store);
@@ -499,6 +513,7 @@ fn just_opened(source: u32, payload_type: u8) -> State {
         f: 0,
         records: 0,
         cells: 0,
+        packets: 0,
         fresh: 0,
         late: 0,
         missing: 0,
@@ -521,7 +536,7 @@ fn naive_record(record: &[u16]) -> String {
     line += &(" s=".to_string() + &record[3].to_string() + "/" + &record[4].to_string());
     line += &(" did=".to_string() + &digits(record[5], 2) + " sdid=" + &digits(record[6], 2));
     line += &(" words=".to_string() + &record[7].to_string());
-    for &word in &record[8..] {
+    for &word in &record[9..] {
         line += &(" ".to_string() + &digits(word, 3));
     }
     line
@@ -544,7 +559,7 @@ fn naive_frames(mut input: &[u8]) -> (Vec<&[u8]>, bool) {
 fn naive_listing(layout: Layout, input: &[u8]) -> String {
     let mut lines = vec!["fieldlist 1".to_string()];
     let mut depacketizer: Option<State> = None;
-    let mut store = vec![0; 32_768];
+    let mut store = vec![0; 36_864];
     let (packets, cut) = naive_frames(input);
     for packet in packets {
         let number = match naive_check(layout, Way::Strict, packet) {
@@ -567,6 +582,7 @@ fn naive_listing(layout: Layout, input: &[u8]) -> String {
                 f,
                 records,
                 cells,
+                ..
             }) => {
                 lines.push(format!(
                     "{number} whole ts={timestamp} f={f} records={records}"

@@ -10,7 +10,7 @@ fn naive_words(record: &[u16]) -> Vec<u16> {
         number + if odd { 256 } else { 512 }
     };
     let mut words: Vec<u16> = record[5..8].iter().map(|&number| parity(number)).collect();
-    words.extend(&record[8..]);
+    words.extend(&record[9..]);
     let sum: usize = words.iter().map(|&word| word as usize % 512).sum();
     let sum = (sum % 512) as u16;
     words.push(if sum < 256 { sum + 512 } else { sum });
@@ -69,7 +69,7 @@ fn naive_line_read(line: &[u16], start: usize, place: Place) -> Refused<(Found, 
             return Err((16, records));
         }
         let numbers = [0, 1, 2].map(|k| words[k] % 256);
-        let record = [&place[..], &numbers, &words[3..3 + n]].concat();
+        let record = [&place[..], &numbers, &[0], &words[3..3 + n]].concat();
         if naive_words(&record)[6 + n] != words[3 + n] {
             return Err((11, records));
         }

@@ -74,6 +74,9 @@ here c =
     let p = c .before .before .before .before .before .before in
     found-there _ (position-iff _ .0 (placed p)) _ _ _ (sym (found-is (c .before .before)) ∙ c .found2 .given .1)
 
+mul-need : tie.Need-mul-need
+mul-need c = let h = here (c .before) in omega (arith, h .few, h .inside, length-drop (start (c .before .before .before .before .before .before .before) .args .start) (start (c .before .before .before .before .before .before .before) .args .line .now))
+
 add-need : tie.Need-add-need
 add-need c = let h = here (c .before) in omega (arith, h .few, h .inside, length-drop (start (c .before .before .before .before .before .before .before) .args .start) (start (c .before .before .before .before .before .before .before) .args .line .now))
 
@@ -140,5 +143,5 @@ read-spec =
     tie.close
     (tie.spec (λ c κs. search needs) returns (λ c κs. search needs) returns-2 (λ c κs. search needs) (λ c κs. search needs) returns-3
     (λ c κs. search needs) (λ c κs. search needs) returns-4 (λ c. search needs) (λ c. search needs) (λ c. search needs) (λ c. search needs)
-    (λ c κs. search needs) (λ c. search needs) (λ c. search needs) add-need (λ c κs. search needs) returns-5 read-packets-requires
+    (λ c κs. search needs) (λ c. search needs) (λ c. search needs) mul-need add-need (λ c κs. search needs) returns-5 read-packets-requires
     (λ c. search needs) returns-6 (λ c. search needs) returns-7)

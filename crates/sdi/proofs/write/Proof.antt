@@ -33,12 +33,15 @@ returns-2 c =
 here : (c : tie.After-count) → Counted (c .before .before .before .before .before .before .before .args .cells .now) (c .count .given .0 .0)
 here c = counted _ _ _ (measured-is _ _ _ (sym (c .before .before .measure-list .ensures) ∙ c .count .given .1))
 
+mul-words : tie.Need-mul-words
+mul-words c = omega (arith, here (c .before) .words)
+
 sub-words : tie.Need-sub-words
 sub-words c = omega (arith, here (c .before) .words)
 
 -- the words are those of the stretch
 words-are : (c : tie.After-count)
-    → length (c .before .before .before .before .before .before .before .args .cells .now) - c .count .given .0 .0 ≡ length (stretch (here c .records))
+    → length (c .before .before .before .before .before .before .before .args .cells .now) - 2 * c .count .given .0 .0 ≡ length (stretch (here c .records))
 words-are c = omega (arith, here c .words)
 
 returns-3 : tie.Need-returns-3
@@ -93,5 +96,5 @@ pub write-spec : {M : Type 1} → statement M
 write-spec =
     tie.close
     (tie.spec (λ c κs. search needs) returns (λ c κs. search needs) returns-2 (λ c κs. search needs) (λ c. search needs) (λ c κs. search needs)
-    (λ c κs. search needs) (λ c. search needs) sub-words (λ c. search needs) (λ c κs. search needs) returns-3 (λ c. search needs) (λ c. search needs)
+    (λ c κs. search needs) (λ c. search needs) mul-words sub-words (λ c. search needs) (λ c κs. search needs) returns-3 (λ c. search needs) (λ c. search needs)
     (λ c. search needs) (λ c. search needs) write-packets-requires (λ c. search needs) returns-4 (λ c. search needs) returns-5)

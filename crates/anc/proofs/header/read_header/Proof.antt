@@ -9,7 +9,7 @@ use lib.ListN.{length, take, getD, length-set}
 use lib.Seq.{sets-eq}
 use Rattle.wire.specs.Anc.{ancRecord, dataCount, didAt}
 use Rattle.wire.specs.Bits.{bitsAt, overwrite}
-use Rattle.wire.specs.Cells.{headCells, cellsOf}
+use Rattle.wire.specs.Cells.{headCells, cellsIn}
 use Rattle.wire.specs.Layout.{leastSize}
 use Rattle.wire.specs.Words.{wordBits, headerNumbers}
 use Rattle.words.specs.Word.{WordsFit}
@@ -92,8 +92,11 @@ slice-write-cells-7 c = simp length-set (omega arith)
 slice-write-cells-8 : tie.Need-slice-write-cells-8
 slice-write-cells-8 c = simp length-set (omega arith)
 
-cast-t11 : tie.Need-cast-t11
-cast-t11 c = omega arith
+slice-write-cells-9 : tie.Need-slice-write-cells-9
+slice-write-cells-9 c = simp length-set (omega arith)
+
+cast-t12 : tie.Need-cast-t12
+cast-t12 c = omega arith
 
 same-length : tie.Need-same-length
 same-length c = simp length-set
@@ -103,6 +106,7 @@ unfolding ancRecord
 returns c =
     let L = c .before .before .before .before .before .before .before .before .before .before .before .args .layout in
     let s = c .before .before .before .before .before .before .before .before .before .before .before .args .octets .now in
+    let index = c .before .before .before .before .before .before .before .before .before .before .before .args .index in
     let old = c .before .before .before .before .before .before .before .before .before .before .before .args .cells .now in
     let o : (j : ℕ) → getD s j 0 < 256 = λ j. c .before .before .before .before .before .shared-slice-known5 .given j .fits in
     let l = four (c .before .before .before .before .before .before .before .before .before .before .before) in
@@ -117,13 +121,13 @@ returns c =
     let tn : x % 128 ≡ r .stream = ap (λ (y : ℕ). y % 128) (c .before .before .before .before .stream-octet .ensures) ∙ sym (stream-read L s o l) in
     let stored : List ℕ =
     (getD s 0 0 / 128) ∷ (getD s 0 0 % 128 * 16 + getD s 1 0 / 16) ∷ (getD s 1 0 % 16 * 256 + getD s 2 0) ∷ (x / 128) ∷ (x % 128)
-    ∷ (c .before .fetch2 .result % headerNumbers) ∷ (c .fetch3 .result % headerNumbers) ∷ (c .before .before .fetch .result % headerNumbers) ∷ [] in
-    let head : stored ≡ take headCells (cellsOf r) = λ i.
+    ∷ (c .before .fetch2 .result % headerNumbers) ∷ (c .fetch3 .result % headerNumbers) ∷ (c .before .before .fetch .result % headerNumbers) ∷ index ∷ [] in
+    let head : stored ≡ take headCells (cellsIn index r) = λ i.
     sym (c-at s o l) i ∷ sym (line-at s o l) i ∷ sym (offset-at s o l) i ∷ sn i ∷ tn i
-    ∷ (did i % headerNumbers) ∷ (sdid i % headerNumbers) ∷ (count ∙ sym (length-words L s)) i ∷ [] in (
+    ∷ (did i % headerNumbers) ∷ (sdid i % headerNumbers) ∷ (count ∙ sym (length-words L s)) i ∷ index ∷ [] in (
       count,
       sets-eq stored old 0 (omega (arith, c .before .before .before .before .before .before .before .before .before .before .before .pre))
-          ∙ ap (λ (x : List ℕ). overwrite x old) (head ∙ sym (header-cells r (bitsAt-lt s 0 1) (s-small L s))),
+          ∙ ap (λ (x : List ℕ). overwrite x old) (head ∙ sym (header-cells r (bitsAt-lt s 0 1) (s-small L s) index)),
     )
 
 pub read-header-spec : {M : Type 1} → statement M
@@ -132,4 +136,4 @@ read-header-spec =
     (tie.spec shared-slice-read-o0 cast-o0 shared-slice-read-o1 cast-o1 shared-slice-read-o2 cast-o2 shared-slice-read-stream-octet (λ c κs. search needs)
     (λ c κs. search needs) (λ c. search needs) add-fetch fetch-requires (λ c. search needs) (λ c. search needs) add-cells slice-write-cells-2
     (λ c. search needs) add-cells-2 slice-write-cells-3 slice-write-cells-4 slice-write-cells-5 fetch-requires-2 slice-write-cells-6 add-fetch-2
-    fetch-requires-3 slice-write-cells-7 slice-write-cells-8 cast-t11 same-length returns)
+    fetch-requires-3 slice-write-cells-7 slice-write-cells-8 slice-write-cells-9 cast-t12 same-length returns)

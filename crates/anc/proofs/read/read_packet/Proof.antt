@@ -34,13 +34,13 @@ read-words-requires c κs =
     let h = here rfc8331 (c .before .before .before .before .before .before .before .before .before .before) (c .before .before .before .before .before .before .enum-told .given .1) in
     let w = there rfc8331 (a .octets .now) _ _ (omega arith) refl (h .fits) .words in
     let n = c .before .before .before .before .read-header .ensures .0 in
-    let k = c .before .before .before .before .read-header .kept .1 .1 .0 in
+    let k = c .before .before .before .before .read-header .kept .1 .1 .1 .0 in
     (omega (arith, w), simp (length-take, length-drop) (omega (arith, h .room)))
 
 returns : tie.Need-returns
 returns c =
     let a = c .before .before .before .before .before .before .before .before .before .before .before .before .before .args in
-    packet-written (a .layout) rfc8331 (a .octets .now) (a .cells .now) (c .before .before .before .before .before .before .before .read-header .last .1 .1 .0) (c .before .before .read-words .last .1 .1 .1 .0) (c .before .before .before .before .before .before .before .read-header .result .0) (c .before .before .before .before .before .before .before .before .before .enum-told .given .1)
+    packet-written (a .layout) rfc8331 (a .octets .now) (a .index) (a .cells .now) (c .before .before .before .before .before .before .before .read-header .last .1 .1 .1 .0) (c .before .before .read-words .last .1 .1 .1 .0) (c .before .before .before .before .before .before .before .read-header .result .0) (c .before .before .before .before .before .before .before .before .before .enum-told .given .1)
     (c .before .before .before .before .before .before .before .read-header .ensures .0) (c .before .before .before .before .before .before .before .read-header .ensures .1) (c .before .before .read-words .ensures)
 
 read-header-requires-2 : tie.Need-read-header-requires-2
@@ -54,13 +54,13 @@ read-singly-requires c κs =
     let h = here draft2015 (c .before .before .before .before .before .before .before .before .before .before) (c .before .before .before .before .before .before .enum-told2 .given .1) in
     let w = there draft2015 (a .octets .now) _ _ (omega arith) refl (h .fits) .words in
     let n = c .before .before .before .before .read-header2 .ensures .0 in
-    let k = c .before .before .before .before .read-header2 .kept .1 .1 .0 in
+    let k = c .before .before .before .before .read-header2 .kept .1 .1 .1 .0 in
     (omega (arith, w), simp (length-take, length-drop) (omega (arith, h .room)))
 
 returns-2 : tie.Need-returns-2
 returns-2 c =
     let a = c .before .before .before .before .before .before .before .before .before .before .before .before .before .args in
-    packet-written (a .layout) draft2015 (a .octets .now) (a .cells .now) (c .before .before .before .before .before .before .before .read-header2 .last .1 .1 .0) (c .before .before .read-singly .last .1 .1 .1 .0) (c .before .before .before .before .before .before .before .read-header2 .result .0) (c .before .before .before .before .before .before .before .before .before .enum-told2 .given .1)
+    packet-written (a .layout) draft2015 (a .octets .now) (a .index) (a .cells .now) (c .before .before .before .before .before .before .before .read-header2 .last .1 .1 .1 .0) (c .before .before .read-singly .last .1 .1 .1 .0) (c .before .before .before .before .before .before .before .read-header2 .result .0) (c .before .before .before .before .before .before .before .before .before .enum-told2 .given .1)
     (c .before .before .before .before .before .before .before .read-header2 .ensures .0) (c .before .before .before .before .before .before .before .read-header2 .ensures .1) (c .before .before .read-singly .ensures)
 
 pub read-packet-spec : {M : Type 1} → statement M

@@ -8,29 +8,29 @@ use native.Mathlib.Omega.{arith}
 use lib.ListN.{length, length-take, length-drop}
 use Rattle.wire.specs.Anc.{ancSize, readRun}
 use Rattle.wire.proofs.ListLaws.{splice-none}
-use Rattle.anc.specs.Answers.{runCells}
+use Rattle.anc.specs.Answers.{runCellsIn}
 use Rattle.anc.proofs.RunLaws.{Left, First, first, left-next}
 use Rattle.anc.proofs.read.read_run.Statement.{statement}
 use Rattle.anc.proofs.read.read_run.Tie as tie
 
 abbrev Inv-loop : tie.InvT-loop
-Inv-loop layout octets count cells₀ rest₀ to₀ i₀ cells rest to i = (i ≤ count) × Left layout (runCells (readRun layout 0 count octets)) cells₀ i (count - i) rest cells to
+Inv-loop layout octets count index cells₀ rest₀ to₀ i₀ cells rest to i = (i ≤ count) × Left layout index (runCellsIn index (readRun layout 0 count octets)) cells₀ i (count - i) rest cells to
 
 abbrev μ-loop : tie.MeasureT-loop
-μ-loop layout octets count cells₀ rest₀ to₀ i₀ cells rest to i = count - i
+μ-loop layout octets count index cells₀ rest₀ to₀ i₀ cells rest to i = count - i
 
 -- the run that is left in a turn
 here : (c : tie.In-loop Inv-loop μ-loop)
     → let a = c .before .before .before .before .args in let l = c .before .loop in
-    Left (c .before .before .before .before .args .layout) (runCells (readRun (c .before .before .before .before .args .layout) 0 (a .count) (a .octets .now))) (a .cells .now) (l .i) (suc (a .count - (l .i + 1))) (l .rest .now) (l .cells) (l .to)
+    Left (c .before .before .before .before .args .layout) (a .index) (runCellsIn (a .index) (readRun (c .before .before .before .before .args .layout) 0 (a .count) (a .octets .now))) (a .cells .now) (l .i) (suc (a .count - (l .i + 1))) (l .rest .now) (l .cells) (l .to)
 here c =
     let a = c .before .before .before .before .args in
     let l = c .before .loop in
     let n : a .count - l .i ≡ suc (a .count - (l .i + 1)) = omega arith in
     rw n at (l .inv .1)
 
-found : (c : tie.In-loop Inv-loop μ-loop) → First (c .before .before .before .before .args .layout) _ _ _ _ _ _ _ (here c)
-found c = first (c .before .before .before .before .args .layout) _ _ _ _ _ _ _ (here c)
+found : (c : tie.In-loop Inv-loop μ-loop) → First (c .before .before .before .before .args .layout) _ _ _ _ _ _ _ _ (here c)
+found c = first (c .before .before .before .before .args .layout) _ _ _ _ _ _ _ _ (here c)
 
 size-there : (c : tie.After-packet-size Inv-loop μ-loop) → c .packet-size .result .0 ≤ length (c .before .before .before .before .before .before .loop .rest .now)
 size-there c =
@@ -95,7 +95,7 @@ loop-again c =
     let r = c .before .before .before .before .before .read-packet in
     let z = c .before .before .packet-size in (
       omega arith,
-      left-next (c .before .before .before .before .before .before .before .before .before .before .before .args .layout) _ _ _ _ _ _ _ (here (c .before .before .before .before .before .before .before)) (r .result .0) (z .result .0) (r .last .1 .1 .0) (r .ensures .0) (z .ensures) (r .ensures .1),
+      left-next (c .before .before .before .before .before .before .before .before .before .before .before .args .layout) _ _ _ _ _ _ _ _ (here (c .before .before .before .before .before .before .before)) (r .result .0) (z .result .0) (r .last .1 .1 .1 .0) (r .ensures .0) (z .ensures) (r .ensures .1),
     )
 
 returns : tie.Need-returns Inv-loop μ-loop

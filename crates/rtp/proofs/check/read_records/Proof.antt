@@ -23,10 +23,10 @@ part-read-run-end c = omega (arith, c .before .before .before .payload-header-si
 read-run-requires : tie.Need-read-run-requires
 read-run-requires c κs =
     let f = found (c .before .before .before .before .before .before .before .before) in
-    rw (c .before .before .before .before .before .payload-header-size .ensures) (f .accepts, omega (arith, f .size))
+    rw (c .before .before .before .before .before .payload-header-size .ensures) (f .accepts, omega (arith, f .size (c .before .before .before .before .before .before .before .before .before .args .index)))
 
 returns : tie.Need-returns
-returns c = rw (c .before .before .before .before .before .before .before .before .payload-header-size .ensures) at (c .before .before .read-run .ensures) ∙ found (c .before .before .before .before .before .before .before .before .before .before .before) .after _
+returns c = rw (c .before .before .before .before .before .before .before .before .payload-header-size .ensures) at (c .before .before .read-run .ensures) ∙ found (c .before .before .before .before .before .before .before .before .before .before .before) .after _ _
 
 pub read-records-spec : {M : Type 1} → statement M
 read-records-spec =

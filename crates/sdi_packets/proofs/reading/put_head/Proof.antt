@@ -1,5 +1,5 @@
 -- `put_head` writes the cells before a record's words, and no other cell.
--- The eight stores, one after the other, are one.
+-- The nine stores, one after the other, are one.
 use borrow.Author.Needs.{needs}
 use native.Mathlib.Omega.{arith}
 use lib.ListN.{length-set}
@@ -29,6 +29,9 @@ slice-write-cells-7 c = simp length-set (omega arith)
 slice-write-cells-8 : tie.Need-slice-write-cells-8
 slice-write-cells-8 c = simp length-set (omega arith)
 
+slice-write-cells-9 : tie.Need-slice-write-cells-9
+slice-write-cells-9 c = simp length-set (omega arith)
+
 returns : tie.Need-returns
 returns c =
     let s = c .before .before .before in
@@ -38,5 +41,5 @@ pub put-head-spec : {M : Type 1} → statement M
 put-head-spec =
     tie.close
     (tie.spec (λ c. search needs) slice-write-cells-2 slice-write-cells-3 slice-write-cells-4 slice-write-cells-5 (λ c. search needs)
-    slice-write-cells-6 (λ c. search needs) slice-write-cells-7 (λ c. search needs) slice-write-cells-8 (λ c. search needs)
+    slice-write-cells-6 (λ c. search needs) slice-write-cells-7 (λ c. search needs) slice-write-cells-8 slice-write-cells-9 (λ c. search needs)
     returns)

@@ -39,11 +39,11 @@ cast-t42 : tie.Need-cast-t42
 cast-t42 c = omega (arith, fits (c .before .before .before .before .before .before .before .before .before .before .before .before .before .before .before) .remembered)
 
 returns-2 : tie.Need-returns-2
-returns-2 c = rw (passes (c .before .before .before .before .before .before .before .before .before .before .before .before .before .before .before), c .before .before .before .before .before .before .before .before .before .before .before .phase-in .ensures)
+returns-2 c = rw (passes (c .before .before .before .before .before .before .before .before .before .before .before .before .before .before .before .before), c .before .before .before .before .before .before .before .before .before .before .before .before .phase-in .ensures)
 
 pub state-in-spec : {M : Type 1} → statement M
 state-in-spec =
     tie.close
     (tie.spec (λ c κs. search needs) returns (λ c. search needs) cast-t6 (λ c. search needs) cast-t9 (λ c. search needs) (λ c κs. search needs)
     (λ c. search needs) (λ c. search needs) cast-t17 (λ c. search needs) cast-t21 (λ c. search needs) cast-t25 (λ c. search needs) (λ c. search needs)
-    (λ c. search needs) (λ c. search needs) (λ c. search needs) (λ c. search needs) (λ c. search needs) cast-t42 returns-2)
+    (λ c. search needs) (λ c. search needs) (λ c. search needs) (λ c. search needs) (λ c. search needs) cast-t42 (λ c. search needs) returns-2)

@@ -10,10 +10,11 @@ use native.Mathlib.Omega.{arith}
 use lib.ListN.{length, take, drop, length-take, length-drop}
 use Rattle.wire.specs.Bits.{splice}
 use Rattle.wire.specs.Result.{Result, accepted}
-use Rattle.wire.specs.Cells.{listOf}
+use Rattle.wire.specs.Cells.{listIn, listOf}
 use Rattle.wire.specs.Packet.{Content, readContent}
+use Rattle.wire.proofs.CellLaws.{length-in}
 use Rattle.wire.proofs.ListLaws.{part-written, length-splice}
-use Rattle.rtp.specs.Answers.{checkedOf, cellsAfter, summaryOf}
+use Rattle.rtp.specs.Answers.{checkedOf, cellsAfterIn, summaryOf}
 use Rattle.rtp.specs.declared.packet.Outline.{Outline}
 use Rattle.rtp.specs.declared.packet.Summary.{Summary}
 use Rattle.rtp.specs.declared.packet.Checked.the-variants as checked
@@ -91,7 +92,7 @@ stepped : (c : tie.After-decide)
     ≡ record {
       answer = c .decide .result .answer;
       state = afterOf (from (c .before)) (k .number) (c .decide .result) (c .before .before .freshness .given .0 .0);
-      store = cond (c .decide .result .append) (splice (a .store .now) (from (c .before) .cells) (listOf (k .records))) (a .store .now);
+      store = cond (c .decide .result .append) (splice (a .store .now) (from (c .before) .cells) (listIn (from (c .before) .packets) (k .records))) (a .store .now);
     }
 stepped c =
     let a = c .before .before .before .before .before .before .before .before .before .before .before .before .before .before .args in
@@ -112,14 +113,14 @@ roomy c =
 -- what the store then holds
 written : (c : tie.After-after)
     → let a = c .before .before .before .before .before .before .before .before .before .before .before .before .before .before .before .before .args in
-    c .before .if1 .store ≡ cond (c .before .before .decide .result .append) (splice (a .store .now) (from (c .before .before .before) .cells) (listOf (says (c .before .before .before .before .before .before .before .before .before) .says .records))) (a .store .now)
+    c .before .if1 .store ≡ cond (c .before .before .decide .result .append) (splice (a .store .now) (from (c .before .before .before) .cells) (listIn (from (c .before .before .before) .packets) (says (c .before .before .before .before .before .before .before .before .before) .says .records))) (a .store .now)
 written c =
     let a = c .before .before .before .before .before .before .before .before .before .before .before .before .before .before .before .before .args in
     let p = c .before .before .before .before .before .before .before .before .before in
-    let x = listOf (says p .says .records) in
+    let x = listIn (from (c .before .before .before) .packets) (says p .says .records) in
     ⊎-elim
     (λ w.
-    w .5 ∙ part-written (from (c .before .before .before) .cells) (a .store .now) x _ (w .2 .ensures ∙ ap (λ (r : Result Content). cellsAfter r (take (length (a .store .now) - from (c .before .before .before) .cells) (drop (from (c .before .before .before) .cells) (a .store .now)))) (passes p .1))
+    w .6 ∙ part-written (from (c .before .before .before) .cells) (a .store .now) x _ (w .3 .ensures ∙ ap (λ (r : Result Content). cellsAfterIn (from (c .before .before .before) .packets) r (take (length (a .store .now) - from (c .before .before .before) .cells) (drop (from (c .before .before .before) .cells) (a .store .now)))) (passes p .1))
     ∙ ap (λ (b : Bool). cond b (splice (a .store .now) (from (c .before .before .before) .cells) x) (a .store .now)) (sym (w .0 .taken)))
     (λ w. w .1 ∙ ap (λ (b : Bool). cond b (splice (a .store .now) (from (c .before .before .before) .cells) x) (a .store .now)) (sym (w .0 .left)))
     (c .before .if1 .came)
@@ -127,8 +128,9 @@ written c =
 same-size : (c : tie.After-after) → length (c .before .if1 .store) ≡ length (c .before .before .before .before .before .before .before .before .before .before .before .before .before .before .before .before .args .store .now)
 same-size c =
     let a = c .before .before .before .before .before .before .before .before .before .before .before .before .before .before .before .before .args in
-    let x = listOf (says (c .before .before .before .before .before .before .before .before .before) .says .records) in
-    ap length (written c) ∙ kept (c .before .before .decide .result .append) (a .store .now) (from (c .before .before .before) .cells) x (roomy (c .before .before))
+    let rs = says (c .before .before .before .before .before .before .before .before .before) .says .records in
+    let n = from (c .before .before .before) .packets in
+    ap length (written c) ∙ kept (c .before .before .decide .result .append) (a .store .now) (from (c .before .before .before) .cells) (listIn n rs) (λ t. omega (arith, roomy (c .before .before) t, length-in n rs))
 
 returns : tie.Need-returns
 returns c =
@@ -166,22 +168,25 @@ summary-at-requires c κs =
     ap (checkedOf (a .layout) (a .octets .now)) (passes c .1) ∙ ap checked.Packet (says c .outline)
 
 decide-requires : tie.Need-decide-requires
-decide-requires c κs = let s = is-sound c in (s .fitting .records, s .fitting .cells)
+decide-requires c κs = let s = is-sound c in (s .fitting .records, s .fitting .cells, s .fitting .packets)
+
+cast-index : tie.Need-cast-index
+cast-index c = omega (arith, is-sound (c .before .before .before) .fitting .packets)
 
 mul-read-records : tie.Need-mul-read-records
-mul-read-records c = record { fits = omega (arith, is-sound (c .before .before) .fitting .cells) }
+mul-read-records c = record { fits = omega (arith, is-sound (c .before .before .before) .fitting .cells) }
 
 sub-read-records : tie.Need-sub-read-records
-sub-read-records c = is-sound (c .before .before) .fitting .enough
+sub-read-records c = is-sound (c .before .before .before) .fitting .enough
 
 part-read-records-start : tie.Need-part-read-records-start
-part-read-records-start c = omega (arith, is-sound (c .before .before) .fitting .enough)
+part-read-records-start c = omega (arith, is-sound (c .before .before .before) .fitting .enough)
 
 read-records-requires : tie.Need-read-records-requires
 read-records-requires c κs =
-    let a = c .before .before .before .before .before .before .before .before .before .before .before .before .before .before .before .before .args in
-    let p = c .before .before .before .before .before .before .before .before .before in
-    let n = roomy (c .before .before) (c .before .if1 .taken) in
+    let a = c .before .before .before .before .before .before .before .before .before .before .before .before .before .before .before .before .before .args in
+    let p = c .before .before .before .before .before .before .before .before .before .before in
+    let n = roomy (c .before .before .before) (c .before .before .if1 .taken) in
     let e = ap (λ (y : Outline). y .cells) (says p .outline) in
     (ap (checkedOf (a .layout) (a .octets .now)) (passes p .1) ∙ ap checked.Packet (says p .outline), simp (length-take, length-drop) (omega (arith, n, e)))
 
@@ -200,5 +205,5 @@ pub arrive-spec : {M : Type 1} → statement M
 arrive-spec =
     tie.close
     (tie.spec (λ c κs. search needs) (λ c. search needs) (λ c. search needs) (λ c κs. search needs) returns summary-at-requires (λ c κs. search needs) (λ c. search needs)
-    (λ c κs. search needs) returns-2 decide-requires mul-read-records sub-read-records part-read-records-start (λ c. search needs)
+    (λ c κs. search needs) returns-2 decide-requires cast-index mul-read-records sub-read-records part-read-records-start (λ c. search needs)
     read-records-requires (λ c κs. search needs) same-length returns-3)
