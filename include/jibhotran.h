@@ -5,7 +5,7 @@
  * Written by hand; `differential/` tests it against the archive. Nothing here allocates, and nothing is kept between calls.
  *
  * Each function but the two that ask for wanted records returns 0 where the call is accepted and a refusal's number otherwise (README,
- * "Refusals").
+ * "Refusal numbers").
  * `answer` takes what a call returns beside that: on acceptance the numbers that are named at the function, on a refusal the refusal's
  * index in answer[0]; the rest of the row stays. A row of fewer than JIBHOTRAN_ANSWER numbers is refused by JIBHOTRAN_ROW, and nothing is
  * written at all. On a refusal the other lent memory is unchanged, but for the late count (refusal 32) and the remembered number
