@@ -3,6 +3,7 @@
 use std::collections::BTreeMap;
 
 use crate::depacketizer::{arrive, distance, open, Answer, Distance, State};
+use crate::fielddiff::{differences, Difference};
 use crate::packet::{self, check};
 use crate::random::*;
 use crate::refusal::Refusal;
@@ -83,6 +84,7 @@ pub fn cover(seed: u64, rounds: usize) -> Coverage {
     for _ in 0..rounds / 8 {
         cover_frames(&mut r, &mut c);
         cover_recording(&mut r, &mut c);
+        cover_pair(&mut r, &mut c);
     }
     c
 }
@@ -185,6 +187,35 @@ fn cover_recording(r: &mut Random, c: &mut Coverage) {
             Finding::Raster => "raster",
         };
         *c.answers.entry(("recording", name)).or_default() += 1;
+    }
+}
+
+/// What `fielddiff` lists; two files without a difference are alike.
+fn cover_pair(r: &mut Random, c: &mut Coverage) {
+    let (left, right) = file_pair(r);
+    let found = differences(&left, &right);
+    if found.is_empty() {
+        *c.answers.entry(("pair", "alike")).or_default() += 1;
+    }
+    for (_, difference) in found {
+        let name = match difference {
+            Difference::Timestamp(..) => "ts",
+            Difference::F(..) => "f",
+            Difference::Records(..) => "records",
+            Difference::Cell(..) => "cell",
+            Difference::OnlyLeft | Difference::OnlyRight => "only",
+            Difference::Refused(left, right) => {
+                for number in [left, right].into_iter().flatten() {
+                    c.count("pair", number, 0);
+                }
+                match (left, right) {
+                    (Some(_), Some(_)) => "refused both",
+                    (Some(_), None) => "refused left",
+                    _ => "refused right",
+                }
+            }
+        };
+        *c.answers.entry(("pair", name)).or_default() += 1;
     }
 }
 

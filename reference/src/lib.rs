@@ -10,6 +10,7 @@
 pub mod anc;
 pub mod coverage;
 pub mod depacketizer;
+pub mod fielddiff;
 pub mod fieldlist;
 pub mod file;
 pub mod frames;
@@ -25,6 +26,7 @@ pub mod sdi;
 pub mod sdp;
 pub mod streamcheck;
 
+pub use fielddiff::fielddiff;
 pub use fieldlist::fieldlist;
 pub use layout::Layout;
 pub use refusal::Refusal;

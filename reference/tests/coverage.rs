@@ -13,13 +13,14 @@ fn every_number_is_reached() {
     let arrivals: Vec<u8> = (0..=13).chain([15, 16, 30, 31, 32, 35, 36]).collect();
     let frames: Vec<u8> = (2..=13).chain([0, 15, 16, 30, 31, 32, 36]).collect();
     let recordings: Vec<u8> = (2..=13).chain([15, 16, 30, 31]).collect();
-    let expected: [(&str, &[u8]); 16] = [
+    let expected: [(&str, &[u8]); 17] = [
         ("read", &reads),
         ("read strict", &strict),
         ("write", &[0, 16, 20, 21, 23, 24, 25]),
         ("arrive", &arrivals),
         ("frames", &frames),
         ("recording", &recordings),
+        ("pair", &[9, 10, 11, 12, 16, 21, 50, 51, 52, 53]),
         ("open", &[0, 24]),
         ("sdp read", &[0, 40, 41, 42, 43, 44]),
         ("sdp write", &[0, 41, 43, 44]),
@@ -38,7 +39,8 @@ fn every_number_is_reached() {
         for &number in numbers {
             let (times, indices) = coverage.of(entry, number);
             assert!(times > 0, "{entry} {number}");
-            let alone = entry == "sdp write" || (entry, number) == ("line read", 20);
+            let alone =
+                ["sdp write", "pair"].contains(&entry) || (entry, number) == ("line read", 20);
             let several = INDEXED.contains(&number) && !alone;
             assert!(!several || indices > 2, "{entry} {number}: {indices}");
         }
@@ -51,6 +53,11 @@ fn every_number_is_reached() {
     assert!(coverage.answers[&("read", "left out")] > 100);
     for kind in ["clean", "cut", "number", "change", "reserved", "raster"] {
         assert!(coverage.answers[&("recording", kind)] > 20, "{kind}");
+    }
+    let lists = ["alike", "ts", "f", "records", "cell", "only"];
+    let refused = ["refused both", "refused left", "refused right"];
+    for kind in lists.into_iter().chain(refused) {
+        assert!(coverage.answers[&("pair", kind)] > 20, "{kind}");
     }
     for answer in ["skipped", "held", "mixed", "overfull", "whole", "restarted"] {
         for entry in ["arrive", "frames"] {

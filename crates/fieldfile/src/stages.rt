@@ -39,7 +39,7 @@ fn version_ok(number: usize) -> bool
 }
 
 // 50, 51: the octets of the head.
-pub(crate) fn check_file(file: &[u8]) -> Stage
+pub fn check_file(file: &[u8]) -> Stage
     ensures { λ r. ⌜ r ≡ stageOf (judge 0 (fileChecks (now (file .entry))) (accepted fileHeadSize)) ⌝ }
 {
     if file.len() < NAME_SIZE {
@@ -78,7 +78,7 @@ pub(crate) fn check_offset(file: &[u8], at: OctetCount) -> Stage
 }
 
 // 52, 53, of the field at the front of the octets: the octets of its header.
-pub(crate) fn check_header(octets: &[u8], version: Version) -> Stage
+pub fn check_header(octets: &[u8], version: Version) -> Stage
     ensures { λ r. ⌜ r ≡ stageOf (judge 0 (fieldHeaderChecks version (now (octets .entry))) (accepted (fieldHeaderSize version))) ⌝ }
 {
     let header = header_size(version);

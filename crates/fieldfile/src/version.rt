@@ -22,7 +22,7 @@ pub(crate) fn header_size(version: Version) -> usize
 }
 
 // The version of a file whose head passed.
-pub(crate) fn version_at(file: &[u8]) -> Version
+pub fn version_at(file: &[u8]) -> Version
     requires { ⌜ fileHeadSize ≤ length (now file) ⌝ }
     ensures { λ r. ⌜ r ≡ versionOf (now (file .entry)) ⌝ }
 {
@@ -34,7 +34,7 @@ pub(crate) fn version_at(file: &[u8]) -> Version
 }
 
 // The count in the header of a field: one octet or two.
-pub(crate) fn count_at(octets: &[u8], version: Version) -> usize
+pub fn count_at(octets: &[u8], version: Version) -> usize
     requires { ⌜ fieldHeaderSize version ≤ length (now octets) ⌝ }
     ensures { λ r. ⌜ r ≡ countField version (now (octets .entry)) ⌝ }
 {

@@ -98,7 +98,7 @@ pub fn flush(buffers: Buffers, out: &[u8]) -> Buffers
 }
 
 // Whether a signal interrupted a read, which is then tried again; any other that failed is told.
-fn is_interrupted(got: isize) -> bool
+pub fn is_interrupted(got: isize) -> bool
     ensures { λ r. ⌜ Interrupted got r ⌝ }
 {
     if got >= 0 {

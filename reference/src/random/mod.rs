@@ -9,6 +9,7 @@ mod line;
 mod list;
 mod outlet;
 mod packet;
+mod pair;
 mod recording;
 mod text;
 
@@ -19,6 +20,7 @@ pub use line::*;
 pub use list::*;
 pub use outlet::*;
 pub use packet::*;
+pub use pair::*;
 pub use recording::*;
 pub use text::*;
 

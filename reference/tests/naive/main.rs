@@ -6,6 +6,7 @@ use reference::packet::{self, Head, Summary};
 use reference::random::*;
 use reference::{file, Layout, Refusal};
 
+mod fielddiff;
 mod outlet;
 mod sdi;
 mod sdp;

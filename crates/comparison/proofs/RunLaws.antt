@@ -1,0 +1,120 @@
+-- THE WHOLE OUTPUT of `fielddiff` is the text of the list of differences, for what was read and whatever still comes.
+-- Each turn keeps what is printed (`TurnLaws`).
+use mathlib.Core.Path.{_≡_, refl, ap, ap₂, sym, _∙_}
+use mathlib.Core.Bool.{Bool, true, false, true≢false, cond, not, _&&_}
+use mathlib.Core.List.{List, [], _++_, append-assoc, append-nil}
+use Prim.Native.Nat.{ℕ, _-_, _<_, _≤_}
+use native.Mathlib.Omega.{arith}
+use borrow.Author.Tests.{eqb-true}
+use lib.Dec.{eqb}
+use lib.ListN.{length, take}
+use lib.Seq.{take-append-seam}
+use Rattle.wire.proofs.ResultLaws.{and-true}
+use Rattle.anf.specs.File.{readFile}
+use Rattle.diff.specs.Diff.{Line}
+use Rattle.diff.specs.Text.{diffText, comparison}
+use Rattle.side_by_side.specs.Rest.{starts}
+use Rattle.side_by_side.proofs.FromLaws.{from-0}
+use Rattle.program.specs.Buffers.{Begins}
+use Rattle.side.specs.Side.{MayCome, readIn, unscanned}
+use Rattle.comparison.specs.declared.Run.{Run}
+use Rattle.comparison.specs.declared.Phase.{Phase}
+use Rattle.comparison.specs.declared.Phase.the-variants as phase
+use Rattle.comparison.specs.Turns as turns
+use Rattle.comparison.specs.Turns.{Bounds, Closes, Now, Passed, RunFlushed, Stands, Step, begins, isOver, isWhole, linesLeft, toPrint, turned, turnsOf, writtenIn}
+
+-- where a run stands
+pub record Stood (readLeft readRight written : List ℕ) (v : Run) (leftInput rightInput leftStore rightStore out : List ℕ) : Type 0 where
+  pub now : Now
+  pub stands : Stands v leftStore rightStore now
+  pub prints : (s t : List ℕ) → MayCome (v .left) s → MayCome (v .right) t → written ++ toPrint v now leftInput rightInput out s t ≡ comparison (readLeft ++ s) (readRight ++ t)
+
+-- THE INVARIANT OF A RUN
+pub run-stands : {lo ro : Bool} {readLeft readRight written : List ℕ} {v : Run} {leftInput rightInput leftStore rightStore out : List ℕ}
+    → Passed lo ro readLeft readRight written v leftInput rightInput leftStore rightStore out → Stood readLeft readRight written v leftInput rightInput leftStore rightStore out
+run-stands begins =
+    record {
+      now = record { left = starts; right = starts; leftRecords = []; rightRecords = [] };
+      stands = record { left = refl; right = refl; phase = tt };
+      prints = λ s t m k. sym (ap diffText (from-0 (readFile s) (readFile t)));
+    }
+run-stands (turned {readLeft} {readRight} {written} {v} {leftInput} {rightInput} {leftStore} {rightStore} {out} {r} {leftInput′} {rightInput′} {leftStore′} {rightStore′} {out′} p o t) = go (run-stands p)
+  where
+    go : Stood readLeft readRight written v leftInput rightInput leftStore rightStore out
+        → Stood (readLeft ++ readIn (v .left) (r .left) leftInput′) (readRight ++ readIn (v .right) (r .right) rightInput′) (written ++ writtenIn v r out) r leftInput′ rightInput′ leftStore′ rightStore′ out′
+    go z =
+        let k = t .keeps (z .now) (z .stands) in
+        let g = readIn (v .left) (r .left) leftInput′ in
+        let h = readIn (v .right) (r .right) rightInput′ in
+        record {
+          now = k .to;
+          stands = k .stands;
+          prints =
+              λ s u m n. append-assoc written (writtenIn v r out) (toPrint r (k .to) leftInput′ rightInput′ out′ s u)
+              ∙ ap (λ (l : List ℕ). written ++ l) (sym (k .same s u m n))
+              ∙ z .prints (g ++ s) (h ++ u) (k .leftComes s m) (k .rightComes u n)
+              ∙ sym (ap₂ comparison (append-assoc readLeft g s) (append-assoc readRight h u));
+        }
+
+pub run-bounds : {lo ro : Bool} {readLeft readRight written : List ℕ} {v : Run} {leftInput rightInput leftStore rightStore out : List ℕ}
+    → Passed lo ro readLeft readRight written v leftInput rightInput leftStore rightStore out → Bounds v (length leftInput) (length rightInput) (length out)
+run-bounds begins = record { left = (omega arith, omega arith); right = (omega arith, omega arith); leftReach = tt; rightReach = tt; text = omega arith }
+run-bounds (turned p o t) = t .bounds
+
+-- the position is at most the turns that were made
+pub position-made : {lo ro : Bool} {readLeft readRight written : List ℕ} {v : Run} {leftInput rightInput leftStore rightStore out : List ℕ}
+    → (p : Passed lo ro readLeft readRight written v leftInput rightInput leftStore rightStore out) → v .position ≤ turnsOf p
+position-made begins = omega arith
+position-made (turned p o t) = omega (arith, position-made p, t .position)
+
+-- text that waited was written, and the run goes on, or it waits still
+flush-closes : (v r : Run) → v .«open» ≡ true → 0 < v .filled → RunFlushed v r → r .«open» ≡ false → Closes r
+flush-closes v r o h f e = go (f .flushed .written) (f .flushed .filled) (f .flushed .goes-on)
+  where
+    go : (w : Bool) → f .text .filled ≡ cond w 0 (v .filled) → f .text .«open» ≡ (w && true) → Closes r
+    go true n g = absurd (true≢false (sym (ap (λ (x : Run). x .«open») (f .is) ∙ ap₂ _&&_ o g) ∙ e))
+    go false n g = turns.text (omega (arith, ap (λ (x : Run). x .filled) (f .is), n, h))
+
+not-false : (b : Bool) → not b ≡ false → b ≡ true
+not-false true e = refl
+not-false false e = absurd (true≢false e)
+
+-- WHY A RUN ENDS, by its last turn
+step-closes : (v : Run) (leftInput rightInput leftStore rightStore : List ℕ) (r : Run) (leftInput′ rightInput′ : List ℕ)
+    → v .«open» ≡ true → Step v leftInput rightInput leftStore rightStore r leftInput′ rightInput′ → r .«open» ≡ false → Closes r
+step-closes v a b c d r a′ b′ o (turns.writes h f) e = flush-closes v r o h f e
+step-closes v a b c d r a′ b′ o (turns.rests h f) e = turns.list (ap (λ (x : Run). isOver (x .phase)) (f .is) ∙ h)
+step-closes v a b c d r a′ b′ o (turns.leftOn h s is) e = turns.left (not-false (r .left .failed) (sym (ap (λ (x : Run). x .«open») is) ∙ e))
+step-closes v a b c d r a′ b′ o (turns.rightOn h s is) e = turns.right (not-false (r .right .failed) (sym (ap (λ (x : Run). x .«open») is) ∙ e))
+step-closes v a b c d r a′ b′ o (turns.places h is) e =
+    turns.list (ap (λ (x : Run). isOver (x .phase)) is ∙ not-false _ (sym (ap (λ (x : Run). x .«open») is) ∙ e))
+step-closes v a b c d r a′ b′ o (turns.next q h ne is) e = absurd (true≢false (sym (ap (λ (x : Run). x .«open») is) ∙ e))
+step-closes v a b c d r a′ b′ o (turns.last q h n is) e = absurd (true≢false (sym (ap (λ (x : Run). x .«open») is) ∙ e))
+
+pub run-closes : {lo ro : Bool} {readLeft readRight written : List ℕ} {v : Run} {leftInput rightInput leftStore rightStore out : List ℕ}
+    → Passed lo ro readLeft readRight written v leftInput rightInput leftStore rightStore out → v .«open» ≡ false → Closes v
+run-closes begins e = absurd (true≢false e)
+run-closes (turned {v = v} {leftInput = leftInput} {rightInput = rightInput} {leftStore = leftStore} {rightStore = rightStore} {r = r} {leftInput′ = leftInput′} {rightInput′ = rightInput′} p o t) e =
+    step-closes v leftInput rightInput leftStore rightStore r leftInput′ rightInput′ o (t .step) e
+
+module _ {readLeft readRight written : List ℕ} {v : Run} {leftInput rightInput leftStore rightStore out : List ℕ} (z : Stood readLeft readRight written v leftInput rightInput leftStore rightStore out) where
+  pub run-begins : (s t : List ℕ) → MayCome (v .left) s → MayCome (v .right) t → Begins (comparison (readLeft ++ s) (readRight ++ t)) written
+  run-begins s t m k = ap (take (length written)) (sym (z .prints s t m k)) ∙ take-append-seam written (toPrint v (z .now) leftInput rightInput out s t)
+
+  over-lines : (p : Phase) (s t : List ℕ) → isOver p ≡ true → linesLeft p (v .position) (z .now) s t ≡ []
+  over-lines phase.Places s t e = absurd (true≢false (sym e))
+  over-lines (phase.Comparing r) s t e = absurd (true≢false (sym e))
+  over-lines phase.Done s t e = refl
+
+  -- THE WHOLE: the texts written, joined, are the output
+  pub run-whole : (r : Run) → RunFlushed v r → isWhole r ≡ true → (s t : List ℕ) → MayCome (v .left) s → MayCome (v .right) t
+      → written ++ writtenIn v r out ≡ comparison (readLeft ++ s) (readRight ++ t)
+  run-whole r f w s t m k =
+      let q = and-true (isOver (r .phase)) (eqb (r .filled) 0) w in
+      let p : isOver (v .phase) ≡ true = sym (ap (λ (x : Run). isOver (x .phase)) (f .is)) ∙ q .0 in
+      let n : r .filled ≡ 0 = eqb-true (r .filled) 0 (q .1) in
+      let d : v .filled - r .filled ≡ v .filled = omega (arith, n) in
+      let e = over-lines (v .phase) (unscanned (v .left) leftInput ++ s) (unscanned (v .right) rightInput ++ t) p in
+      ap (λ (j : ℕ). written ++ take j out) d
+      ∙ ap (λ (l : List ℕ). written ++ l) (sym (append-nil (take (v .filled) out)) ∙ sym (ap (λ (l : List Line). take (v .filled) out ++ diffText l) e))
+      ∙ z .prints s t m k

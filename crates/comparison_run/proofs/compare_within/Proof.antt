@@ -1,0 +1,128 @@
+-- `compare_within` makes turn after turn, and then writes what waits.
+-- Invariant: the turns so far are a run; the buffers keep their sizes; turns are left only while the run is open, and
+-- with those that were made they are as many as at the start.
+use borrow.Author.Needs.{needs}
+use mathlib.Core.Path.{_≡_, refl, ap, ap₂, sym, subst, _∙_}
+use mathlib.Core.Bool.{Bool, true}
+use mathlib.Core.List.{List, []}
+use native.Mathlib.Omega.{arith}
+use Prim.Native.Nat.{ℕ, _+_, _<_}
+use lib.ListN.{length}
+use Rattle.program.proofs.BufferLaws.{fewer, one-more, still-open}
+use Rattle.comparison.specs.declared.Run.{Run}
+use Rattle.comparison.specs.Turns.{Enough, Passed, begins, maxTurns, started, turned, turnsOf}
+use Rattle.comparison.proofs.RunLaws.{position-made, run-begins, run-bounds, run-closes, run-stands, run-whole}
+use Rattle.comparison_run.proofs.compare_within.Statement.{statement}
+use Rattle.comparison_run.proofs.compare_within.Tie as tie
+
+record Sofar (lo ro : Bool) (v : Run) (lread rread lstore rstore out : List ℕ) (turns : ℕ) : Type 0 where
+  pub readLeft : List ℕ
+  pub readRight : List ℕ
+  pub written : List ℕ
+  pub passed : Passed lo ro readLeft readRight written v lread rread lstore rstore out
+  pub made : v .«open» ≡ true → turns + turnsOf passed ≡ maxTurns
+
+abbrev Inv-loop : tie.InvT-loop
+Inv-loop left-fd right-fd lopen ropen lread₀ rread₀ lstore₀ rstore₀ out₀ run₀ turns₀ lread rread lstore rstore out run turns =
+    Sofar lopen ropen run lread rread lstore rstore out turns
+    × ((length lread ≡ length lread₀) × (length rread ≡ length rread₀) × (length lstore ≡ length lstore₀) × (length rstore ≡ length rstore₀) × (length out ≡ length out₀))
+    × (0 < turns → run .«open» ≡ true)
+
+abbrev μ-loop : tie.MeasureT-loop
+μ-loop left-fd right-fd lopen ropen lread₀ rread₀ lstore₀ rstore₀ out₀ run₀ turns₀ lread rread lstore rstore out run turns = turns
+
+still-enough : {a b c d e : ℕ} (a′ b′ c′ d′ e′ : ℕ) → a′ ≡ a → b′ ≡ b → c′ ≡ c → d′ ≡ d → e′ ≡ e → Enough a b c d e → Enough a′ b′ c′ d′ e′
+still-enough a′ b′ c′ d′ e′ p q r s t n =
+    record { leftWindow = rw p (n .leftWindow); rightWindow = rw q (n .rightWindow); leftField = rw r (n .leftField); rightField = rw s (n .rightField); text = rw t (n .text) }
+
+loop-holds : tie.Need-loop-holds Inv-loop μ-loop
+loop-holds c =
+    let a = c .before .before .before .before .before .before .before .before .args in
+    let e = c .start3 .ensures ∙ ap₂ started (c .before .before .start .ensures) (c .before .start2 .ensures) in (
+      subst (λ (v : Run). Sofar (a .lopen) (a .ropen) v (a .lread .now) (a .rread .now) (a .lstore .now) (a .rstore .now) (a .out .now) maxTurns) (sym e)
+          (record { readLeft = []; readRight = []; written = []; passed = begins; made = λ o. refl }),
+      (refl, refl, refl, refl, refl),
+      λ h. ap (λ (v : Run). v .«open») e,
+    )
+
+turn-requires : tie.Need-turn-requires Inv-loop μ-loop
+turn-requires c κs =
+    let l = c .before .before .before .before .before .before .loop in
+    let t = c .before .before .before .before .before .loop-test .taken in
+    let s = l .inv .1 in
+    let z = run-stands (l .inv .0 .passed) in (
+      run-bounds (l .inv .0 .passed),
+      (
+        still-enough (length (l .lread)) (length (l .rread)) (length (l .lstore)) (length (l .rstore)) (length (l .out)) (s .0) (s .1) (s .2) (s .3) (s .4) (c .before .before .before .before .before .before .before .before .before .before .before .before .before .before .before .pre),
+        (omega (arith, position-made (l .inv .0 .passed), l .inv .0 .made (l .inv .2 t), t), (z .now, z .stands)),
+      ),
+    )
+
+turns-left-requires : tie.Need-turns-left-requires Inv-loop μ-loop
+turns-left-requires c κs = c .before .before .before .before .before .before .before .before .before .before .before .before .before .before .before .before .loop-test .taken
+
+loop-less : tie.Need-loop-less Inv-loop μ-loop
+loop-less c =
+    fewer (c .before .before .before .before .before .before .before .before .before .before .before .turn .result .«open») (c .before .before .before .before .before .before .before .before .before .before .before .before .before .before .before .before .before .before .loop .turns) (c .turns-left .result) (c .turns-left .ensures)
+    (c .before .before .before .before .before .before .before .before .before .before .before .before .before .before .before .before .before .loop-test .taken)
+
+loop-again : tie.Need-loop-again Inv-loop μ-loop
+loop-again c =
+    let t = c .before .before .before .before .before .before .before .before .before .before .before .turn in
+    let l = c .before .before .before .before .before .before .before .before .before .before .before .before .before .before .before .before .before .before .loop in
+    let h = c .before .before .before .before .before .before .before .before .before .before .before .before .before .before .before .before .before .loop-test .taken in
+    let s = l .inv .0 in
+    let made = one-more (t .result .«open») (l .turns) (c .turns-left .result) (turnsOf (s .passed)) maxTurns (c .turns-left .ensures) h (s .made (l .inv .2 h)) in (
+      record { readLeft = _; readRight = _; written = _; passed = turned (s .passed) (l .inv .2 h) (t .ensures); made = made },
+      (c .before .before .before .before .before .before .before .before .before .before .lread .given ∙ l .inv .1 .0, c .before .before .before .before .before .before .before .before .rread .given ∙ l .inv .1 .1, c .before .before .before .before .before .before .lstore .given ∙ l .inv .1 .2, c .before .before .before .before .rstore .given ∙ l .inv .1 .3, c .before .before .out .given ∙ l .inv .1 .4),
+      still-open (t .result .«open») (l .turns) (c .turns-left .result) (c .turns-left .ensures),
+    )
+
+flush-requires : tie.Need-flush-requires Inv-loop μ-loop
+flush-requires c κs = run-bounds (c .before .before .loop .inv .0 .passed) .text
+
+same-length : tie.Need-same-length Inv-loop μ-loop
+same-length c = c .before .before .before .before .loop .inv .1 .0
+
+same-length-2 : tie.Need-same-length-2 Inv-loop μ-loop
+same-length-2 c = c .before .before .before .before .loop .inv .1 .1
+
+same-length-3 : tie.Need-same-length-3 Inv-loop μ-loop
+same-length-3 c = c .before .before .before .before .loop .inv .1 .2
+
+same-length-4 : tie.Need-same-length-4 Inv-loop μ-loop
+same-length-4 c = c .before .before .before .before .loop .inv .1 .3
+
+same-length-5 : tie.Need-same-length-5 Inv-loop μ-loop
+same-length-5 c = c .before .before .before .before .loop .inv .1 .4
+
+returns : tie.Need-returns Inv-loop μ-loop
+returns c =
+    let l = c .before .before .before .before .loop in
+    let s = l .inv .0 in
+    let t = c .before .flush in
+    record {
+      readLeft = s .readLeft;
+      readRight = s .readRight;
+      written = s .written;
+      before = l .run;
+      leftInput = l .lread;
+      rightInput = l .rread;
+      leftStore = l .lstore;
+      rightStore = l .rstore;
+      out = l .out;
+      passed = s .passed;
+      after = t .result;
+      flushed = t .ensures;
+      answer = c .is-whole .ensures;
+      ends = λ o. omega (arith, c .before .before .before .loop-test .left, s .made o);
+      closes = run-closes (s .passed);
+      begins = run-begins (run-stands (s .passed));
+      complete = λ h. run-whole (run-stands (s .passed)) (t .result) (t .ensures) (sym (c .is-whole .ensures) ∙ h);
+    }
+
+pub compare-within-spec : {M : Type 1} → statement M
+compare-within-spec =
+    tie.close
+    (tie.spec Inv-loop μ-loop (λ c κs. search needs) (λ c κs. search needs) (λ c κs. search needs) loop-holds turn-requires turns-left-requires loop-less loop-again
+    flush-requires (λ c κs. search needs) same-length same-length-2 same-length-3 same-length-4 same-length-5 returns)

@@ -1,0 +1,6 @@
+pub mod UpToLaws
+pub mod PlaceLaws
+pub mod DiffLaws
+pub mod LineLaws
+pub mod TextLaws
+pub mod Examples

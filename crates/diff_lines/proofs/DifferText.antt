@@ -1,0 +1,34 @@
+-- The text of lines that stand or do not, and of lines one behind the other.
+use mathlib.Core.Path.{_≡_, ap, sym, _∙_}
+use mathlib.Core.Bool.{Bool, cond}
+use mathlib.Core.List.{List, [], _∷_, _++_, append-nil}
+use Prim.Native.Nat.{ℕ, _+_}
+use native.Mathlib.Numerals.{add-one}
+use lib.ListN.{getD}
+use borrow.Author.Tests.{eq-eqb, ne-eqb}
+use Rattle.diff.specs.Diff.{Line, cellLine, differ, upTo}
+use Rattle.diff.specs.Text.{diffText, lineText}
+use Rattle.diff.proofs.TextLaws.{text-append}
+
+pub line-text : (x : Line) → lineText x ≡ diffText (x ∷ [])
+line-text x = sym (append-nil (lineText x))
+
+pub none-differs : (line : ℕ → ℕ → Line) (l r : ℕ) → l ≡ r → [] ≡ diffText (differ line l r)
+none-differs line l r e = sym (ap (λ (b : Bool). diffText (cond b [] (line l r ∷ []))) (eq-eqb l r e))
+
+pub one-differs : (line : ℕ → ℕ → Line) (l r : ℕ) → (l ≡ r → ⊥) → lineText (line l r) ≡ diffText (differ line l r)
+one-differs line l r h = line-text (line l r) ∙ sym (ap (λ (b : Bool). diffText (cond b [] (line l r ∷ []))) (ne-eqb l r h))
+
+pub three-texts : (xs ys zs : List Line) → diffText xs ++ (diffText ys ++ diffText zs) ≡ diffText (xs ++ (ys ++ zs))
+three-texts xs ys zs = sym (text-append xs (ys ++ zs) ∙ ap (λ (t : List ℕ). diffText xs ++ t) (text-append ys zs))
+
+-- the lines of the cells below a place
+abbrev pub cellsTo : (i j : ℕ) (xs ys : List ℕ) → ℕ → List Line
+cellsTo i j xs ys n = upTo (λ k. differ (cellLine i j k) (getD xs k 0) (getD ys k 0)) n
+
+pub cells-next : (i j : ℕ) (xs ys : List ℕ) (n : ℕ)
+    → diffText (cellsTo i j xs ys n) ++ diffText (differ (cellLine i j n) (getD xs n 0) (getD ys n 0)) ≡ diffText (cellsTo i j xs ys (n + 1))
+unfolding upTo
+cells-next i j xs ys n =
+    sym (ap (λ (m : ℕ). diffText (cellsTo i j xs ys m)) (add-one n)
+    ∙ text-append (cellsTo i j xs ys n) (differ (cellLine i j n) (getD xs n 0) (getD ys n 0)))

@@ -1,0 +1,4 @@
+pub mod FrontLaws
+pub mod WindowLaws
+pub mod StoreLaws
+pub mod Examples
