@@ -1,23 +1,25 @@
--- What an arrival leaves, by its answer: the store and the phase, over every state, packet and store.
+-- What an arrival leaves, by its answer: the store, the phase and the memory, over every state, packet and store.
 -- By what is gathered, and the tests.
 use mathlib.Core.Path.{_≡_, refl, _∙_, ap, sym}
-use mathlib.Core.Bool.{Bool, true, false, _&&_}
+use mathlib.Core.Bool.{Bool, true, false, _&&_, and-false}
 use mathlib.Core.List.{List}
-use Prim.Native.Nat.{ℕ, _+_}
+use Prim.Native.Nat.{ℕ, _+_, _^_, _%_}
 use native.Mathlib.Omega.{arith}
 use lib.Dec.{eqb}
 use lib.ListN.{length}
 use borrow.Author.Tests.{eq-eqb, ne-eqb}
+use Rattle.wire.specs.declared.refusal.Refusal.{Refusal}
 use Rattle.wire.specs.Layout.{Layout}
 use Rattle.wire.specs.Result.{accepted}
 use Rattle.wire.specs.Packet.{Content, readContent}
+use Rattle.wire.specs.Writing.{maxFieldPackets}
 use Rattle.stream.specs.declared.state.State.{State}
 use Rattle.stream.specs.declared.state.Field.{Field}
 use Rattle.stream.specs.declared.state.Answer.{Answer}
 use Rattle.stream.specs.declared.state.Answer.the-variants as answer
-use Rattle.stream.specs.Step.{Gathered, lost, ready, filling, phaseOf, Gather, Carried, carried, dropped, taken, joinFits, joinIfFits, join, joinIfSame, follow, freshStep, step, wholeIfMarked, fieldWith, appended}
-use Rattle.stream.specs.Laws.{PhaseAfter, appends, StoreAfter}
-use Rattle.stream.proofs.StepLaws.{step-is}
+use Rattle.stream.specs.Step.{Gathered, lost, ready, filling, phaseOf, Gather, Carried, carried, dropped, taken, joinFits, joinIfFits, join, joinIfSame, follow, freshStep, farStep, Step, step, wholeIfMarked, fieldWith, appended}
+use Rattle.stream.specs.Laws.{IsFresh, PhaseAfter, MemoryAfter, appends, StoreAfter, FullOfPackets}
+use Rattle.stream.proofs.StepLaws.{follow-answers, not-refused, refusal-inj, refused-keeps, passed, step-is}
 
 taken-appends : (b : Bool) (x : Field) → appends (wholeIfMarked b x) ≡ true
 taken-appends true x = refl
@@ -73,6 +75,12 @@ follow-leaves (filling t f r c n) p room = go (eqb t (p .timestamp) && eqb f (p 
     go true = join-leaves r c n p room
     go false = dropped-leaves answer.Mixed (p .marked)
 
+-- a field of as many packets as there can be takes no more
+pub full-of-packets : FullOfPackets
+full-of-packets t f r c room p e h =
+    let over : joinFits r c maxFieldPackets p room ≡ false = simp and-false in
+    rw (eq-eqb t (p .timestamp) e, eq-eqb f (p .f) h) (rw over)
+
 fresh-phase : (st : State) (g : Gathered) (missing : ℕ) (k : Content) (store : List ℕ) → PhaseAfter k (freshStep st g missing k store)
 fresh-phase st g missing k store =
     let l = follow-leaves g (carried k) (length store) in
@@ -91,3 +99,31 @@ phase-after st L octets store k e =
     (λ from k′ e′ h g m.
     let q : k′ ≡ k = cc in
     rw q (fresh-phase from g m k store))
+
+-- "Any fresh arrival clears the memory"; of the others a far one alone changes it
+pub memory-after : (st : State) (L : Layout) (octets store : List ℕ) → MemoryAfter st L octets (step st L octets store)
+memory-after st L octets store = record { fresh = fresh; far = far; other = other }
+  where
+    fresh : IsFresh (step st L octets store .answer) → step st L octets store .state .remembers ≡ false
+    fresh =
+        step-is st L octets store (λ (x : Step). IsFresh (x .answer) → x .state .remembers ≡ false) (λ x f. absurd (f x refl)) (λ f. absurd (f _ refl))
+        (λ n f. absurd (f _ refl))
+        (λ from k e h g m f. refl)
+
+    other : (r : Refusal) → step st L octets store .answer ≡ answer.Refused r → (r .number ≡ 36 → ⊥)
+        → (step st L octets store .state .remembers ≡ st .remembers) × (step st L octets store .state .remembered ≡ st .remembered)
+    other =
+        step-is st L octets store
+        (λ (x : Step). (r : Refusal) → x .answer ≡ answer.Refused r → (r .number ≡ 36 → ⊥) → (x .state .remembers ≡ st .remembers) × (x .state .remembered ≡ st .remembered))
+        (λ x r e n. (refl, refl)) (λ r e n. (refl, refl)) (λ m r e n. absurd (n (sym (ap (λ (x : Refusal). x .number) (refusal-inj e)))))
+        (λ from k q h g m r e n. absurd (not-refused _ r (follow-answers g (carried k) (length store)) e))
+
+    far : (r : Refusal) → step st L octets store .answer ≡ answer.Refused r → r .number ≡ 36 → (k : Content) → readContent L octets ≡ accepted k
+        → (step st L octets store .state .remembers ≡ true) × (step st L octets store .state .remembered .0 ≡ (k .number + 1) % 2 ^ 32)
+    far r e n k q =
+        let f = refused-keeps st L octets store r e .far n in
+        let p : readContent L octets ≡ accepted (f .0) = passed st L (length store) octets (f .0) (f .1) .1 in
+        let same : f .0 ≡ k = cc in (
+          ap (λ (z : Step). z .state .remembers) (f .2),
+          ap (λ (z : Step). z .state .remembered .0) (f .2) ∙ ap (λ (c : Content). (c .number + 1) % 2 ^ 32) same,
+        )

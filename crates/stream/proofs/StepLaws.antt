@@ -21,7 +21,7 @@ use Rattle.stream.specs.Step.{Gathered, lost, ready, filling, gathered, 
 use Rattle.wire.proofs.ResultLaws.{Numbered, then-accepts, judge-accepts}
 use Rattle.stream.proofs.NumberLaws.{isAdmission, admit-numbered}
 
-abbrev isRefusal : Answer → Bool
+abbrev pub isRefusal : Answer → Bool
 isRefusal answer.Skipped = false
 isRefusal answer.Held = false
 isRefusal answer.Mixed = false
@@ -41,7 +41,7 @@ join-answers r c n p room = go (joinFits r c n p room) _
     go false m = refl
 
 -- a fresh packet is not refused
-follow-answers : (g : Gathered) (p : Carried) (room : ℕ) → isRefusal (follow g p room .answer) ≡ false
+pub follow-answers : (g : Gathered) (p : Carried) (room : ℕ) → isRefusal (follow g p room .answer) ≡ false
 follow-answers lost p room = refl
 follow-answers ready p room = join-answers 0 0 0 p room
 follow-answers (filling t f r c n) p room = go (eqb t (p .timestamp) && eqb f (p .f))
@@ -50,7 +50,7 @@ follow-answers (filling t f r c n) p room = go (eqb t (p .timestamp) && eqb f (p
     go true = join-answers r c n p room
     go false = refl
 
-not-refused : (a : Answer) (x : Refusal) → isRefusal a ≡ false → a ≡ answer.Refused x → ⊥
+pub not-refused : (a : Answer) (x : Refusal) → isRefusal a ≡ false → a ≡ answer.Refused x → ⊥
 not-refused a x h e = true≢false (sym (ap isRefusal e) ∙ h)
 
 -- a packet of the opened source and type is refused only where it is late or far
@@ -74,7 +74,7 @@ packet-refuses : (b : Bool) (st : State) (k : Content) (store : List ℕ) (x : R
 packet-refuses false st k store x e = absurd (not-refused _ x (follow-answers lost (carried k) (length store)) e)
 packet-refuses true st k store x e = class-refuses (classify (distance (st .last .0) (k .number))) st k store x e
 
-refusal-inj : {x y : Refusal} → answer.Refused x ≡ answer.Refused y → x ≡ y
+pub refusal-inj : {x y : Refusal} → answer.Refused x ≡ answer.Refused y → x ≡ y
 refusal-inj e = cc
 
 -- the step that refuses and changes nothing

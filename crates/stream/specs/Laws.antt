@@ -1,17 +1,19 @@
--- What 01 says of every arrival, over what `arrive` returns, in other words than the definition of a step.
+-- What 01 and 02 say of every arrival, over what `arrive` returns, in other words than the definition of a step.
 use mathlib.Core.Path.{_≡_}
 use mathlib.Core.Bool.{Bool, true, false}
 use mathlib.Core.List.{List}
-use Prim.Native.Nat.{ℕ}
+use Prim.Native.Nat.{ℕ, _+_, _^_, _%_}
 use Rattle.wire.specs.declared.refusal.Refusal.{Refusal}
 use Rattle.wire.specs.Layout.{Layout}
 use Rattle.wire.specs.Cells.{allBelow}
-use Rattle.wire.specs.Packet.{Content}
+use Rattle.wire.specs.Result.{accepted}
+use Rattle.wire.specs.Packet.{Content, readContent}
+use Rattle.wire.specs.Writing.{maxFieldPackets}
 use Rattle.stream.specs.declared.state.State.{State}
 use Rattle.stream.specs.declared.state.Phase.the-variants as phase
 use Rattle.stream.specs.declared.state.Answer.{Answer}
 use Rattle.stream.specs.declared.state.Answer.the-variants as answer
-use Rattle.stream.specs.Step.{Step, step}
+use Rattle.stream.specs.Step.{filling, Carried, follow, Step, step}
 use Rattle.stream.specs.Stream.{isLast, Stream, nth, Arriving, packet, Calls, Handed, arrived, asSent}
 
 -- the answer to a fresh arrival is not a refusal
@@ -22,6 +24,14 @@ IsFresh a = (x : Refusal) → a ≡ answer.Refused x → ⊥
 pub record PhaseAfter (k : Content) (x : Step) : Type 0 where
   pub marked : IsFresh (x .answer) → k .marker ≡ 1 → x .state .phase ≡ phase.Ready
   pub unmarked : IsFresh (x .answer) → k .marker ≡ 0 → (x .answer ≡ answer.Held → ⊥) → x .state .phase ≡ phase.Lost
+
+-- "Any fresh arrival clears the memory" (02, K11); a far one is refused by 36, "and the number after it is remembered"; no other arrival changes it.
+pub record MemoryAfter (st : State) (L : Layout) (octets : List ℕ) (x : Step) : Type 0 where
+  pub fresh : IsFresh (x .answer) → x .state .remembers ≡ false
+  pub far : (r : Refusal) → x .answer ≡ answer.Refused r → r .number ≡ 36 → (k : Content) → readContent L octets ≡ accepted k
+      → (x .state .remembers ≡ true) × (x .state .remembered .0 ≡ (k .number + 1) % 2 ^ 32)
+  pub other : (r : Refusal) → x .answer ≡ answer.Refused r → (r .number ≡ 36 → ⊥)
+      → (x .state .remembers ≡ st .remembers) × (x .state .remembered ≡ st .remembered)
 
 -- "Held and whole append their cells ..
 abbrev pub appends : Answer → Bool
@@ -35,6 +45,11 @@ appends (answer.Refused x) = false
 -- .. other answers write nothing.": the store as it was lent
 abbrev pub StoreAfter : List ℕ → Step → Type 0
 StoreAfter store x = appends (x .answer) ≡ false → x .store ≡ store
+
+-- "a packet whose index would be larger, with records or without, makes the field overfull" (02, K13): whatever the packet carries, and whatever else is
+-- gathered, where its timestamp and F are the field's
+abbrev pub FullOfPackets : Type 0
+FullOfPackets = (t f r c room : ℕ) (p : Carried) → t ≡ p .timestamp → f ≡ p .f → follow (filling t f r c maxFieldPackets) p room .answer ≡ answer.Overfull
 
 -- 35 lets a state pass with a store: no arrival is refused by it
 abbrev pub Passes35 : State → List ℕ → Type 0
