@@ -109,15 +109,13 @@ fn read_hex(number: &[u8]) -> Option<u8> {
 
 /// One to three digits, at most 255.
 fn read_vpid(value: &[u8]) -> Option<u8> {
-    let digits = (1..=3).contains(&value.len()) && value.iter().all(u8::is_ascii_digit);
+    if !(1..=3).contains(&value.len()) || !value.iter().all(u8::is_ascii_digit) {
+        return None;
+    }
     let code = value
         .iter()
         .fold(0, |code: u16, octet| code * 10 + (octet & 0x0F) as u16);
-    if digits {
-        u8::try_from(code).ok()
-    } else {
-        None
-    }
+    u8::try_from(code).ok()
 }
 
 /// Octets of `DID_SDID={0x61,0x02}`.
