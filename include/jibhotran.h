@@ -31,6 +31,9 @@
 extern "C" {
 #endif
 
+/* The library's version, which the programs print by --version. */
+#define JIBHOTRAN_VERSION "4.14.0"
+
 /* Numbers that an answer needs, and a state. */
 #define JIBHOTRAN_ANSWER 9
 #define JIBHOTRAN_STATE 15

@@ -109,6 +109,7 @@ fn the_constants_agree() {
     let defined: BTreeMap<&str, u64> = HEADER
         .lines()
         .filter_map(|line| line.strip_prefix("#define JIBHOTRAN_")?.split_once(' '))
+        .filter(|(_, value)| !value.starts_with('"'))
         .map(|(name, value)| (name, value.parse().unwrap()))
         .collect();
     let expected = [

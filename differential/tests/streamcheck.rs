@@ -108,7 +108,8 @@ fn arguments() {
     put_frame(&octets, &mut input);
     for (arguments, file, layout) in [
         (&["older"][..], "older", Layout::Rfc8331),
-        (&["name", "old"], "name", Layout::Rfc8331),
+        (&["./old"], "old", Layout::Rfc8331),
+        (&["./-x"], "-x", Layout::Rfc8331),
         (&["old", "old"], "old", Layout::Draft2015),
         (&["old", "name"], "name", Layout::Draft2015),
     ] {

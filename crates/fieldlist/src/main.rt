@@ -4,10 +4,12 @@ ghost use lib.ListN.{length};
 ghost use Rattle.turns.specs.Turns.{Ended, Enough};
 use frames::MAX_FRAME;
 use listing::session::FIELD_ROOM;
+use program::arguments::file_at;
 use program::arguments::layout_told;
 use program::arguments::open_input;
 use program::buffers::is_done;
 use program::buffers::turns_left;
+use program::options::may_start;
 use turns::close;
 use turns::start;
 use turns::turn;
@@ -34,8 +36,26 @@ fn list(layout: Layout, fd: i32, input: &mut [u8], store: &mut [u16], out: &mut 
     is_done(close(run, input, out))
 }
 
+// Whether the work is to be done: not where an option asks for something else, nor where the arguments are too many.
+fn starts(layout: Layout) -> bool {
+    may_start(
+        b"fieldlist",
+        b"Usage: fieldlist [old] [FILE]\n\
+          Lists the packets and the fields of a recorded stream, frames of RFC 4571 with RTP packets of RFC 8331,\n\
+          from FILE or from standard input.\n\
+          \x20\x20old        packets are laid out as in the drafts of 2015\n\
+          \x20\x20--help     print this and end\n\
+          \x20\x20--version  print the version and end\n\
+          A file whose name begins with - is given as ./-x, one that is named old as ./old.\n",
+        file_at(layout),
+    )
+}
+
 fn main() {
     let layout = layout_told();
+    if !starts(layout) {
+        return;
+    }
     let fd = open_input(layout);
     if fd < 0 {
         return;

@@ -1,2 +1,4 @@
 pub mod BufferLaws
+pub mod Examples
+pub mod OptionLaws
 pub mod RunLaws

@@ -1,4 +1,5 @@
 // What a program is told: `old` for the drafts' layout, and a file.
+use libc::ENAMETOOLONG;
 use libc::STDIN_FILENO;
 use wire::layout::Layout;
 
@@ -23,20 +24,40 @@ pub fn layout_told() -> Layout {
     Layout::Rfc8331
 }
 
-// Standard input, or the file that the argument names, which stands behind `old`. One that can't be opened is told.
-pub fn open_input(layout: Layout) -> i32 {
-    let at = match layout {
+// Where the file stands among the arguments: behind `old`.
+pub fn file_at(layout: Layout) -> usize {
+    match layout {
         Layout::Rfc8331 => 1,
         Layout::Draft2015 => 2,
-    };
-    if os::arg_count() <= at {
-        return STDIN_FILENO;
     }
+}
+
+// Opens the file that an argument names. One that can't be is told: -1; so is a directory, whose read fails: -2. A name that is too long opens nothing.
+pub fn open_named(at: usize) -> i32 {
     let mut path = io::buffer();
     let length = os::arg(at, &mut path);
+    if os::errno() == ENAMETOOLONG {
+        os::fail(b"path");
+        return -1;
+    }
     let fd = os::open_read(&path[..length]);
     if fd < 0 {
         os::fail(&path[..length]);
+        return -1;
+    }
+    let mut nothing = [0u8; 1];
+    if libc::read(fd, &mut nothing[..0]) < 0 {
+        os::fail(&path[..length]);
+        return -2;
     }
     fd
+}
+
+// Standard input, or the file that the argument names.
+pub fn open_input(layout: Layout) -> i32 {
+    let at = file_at(layout);
+    if os::arg_count() <= at {
+        return STDIN_FILENO;
+    }
+    open_named(at)
 }

@@ -5,6 +5,8 @@ ghost use mathlib.Core.Bool.{cond};
 ghost use mathlib.Core.Path.{_≡_};
 ghost use lib.ListN.{length};
 ghost use Rattle.program.specs.Buffers.{Flushed, InBounds, Interrupted, ReadMore, Refilled, WrittenOf, advanced, begun, ended, isDone};
+use crate::progress::end;
+use crate::progress::show;
 use frames::move_to_front;
 use libc::EINTR;
 use libc::STDOUT_FILENO;
@@ -157,13 +159,16 @@ pub fn is_done(buffers: Buffers) -> bool
     buffers.filled == 0
 }
 
-// The turns that are left: a proved loop ends, and nothing says that a stream does, so they are counted down from a number that no run uses up.
+// The turns that are left: a proved loop ends, and nothing says that a stream does, so they are counted down from a number that no run uses up. They are
+// shown while the work is long.
 pub fn turns_left(turns: u64, open: bool) -> u64
     requires { ⌜ 0 < turns ⌝ }
     ensures { λ r. ⌜ r ≡ cond «open» (turns - 1) 0 ⌝ }
 {
     if open {
+        show(turns);
         return turns - 1;
     }
+    end(turns);
     0
 }

@@ -36,4 +36,4 @@ list-requires c κs =
 pub main-spec : {M : Type 1} → statement M
 main-spec =
     tie.close
-    (tie.spec (λ c κs. search needs) (λ c κs. search needs) (λ c. search needs) slice-aggregate-list slice-aggregate-list-2 slice-aggregate-list-3 list-requires (λ c. search needs))
+    (tie.spec (λ c κs. search needs) (λ c κs. search needs) (λ c. search needs) (λ c κs. search needs) (λ c. search needs) slice-aggregate-list slice-aggregate-list-2 slice-aggregate-list-3 list-requires (λ c. search needs))

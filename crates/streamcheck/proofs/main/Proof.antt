@@ -35,4 +35,4 @@ report-requires c κs =
 pub main-spec : {M : Type 1} → statement M
 main-spec =
     tie.close
-    (tie.spec (λ c κs. search needs) (λ c κs. search needs) (λ c. search needs) slice-aggregate-report slice-aggregate-report-2 slice-aggregate-report-3 report-requires (λ c. search needs))
+    (tie.spec (λ c κs. search needs) (λ c κs. search needs) (λ c. search needs) (λ c κs. search needs) (λ c. search needs) slice-aggregate-report slice-aggregate-report-2 slice-aggregate-report-3 report-requires (λ c. search needs))

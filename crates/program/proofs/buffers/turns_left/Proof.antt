@@ -5,11 +5,11 @@ use Rattle.program.proofs.buffers.turns_left.Statement.{statement}
 use Rattle.program.proofs.buffers.turns_left.Tie as tie
 
 returns : tie.Need-returns
-returns c = rw (c .if1 .taken)
+returns c = rw (c .before .if1 .taken)
 
 returns-2 : tie.Need-returns-2
-returns-2 c = rw (c .if1 .left)
+returns-2 c = rw (c .before .if1 .left)
 
 pub turns-left-spec : {M : Type 1} → statement M
 turns-left-spec = tie.close
-    (tie.spec (λ c. search needs) returns returns-2)
+    (tie.spec (λ c κs. search needs) (λ c. search needs) returns (λ c κs. search needs) returns-2)

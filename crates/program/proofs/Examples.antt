@@ -1,0 +1,26 @@
+-- Options, and words that are none.
+-- By computation.
+use mathlib.Core.Path.{_≡_, refl}
+use mathlib.Core.List.{[]}
+use Rattle.program.specs.declared.options.Told.the-variants as told
+use Rattle.program.specs.Options.{isText, optionOf}
+use Rattle.program.proofs.OptionLaws.{octets}
+
+pub options : (optionOf (octets "--help") ≡ told.Help)
+    × (optionOf (octets "--version") ≡ told.Version)
+    × (optionOf (octets "-h") ≡ told.Unknown)
+    × (optionOf (octets "-") ≡ told.Unknown)
+    × (optionOf (octets "--helper") ≡ told.Unknown)
+    × (optionOf (octets "--hel") ≡ told.Unknown)
+    × (optionOf (octets "--Version") ≡ told.Unknown)
+unfolding optionOf isText
+options = (refl, refl, refl, refl, refl, refl, refl)
+
+-- a file's name, also of one that is named like an option or like `old`
+pub operands : (optionOf (octets "./-x") ≡ told.Operand)
+    × (optionOf (octets "./old") ≡ told.Operand)
+    × (optionOf (octets "old") ≡ told.Operand)
+    × (optionOf (octets "x--help") ≡ told.Operand)
+    × (optionOf [] ≡ told.Operand)
+unfolding optionOf isText
+operands = (refl, refl, refl, refl, refl)

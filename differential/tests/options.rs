@@ -1,0 +1,190 @@
+//! What the programs do with their arguments: `--help` and `--version`, and on
+//! standard error what is wrong with them. The version is the header's.
+
+use std::fs;
+use std::path::{Path, PathBuf};
+use std::process::{Command, Output, Stdio};
+
+use differential::program::program;
+
+const PROGRAMS: [&str; 3] = ["fieldlist", "streamcheck", "fielddiff"];
+
+fn folder(name: &str) -> PathBuf {
+    let folder = Path::new(env!("CARGO_TARGET_TMPDIR")).join(name);
+    let _ = fs::remove_dir_all(&folder);
+    fs::create_dir_all(&folder).unwrap();
+    folder
+}
+
+fn run(name: &str, arguments: &[&str], folder: &Path) -> Output {
+    let output = Command::new(program(name))
+        .args(arguments)
+        .current_dir(folder)
+        .stdin(Stdio::null())
+        .output()
+        .unwrap();
+    assert!(output.status.success(), "{name} {arguments:?}");
+    output
+}
+
+/// Printed, and told on standard error.
+fn texts(output: Output) -> (String, String) {
+    let text = |octets| String::from_utf8(octets).unwrap();
+    (text(output.stdout), text(output.stderr))
+}
+
+/// Nothing is printed, and this is told.
+fn refuses(name: &str, arguments: &[&str], folder: &Path, told: &str) {
+    let expected = (String::new(), told.to_string());
+    assert_eq!(
+        texts(run(name, arguments, folder)),
+        expected,
+        "{name} {arguments:?}"
+    );
+}
+
+fn version() -> &'static str {
+    let header = include_str!("../../include/jibhotran.h");
+    let mut versions = header
+        .lines()
+        .filter_map(|line| line.strip_prefix("#define JIBHOTRAN_VERSION \""));
+    versions.next().unwrap().strip_suffix('"').unwrap()
+}
+
+/// The option may stand behind files, which are not opened.
+#[test]
+fn version_of_the_header() {
+    let folder = folder("options-version");
+    for name in PROGRAMS {
+        let expected = format!("{name} (Jibhotran) {}\n", version());
+        for arguments in [
+            &["--version"][..],
+            &["missing", "--version"],
+            &["old", "--version"],
+            &["a", "b", "c", "--version"],
+            &["--version", "--help"],
+        ] {
+            let printed = texts(run(name, arguments, &folder));
+            assert_eq!(printed, (expected.clone(), String::new()));
+        }
+    }
+}
+
+/// The manual's synopsis is the help's.
+#[test]
+fn help() {
+    let folder = folder("options-help");
+    for name in PROGRAMS {
+        let (printed, told) = texts(run(name, &["--help"], &folder));
+        assert_eq!(told, "");
+        let usage = match name {
+            "fielddiff" => "LEFT RIGHT",
+            _ => "[old] [FILE]",
+        };
+        assert!(printed.starts_with(&format!("Usage: {name} {usage}\n")));
+        for option in ["--help ", "--version "] {
+            assert!(printed.contains(&format!("\n  {option}")), "{printed}");
+        }
+        assert!(printed.ends_with(".\n"));
+        assert!(printed.lines().all(|line| line.len() <= 120), "{printed}");
+        let again = texts(run(name, &["missing", "--help", "-x"], &folder));
+        assert_eq!(again, (printed, String::new()));
+    }
+}
+
+/// Any other argument that begins with `-`, and nothing is read.
+#[test]
+fn unknown_options() {
+    let folder = folder("options-unknown");
+    for option in [
+        "-",
+        "--",
+        "-h",
+        "-x",
+        "-old",
+        "--hel",
+        "--helper",
+        "--Version",
+    ] {
+        fs::write(folder.join(option), [0]).unwrap();
+        let told = format!("{option}: unknown option, see --help\n");
+        for name in PROGRAMS {
+            refuses(name, &[option], &folder, &told);
+            refuses(name, &["old", option], &folder, &told);
+        }
+    }
+}
+
+#[test]
+fn too_many_arguments() {
+    let folder = folder("options-many");
+    for file in ["a", "b", "c", "old"] {
+        fs::write(folder.join(file), [0]).unwrap();
+    }
+    for (name, arguments) in [
+        ("fieldlist", &["a", "b"][..]),
+        ("fieldlist", &["a", "old"]),
+        ("fieldlist", &["old", "a", "b"]),
+        ("fieldlist", &["old", "old", "old"]),
+        ("streamcheck", &["a", "b"]),
+        ("streamcheck", &["old", "a", "b"]),
+        ("fielddiff", &["a", "b", "c"]),
+        ("fielddiff", &["old", "a", "b"]),
+    ] {
+        let told = format!("{name}: too many arguments, see --help\n");
+        refuses(name, arguments, &folder, &told);
+    }
+}
+
+/// A file of any name can be named.
+#[test]
+fn names_like_options() {
+    let folder = folder("options-names");
+    for (path, file) in [("./-x", "-x"), ("./old", "old"), ("./--help", "--help")] {
+        fs::write(folder.join(file), [0]).unwrap();
+        let listing = "fieldlist 1\ncut\nfresh=0 late=0 missing=0\n";
+        for (name, arguments, printed) in [
+            ("fieldlist", &[path][..], listing),
+            ("fieldlist", &["old", path], listing),
+            ("streamcheck", &[path], "0 cut\n"),
+            ("streamcheck", &["old", path], "0 cut\n"),
+            ("fielddiff", &[path, path], "0 refused 50 50\n"),
+        ] {
+            let expected = (printed.to_string(), String::new());
+            assert_eq!(texts(run(name, arguments, &folder)), expected);
+        }
+    }
+}
+
+/// `fielddiff` reads what cannot be opened as empty (02, K14), and tells it.
+#[test]
+fn files_that_cannot_be_read() {
+    let folder = folder("options-files");
+    fs::create_dir(folder.join("directory")).unwrap();
+    fs::write(folder.join("there"), [0]).unwrap();
+    let longest = "x/".repeat(2_047) + "y";
+    let (long, longer) = ("x".repeat(4_096), "x".repeat(5_000));
+    let missing = "missing: No such file or directory\n".to_string();
+    let too_long = "File name too long\n";
+    for (file, told) in [
+        ("missing", missing),
+        (&longest, format!("{longest}: No such file or directory\n")),
+        (&long, format!("{long}: {too_long}")),
+        (&longer, format!("path: {too_long}")),
+    ] {
+        for name in ["fieldlist", "streamcheck"] {
+            refuses(name, &[file], &folder, &told);
+            refuses(name, &["old", file], &folder, &told);
+        }
+        let left = ("0 refused 50 50\n".to_string(), told);
+        assert_eq!(texts(run("fielddiff", &[file, "there"], &folder)), left);
+        assert_eq!(texts(run("fielddiff", &["there", file], &folder)), left);
+    }
+    let told = "directory: Is a directory\n";
+    for name in ["fieldlist", "streamcheck"] {
+        refuses(name, &["directory"], &folder, told);
+        refuses(name, &["old", "directory"], &folder, told);
+    }
+    refuses("fielddiff", &["directory", "there"], &folder, told);
+    refuses("fielddiff", &["there", "directory"], &folder, told);
+}
