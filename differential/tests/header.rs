@@ -1,42 +1,138 @@
-//! The header: a C program that uses all of it, and the declarations in
-//! Rust, which must say the same.
+//! The header: C programs that use all of it, the examples in C and C++, and
+//! the declarations in Rust and the table of docs/FORMATS.md, which must say the same.
 
 use std::collections::BTreeMap;
-use std::path::Path;
+use std::fs;
+use std::path::{Path, PathBuf};
 use std::process::Command;
 
+use reference::depacketizer::{arrive, open, Answer};
+use reference::file::{write, START};
+use reference::frames::{Frame, Frames};
+use reference::packet::{check, MAX_PACKET};
+use reference::{outlet, sdp, Layout};
+
 const HEADER: &str = include_str!("../../include/jibhotran.h");
+const FORMATS: &str = include_str!("../../docs/FORMATS.md");
 const DECLARATIONS: &str = include_str!("../src/archive.rs");
 
-/// `header.c` compiled with the header, linked with the archive and run.
-#[test]
-fn a_c_program() {
-    let program = Path::new(env!("CARGO_TARGET_TMPDIR")).join("header");
-    let here = Path::new(env!("CARGO_MANIFEST_DIR"));
-    let compiled = Command::new("cc")
-        .args([
-            "-std=c11",
-            "-Wall",
-            "-Wextra",
-            "-Wpedantic",
-            "-Werror",
-            "-I",
-        ])
-        .arg(here.join("../include"))
-        .arg(here.join("tests/header.c"))
+fn root() -> PathBuf {
+    Path::new(env!("CARGO_MANIFEST_DIR")).join("..")
+}
+
+/// A source compiled with the header, as strictly as compilers are told, and
+/// linked with the archives.
+fn compiled(compiler: &str, standard: &str, source: &str) -> PathBuf {
+    let source = root().join(source);
+    let name = source
+        .file_name()
+        .unwrap()
+        .to_str()
+        .unwrap()
+        .replace('.', "-");
+    let program = Path::new(env!("CARGO_TARGET_TMPDIR")).join(name);
+    let compiled = Command::new(compiler)
+        .arg(standard)
+        .args(["-Wall", "-Wextra", "-Wpedantic", "-Werror", "-I"])
+        .arg(root().join("include"))
+        .arg(source)
         .args(
             ["libcapi.a", "liboutlet_capi.a"].map(|name| Path::new(env!("CAPI_FOLDER")).join(name)),
         )
         .arg("-o")
         .arg(&program)
         .output()
-        .expect("the C compiler `cc`");
+        .unwrap_or_else(|e| panic!("the compiler `{compiler}`: {e}"));
     let errors = String::from_utf8_lossy(&compiled.stderr);
     assert!(compiled.status.success(), "{errors}");
-    let output = Command::new(&program).output().unwrap();
+    program
+}
+
+/// What a program prints.
+fn printed(command: &mut Command) -> String {
+    let output = command.output().unwrap();
     assert!(output.status.success(), "{:?}", output.status);
-    let printed = String::from_utf8(output.stdout).unwrap();
-    assert_eq!(printed, include_str!("header.txt"));
+    String::from_utf8(output.stdout).unwrap()
+}
+
+/// Every function through a pointer of its type.
+#[test]
+fn a_c_program() {
+    let program = compiled("cc", "-std=c11", "differential/tests/header.c");
+    assert_eq!(
+        printed(&mut Command::new(program)),
+        include_str!("header.txt")
+    );
+}
+
+/// Texts, structs, sizes at their borders, and what an empty slice means.
+#[test]
+fn names_and_structs() {
+    let program = compiled("cc", "-std=c11", "differential/tests/names.c");
+    assert_eq!(
+        printed(&mut Command::new(program)),
+        include_str!("names.txt")
+    );
+}
+
+/// The fields of a recorded stream as the reference files them, and how many
+/// packets were fresh, late and missing.
+fn filed(frames: &[u8]) -> (Vec<u8>, String) {
+    let (mut file, mut counts) = (START.to_vec(), String::new());
+    let mut store = vec![0; 36_864];
+    let mut out = vec![0; 49_159];
+    let mut state = None;
+    for frame in Frames::new(frames) {
+        let Frame::Packet(packet) = frame else { break };
+        if state.is_none() {
+            let Ok(first) = check(Layout::Rfc8331, packet) else {
+                continue;
+            };
+            state = open(first.summary.source, first.summary.payload_type).ok();
+        }
+        let (next, answer) = arrive(state.unwrap(), Layout::Rfc8331, packet, &mut store);
+        state = Some(next);
+        counts = format!(
+            "fresh={} late={} missing={}\n",
+            next.fresh, next.late, next.missing
+        );
+        if let Answer::Whole {
+            timestamp,
+            f,
+            cells,
+            ..
+        } = answer
+        {
+            let size = write(timestamp, f, &store[..cells], &mut out).unwrap();
+            file.extend(&out[..size]);
+        }
+    }
+    (file, counts)
+}
+
+/// The examples gather recorded streams, and file what the reference does.
+#[test]
+fn the_examples() {
+    let programs = [
+        compiled("cc", "-std=c11", "examples/gather.c"),
+        compiled("c++", "-std=c++17", "examples/gather.cpp"),
+    ];
+    let out = Path::new(env!("CARGO_TARGET_TMPDIR")).join("gathered.anf");
+    for frames in [
+        "crates/fieldlist/stdin",
+        "differential/tests/power-cycle.rtp",
+    ] {
+        let frames = root().join(frames);
+        let (file, counts) = filed(&fs::read(&frames).unwrap());
+        assert!(file.len() > START.len());
+        for program in &programs {
+            assert_eq!(
+                printed(Command::new(program).arg(&frames).arg(&out)),
+                counts
+            );
+            assert_eq!(fs::read(&out).unwrap(), file);
+        }
+    }
 }
 
 /// A parameter's name and its type as Rust says it.
@@ -104,14 +200,17 @@ fn the_declarations_agree() {
     assert_eq!(in_c, in_rust);
 }
 
-#[test]
-fn the_constants_agree() {
-    let defined: BTreeMap<&str, u64> = HEADER
+/// The numbers that the header defines.
+fn defined() -> BTreeMap<&'static str, u64> {
+    HEADER
         .lines()
         .filter_map(|line| line.strip_prefix("#define JIBHOTRAN_")?.split_once(' '))
-        .filter(|(_, value)| !value.starts_with('"'))
-        .map(|(name, value)| (name, value.parse().unwrap()))
-        .collect();
+        .filter_map(|(name, value)| Some((name, value.parse().ok()?)))
+        .collect()
+}
+
+#[test]
+fn the_constants_agree() {
     let expected = [
         ("ANSWER", differential::ANSWER as u64),
         ("STATE", differential::STATE as u64),
@@ -128,6 +227,52 @@ fn the_constants_agree() {
         ("OVERFULL", differential::OVERFULL),
         ("WHOLE", differential::WHOLE),
         ("NO_VPID", differential::NO_VPID as u64),
+        ("PACKET_OCTETS", MAX_PACKET as u64),
+        ("FILE_HEAD_OCTETS", START.len() as u64),
+        ("PAIR_OCTETS", 2 * sdp::MAX_PAIRS as u64),
+        ("CHANNELS", outlet::CHANNELS as u64),
     ];
-    assert_eq!(defined, expected.into_iter().collect());
+    let defined = defined();
+    for (name, value) in expected {
+        assert_eq!(defined.get(name), Some(&value), "{name}");
+    }
+    // The first five `names.c` tries at their borders.
+    let tried = [
+        "PACKET_CELLS",
+        "FIELD_CELLS",
+        "LINE_CELLS",
+        "FIELD_OCTETS",
+        "TEXT_OCTETS",
+    ];
+    let places = ["RECORD_HEAD", "COUNT_CELL", "INDEX_CELL"];
+    let version = ["VERSION_MAJOR", "VERSION_MINOR", "VERSION_PATCH"];
+    let others = [&tried[..], &places, &version].concat();
+    assert_eq!(defined.len(), expected.len() + others.len());
+    assert!(others.iter().all(|name| defined.contains_key(name)));
+    let numbers = version.map(|name| defined[name].to_string());
+    let line = format!("#define JIBHOTRAN_VERSION \"{}\"\n", numbers.join("."));
+    assert!(HEADER.contains(&line));
+}
+
+/// The enum has FORMATS' numbers and names, without the reserved one, and each
+/// has a text.
+#[test]
+fn the_refusals_agree() {
+    let in_c: BTreeMap<u8, &str> = HEADER
+        .lines()
+        .filter_map(|line| line.strip_prefix("    JIBHOTRAN_")?.split_once(" = "))
+        .map(|(name, value)| (value.trim_end_matches(',').parse().unwrap(), name))
+        .collect();
+    let mut in_formats: BTreeMap<u8, &str> = FORMATS
+        .lines()
+        .filter_map(|line| line.strip_prefix("| ")?.split_once(" | `"))
+        .filter_map(|(number, rest)| Some((number.parse().ok()?, rest.split_once('`')?.0)))
+        .collect();
+    assert_eq!(in_formats.remove(&22), Some("PACKET_TOO_LONG"));
+    in_formats.insert(0, "ACCEPTED");
+    assert_eq!(in_c, in_formats);
+    for number in in_c.keys() {
+        let text = format!("\n{number} ");
+        assert!(include_str!("names.txt").contains(&text), "{number}");
+    }
 }
