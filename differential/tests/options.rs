@@ -7,7 +7,7 @@ use std::process::{Command, Output, Stdio};
 
 use differential::program::program;
 
-const PROGRAMS: [&str; 3] = ["fieldlist", "streamcheck", "fielddiff"];
+const PROGRAMS: [&str; 4] = ["fieldlist", "streamcheck", "fielddiff", "fieldsave"];
 
 fn folder(name: &str) -> PathBuf {
     let folder = Path::new(env!("CARGO_TARGET_TMPDIR")).join(name);
@@ -79,6 +79,7 @@ fn help() {
         assert_eq!(told, "");
         let usage = match name {
             "fielddiff" => "LEFT RIGHT",
+            "fieldsave" => "[old] FRAMES OUT",
             _ => "[old] [FILE]",
         };
         assert!(printed.starts_with(&format!("Usage: {name} {usage}\n")));

@@ -12,6 +12,7 @@ pub mod coverage;
 pub mod depacketizer;
 pub mod fielddiff;
 pub mod fieldlist;
+pub mod fieldsave;
 pub mod file;
 pub mod frames;
 pub mod layout;
@@ -28,6 +29,7 @@ pub mod streamcheck;
 
 pub use fielddiff::fielddiff;
 pub use fieldlist::fieldlist;
+pub use fieldsave::fieldsave;
 pub use layout::Layout;
 pub use refusal::Refusal;
 pub use streamcheck::streamcheck;

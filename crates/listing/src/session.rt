@@ -99,7 +99,7 @@ fn opening(layout: Layout, octets: &[u8], checked: Checked) -> Opened
 }
 
 // The layout that packets are told.
-fn layout_of(session: Session) -> Layout
+pub fn layout_of(session: Session) -> Layout
     ensures { λ r. ⌜ r ≡ listing.layoutIn session ⌝ }
 {
     match session {
@@ -109,7 +109,7 @@ fn layout_of(session: Session) -> Layout
 }
 
 // The depacketizer that a packet arrives at.
-fn enter(session: Session, layout: Layout, octets: &[u8], checked: Checked) -> Opened
+pub fn enter(session: Session, layout: Layout, octets: &[u8], checked: Checked) -> Opened
     requires { ⌜ checked ≡ checkedOf layout (now octets) (readContent layout (now octets)) ⌝ }
     ensures { λ r. ⌜ r ≡ listing.entered session (readContent layout (now (octets .entry))) ⌝ }
 {

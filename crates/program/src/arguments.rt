@@ -1,4 +1,5 @@
 // What a program is told: `old` for the drafts' layout, and a file.
+ghost use Prim.Native.Nat.{_≤_};
 use libc::ENAMETOOLONG;
 use libc::STDIN_FILENO;
 use wire::layout::Layout;
@@ -25,7 +26,9 @@ pub fn layout_told() -> Layout {
 }
 
 // Where the file stands among the arguments: behind `old`.
-pub fn file_at(layout: Layout) -> usize {
+pub fn file_at(layout: Layout) -> usize
+    ensures { λ r. ⌜ r ≤ 2 ⌝ }
+{
     match layout {
         Layout::Rfc8331 => 1,
         Layout::Draft2015 => 2,
@@ -49,6 +52,21 @@ pub fn open_named(at: usize) -> i32 {
     if libc::read(fd, &mut nothing[..0]) < 0 {
         os::fail(&path[..length]);
         return -2;
+    }
+    fd
+}
+
+// Makes the file that an argument names, or tells why not: -1. A file that is there is not written over.
+pub fn create_named(at: usize) -> i32 {
+    let mut path = io::buffer();
+    let length = os::arg(at, &mut path);
+    if os::errno() == ENAMETOOLONG {
+        os::fail(b"path");
+        return -1;
+    }
+    let fd = os::create(&path[..length]);
+    if fd < 0 {
+        os::fail(&path[..length]);
     }
     fd
 }

@@ -64,25 +64,25 @@ pub fn finish(buffers: Buffers, filled: usize) -> Buffers
 }
 
 // Every write goes through here; one that fails is told.
-fn write_text(text: &[u8]) -> Written
+fn write_text(to: i32, text: &[u8]) -> Written
     ensures { λ r. ⌜ WrittenOf r (length (now (text .entry))) ⌝ }
 {
-    if io::write_all(STDOUT_FILENO, text) {
+    if io::write_all(to, text) {
         return Written::All(text.len());
     }
     os::fail(b"write");
     Written::Failed
 }
 
-// Writes the text that waits. Where that fails it still waits, and the run ends.
-pub fn flush(buffers: Buffers, out: &[u8]) -> Buffers
+// Writes the text that waits, to a file that is open. Where that fails it still waits, and the run ends.
+pub fn flush_to(to: i32, buffers: Buffers, out: &[u8]) -> Buffers
     requires { ⌜ buffers .filled ≤ length (now out) ⌝ }
     ensures { λ r. ⌜ Flushed buffers r ⌝ }
 {
     let at = buffers.at;
     let end = buffers.end;
     let filled = buffers.filled;
-    let written = write_text(&out[..filled]);
+    let written = write_text(to, &out[..filled]);
     match written {
         Written::All(n) => Buffers {
             at,
@@ -97,6 +97,14 @@ pub fn flush(buffers: Buffers, out: &[u8]) -> Buffers
             open: false,
         },
     }
+}
+
+// Writes it to standard output.
+pub fn flush(buffers: Buffers, out: &[u8]) -> Buffers
+    requires { ⌜ buffers .filled ≤ length (now out) ⌝ }
+    ensures { λ r. ⌜ Flushed buffers r ⌝ }
+{
+    flush_to(STDOUT_FILENO, buffers, out)
 }
 
 // Whether a signal interrupted a read, which is then tried again; any other that failed is told.
@@ -135,17 +143,25 @@ fn read_more(fd: i32, buffers: Buffers, input: &mut [u8]) -> Buffers
 }
 
 // Writes first, so that nothing waits for more input.
-pub fn refill(fd: i32, buffers: Buffers, input: &mut [u8], out: &[u8]) -> Buffers
+pub fn refill_to(fd: i32, to: i32, buffers: Buffers, input: &mut [u8], out: &[u8]) -> Buffers
     requires { ⌜ InBounds buffers (length (now input)) (length (now out)) ⌝ }
     requires { ⌜ buffers .end - buffers .at < length (now input) ⌝ }
     ensures { λ r. ⌜ Refilled buffers (now (input .entry)) r (now (input .exit)) ⌝ }
 {
-    let flushed = flush(buffers, out);
+    let flushed = flush_to(to, buffers, out);
     let open = flushed.open;
     if !open {
         return flushed;
     }
     read_more(fd, flushed, input)
+}
+
+pub fn refill(fd: i32, buffers: Buffers, input: &mut [u8], out: &[u8]) -> Buffers
+    requires { ⌜ InBounds buffers (length (now input)) (length (now out)) ⌝ }
+    requires { ⌜ buffers .end - buffers .at < length (now input) ⌝ }
+    ensures { λ r. ⌜ Refilled buffers (now (input .entry)) r (now (input .exit)) ⌝ }
+{
+    refill_to(fd, STDOUT_FILENO, buffers, input, out)
 }
 
 // Whether the input has ended and all text is written.
@@ -160,15 +176,31 @@ pub fn is_done(buffers: Buffers) -> bool
 }
 
 // The turns that are left: a proved loop ends, and nothing says that a stream does, so they are counted down from a number that no run uses up. They are
-// shown while the work is long.
-pub fn turns_left(turns: u64, open: bool) -> u64
+// shown while the work is long, beside what the program prints, if it does.
+fn count_down(turns: u64, open: bool, prints: bool) -> u64
     requires { ⌜ 0 < turns ⌝ }
     ensures { λ r. ⌜ r ≡ cond «open» (turns - 1) 0 ⌝ }
 {
     if open {
-        show(turns);
+        show(turns, prints);
         return turns - 1;
     }
-    end(turns);
+    end(turns, prints);
     0
+}
+
+// For a program that prints on standard output.
+pub fn turns_left(turns: u64, open: bool) -> u64
+    requires { ⌜ 0 < turns ⌝ }
+    ensures { λ r. ⌜ r ≡ cond «open» (turns - 1) 0 ⌝ }
+{
+    count_down(turns, open, true)
+}
+
+// For one that prints nothing.
+pub fn silent_turns_left(turns: u64, open: bool) -> u64
+    requires { ⌜ 0 < turns ⌝ }
+    ensures { λ r. ⌜ r ≡ cond «open» (turns - 1) 0 ⌝ }
+{
+    count_down(turns, open, false)
 }

@@ -87,3 +87,12 @@ pub fn may_start(name: &[u8], help: &[u8], most: usize) -> bool {
     complain(name, b": too many arguments, see --help\n");
     false
 }
+
+// Whether a program is told so many words; fewer are told on standard error.
+pub fn has_words(name: &[u8], least: usize) -> bool {
+    if os::arg_count() > least {
+        return true;
+    }
+    complain(name, b": too few arguments, see --help\n");
+    false
+}

@@ -1,20 +1,21 @@
-// Long work shows that it goes on: how many turns were made, on standard error, where that is a terminal and the output goes elsewhere.
+// Long work shows that it goes on: how many turns were made, on standard error, where that is a terminal and what is printed goes elsewhere.
 use libc::STDERR_FILENO;
 use libc::STDOUT_FILENO;
 
 // Turns from one time to the next.
 const EVERY: u64 = 262144;
 
-fn is_watched() -> bool {
-    (libc::isatty(STDERR_FILENO) == 1) & (libc::isatty(STDOUT_FILENO) != 1)
+fn is_watched(prints: bool) -> bool {
+    let beside = prints & (libc::isatty(STDOUT_FILENO) == 1);
+    (libc::isatty(STDERR_FILENO) == 1) & !beside
 }
 
 // So many turns are left of u64::MAX.
-pub(crate) fn show(turns: u64) {
+pub(crate) fn show(turns: u64, prints: bool) {
     if turns % EVERY != 0 {
         return;
     }
-    if is_watched() {
+    if is_watched(prints) {
         io::write_all(STDERR_FILENO, b"\r");
         io::print_decimal(STDERR_FILENO, u64::MAX - turns);
         io::write_all(STDERR_FILENO, b" steps");
@@ -22,11 +23,11 @@ pub(crate) fn show(turns: u64) {
 }
 
 // Behind the last number that was shown.
-pub(crate) fn end(turns: u64) {
+pub(crate) fn end(turns: u64, prints: bool) {
     if u64::MAX - turns < EVERY {
         return;
     }
-    if is_watched() {
+    if is_watched(prints) {
         io::write_all(STDERR_FILENO, b"\n");
     }
 }

@@ -1,0 +1,104 @@
+// Files the whole fields of RTP packets in frames of RFC 4571 as a field file (01, "Field file"): `fieldsave [old] FRAMES OUT`. The frames and the fields
+// are the library's; this program moves octets.
+ghost use lib.ListN.{length};
+ghost use Rattle.filing_turns.specs.Turns.{Ended, Enough};
+use filing::FIELD_ROOM;
+use filing_turns::start;
+use filing_turns::turn;
+use frames::MAX_FRAME;
+use libc::STDERR_FILENO;
+use program::arguments::create_named;
+use program::arguments::file_at;
+use program::arguments::layout_told;
+use program::arguments::open_named;
+use program::buffers::Buffers;
+use program::buffers::is_done;
+use program::buffers::silent_turns_left;
+use program::options::has_words;
+use program::options::may_start;
+use wire::layout::Layout;
+use wire::limit::MAX_FIELD_CELLS;
+
+// Octets of the buffers: some frames are read at once, and a field may wait while room is left for another.
+const INPUT_SIZE: usize = 4 * MAX_FRAME;
+
+const FILE_SIZE: usize = 2 * FIELD_ROOM;
+
+// Octets that are left where the input has ended are a broken last frame.
+fn tell_cut(buffers: Buffers) {
+    if is_done(buffers) {
+        if buffers.at < buffers.end {
+            io::write_all(STDERR_FILENO, b"the last frame is cut\n");
+        }
+    }
+}
+
+// Whether the file was written whole.
+fn file(
+    layout: Layout,
+    fd: i32,
+    to: i32,
+    input: &mut [u8],
+    store: &mut [u16],
+    out: &mut [u8],
+) -> bool
+    requires { ⌜ Enough (length (now input)) (length (now store)) (length (now out)) ⌝ }
+    ensures { λ r. ⌜ Ended layout (now (store .entry)) (now (store .exit)) (now (out .exit)) r ⌝ }
+{
+    let mut run = start(layout, out);
+    let mut turns = u64::MAX;
+    while turns > 0 {
+        run = turn(fd, to, run, input, store, out);
+        let buffers = run.buffers;
+        turns = silent_turns_left(turns, buffers.open);
+    }
+    let buffers = run.buffers;
+    tell_cut(buffers);
+    is_done(buffers)
+}
+
+// Some file systems tell only here that a write has failed.
+fn close_file(to: i32) {
+    if libc::close(to) < 0 {
+        os::fail(b"close");
+    }
+}
+
+// Whether the work is to be done: not where an option asks for something else, nor where there are too many arguments or too few.
+fn starts(layout: Layout) -> bool {
+    let words = file_at(layout) + 1;
+    if !may_start(
+        b"fieldsave",
+        b"Usage: fieldsave [old] FRAMES OUT\n\
+          Files the whole fields of a recorded stream, frames of RFC 4571 with RTP packets of RFC 8331, in a new field file OUT.\n\
+          \x20\x20old        packets are laid out as in the drafts of 2015\n\
+          \x20\x20--help     print this and end\n\
+          \x20\x20--version  print the version and end\n\
+          A file whose name begins with - is given as ./-x, one that is named old as ./old.\n",
+        words,
+    ) {
+        return false;
+    }
+    has_words(b"fieldsave", words)
+}
+
+fn main() {
+    let layout = layout_told();
+    if !starts(layout) {
+        return;
+    }
+    let at = file_at(layout);
+    let fd = open_named(at);
+    if fd < 0 {
+        return;
+    }
+    let to = create_named(at + 1);
+    if to < 0 {
+        return;
+    }
+    let mut input = [0u8; INPUT_SIZE];
+    let mut store = [0u16; MAX_FIELD_CELLS];
+    let mut out = [0u8; FILE_SIZE];
+    file(layout, fd, to, &mut input, &mut store, &mut out);
+    close_file(to);
+}

@@ -1,0 +1,127 @@
+// What `fieldsave` files: frames, and the whole fields that their packets give, as a field file (01, "Field file").
+//
+// `fieldfile_writer::begin` and `file_frame` are the entry points. The session is that of `listing`.
+ghost use mathlib.Core.Path.{_≡_};
+ghost use Prim.Native.Nat.{_≤_, min};
+ghost use lib.ListN.{length};
+ghost use Rattle.frames.specs.Frames.{front};
+ghost use Rattle.text.specs.Put.{Put};
+ghost use Rattle.anf.specs.File.{fieldsOctets, writtenVersion};
+ghost use Rattle.listing.specs.Answers.{ListedFits, storeAfter};
+ghost use Rattle.listing.specs.Session.{turn};
+ghost use Rattle.filing.specs.Answers.{filedOf, octetsIn, outAfter, roomy};
+ghost use Rattle.filing.specs.Filing.{fieldIn, fieldRoom, filed, handedBy};
+use anf::format::HEADER_SIZE_2;
+use depacketizer::state::Opened;
+use fieldfile_writer::write_field;
+use frames::Front;
+use frames::LENGTH_SIZE;
+use frames::frame_at;
+use listing::session::Listed;
+use listing::session::Reply;
+use listing::session::Session;
+use listing::session::Turn;
+use listing::session::enter;
+use listing::session::layout_of;
+use rtp::check::check;
+use stream::state::Answer;
+use stream::state::Field;
+use wire::limit::MAX_FIELD_CELLS;
+use wire::refusal::Refusal;
+use wire::written::Written;
+
+// Octets that any field fits in.
+pub const FIELD_ROOM: usize = HEADER_SIZE_2 + 3 * MAX_FIELD_CELLS / 2;
+
+fn least(a: usize, b: usize) -> usize
+    ensures { λ r. ⌜ r ≡ min a b ⌝ }
+{
+    if a < b { a } else { b }
+}
+
+// The octets that were written.
+pub fn octets_of(written: Written) -> usize
+    ensures { λ r. ⌜ r ≡ octetsIn written ⌝ }
+{
+    match written {
+        Written::Octets(octets) => octets.0,
+        Written::Refused(_) => 0,
+    }
+}
+
+// The field, where the file takes it.
+fn put_field(field: Field, store: &[u16], out: &mut [u8]) -> usize
+    requires { ⌜ fieldRoom ≤ length (now out) ⌝ }
+    ensures { λ r. ⌜ Put (now (out .entry)) 0 (fieldsOctets writtenVersion (fieldIn field (now (store .entry)))) (now (out .exit)) r ⌝ }
+{
+    let timestamp = field.timestamp;
+    let end = least(field.cells, store.len());
+    octets_of(write_field(timestamp, field.f, &store[..end], out))
+}
+
+// The field that an answer hands out.
+fn put_answer(answer: Answer, store: &[u16], out: &mut [u8]) -> usize
+    requires { ⌜ fieldRoom ≤ length (now out) ⌝ }
+    ensures { λ r. ⌜ Put (now (out .entry)) 0 (fieldsOctets writtenVersion (handedBy answer (now (store .entry)))) (now (out .exit)) r ⌝ }
+{
+    match answer {
+        Answer::Whole(field) => put_field(field, store, out),
+        Answer::Skipped => 0,
+        Answer::Held => 0,
+        Answer::Mixed => 0,
+        Answer::Overfull => 0,
+        Answer::Refused(_) => 0,
+    }
+}
+
+fn file_packet(session: Session, octets: &[u8], store: &mut [u16], out: &mut [u8]) -> Reply
+    requires { ⌜ fieldRoom ≤ length (now out) ⌝ }
+    ensures { λ r. ⌜ r .session ≡ turn session (now (octets .entry)) (now (store .entry)) .session ⌝ }
+    ensures { λ r. ⌜ now (store .exit) ≡ turn session (now (octets .entry)) (now (store .entry)) .store ⌝ }
+    ensures { λ r. ⌜ Put (now (out .entry)) 0 (filed session (now (octets .entry)) (now (store .entry))) (now (out .exit)) (r .length) ⌝ }
+{
+    let layout = layout_of(session);
+    let checked = check(layout, octets);
+    let opened = enter(session, layout, octets, checked);
+    let Opened::Open(depacketizer) = opened else {
+        return Reply { session, length: 0 };
+    };
+    let arrival = depacketizer.arrive(layout, octets, store);
+    let answer = arrival.answer;
+    let next = arrival.state;
+    let length = put_answer(answer, store, out);
+    Reply {
+        session: Session::Open(layout, next),
+        length,
+    }
+}
+
+// The frame at the front of the octets: its packet arrives, and the field that it completes goes to the first octets of `out`.
+pub fn file_frame(session: Session, octets: &[u8], store: &mut [u16], out: &mut [u8]) -> Listed
+    ensures { λ r. ⌜ r ≡ filedOf (roomy (length (now (out .entry)))) session (front (now (octets .entry))) (now (store .entry)) ⌝ }
+    ensures { λ r. ⌜ now (store .exit) ≡ storeAfter (roomy (length (now (out .entry)))) session (front (now (octets .entry))) (now (store .entry)) ⌝ }
+    ensures { λ r. ⌜ now (out .exit) ≡ outAfter (roomy (length (now (out .entry)))) session (front (now (octets .entry))) (now (store .entry)) (now (out .entry)) ⌝ }
+    ensures { λ r. ⌜ ListedFits r (length (now (octets .entry))) (length (now (out .entry))) ⌝ }
+{
+    if out.len() < FIELD_ROOM {
+        return Listed::Refused(Refusal {
+            number: Refusal::ROOM_TOO_SMALL,
+            index: 0,
+        });
+    }
+    let front = frame_at(octets);
+    match front {
+        Front::End => Listed::NoFrame,
+        Front::Cut => Listed::NoFrame,
+        Front::Packet(size) => {
+            let end = LENGTH_SIZE + size;
+            let reply = file_packet(session, &octets[LENGTH_SIZE..end], store, out);
+            let next = reply.session;
+            Listed::Frame(Turn {
+                session: next,
+                used: end,
+                length: reply.length,
+            })
+        }
+    }
+}

@@ -1,0 +1,64 @@
+-- What a file of `fieldsave` is to who reads it.
+use mathlib.Core.Path.{_≡_}
+use mathlib.Core.List.{List, [], _∷_, _++_}
+use Prim.Native.Nat.{ℕ}
+use lib.ListN.{length, take}
+use Rattle.wire.specs.Bits.{Below}
+use Rattle.wire.specs.Layout.{Layout}
+use Rattle.wire.specs.Packet.{readContent}
+use Rattle.anf.specs.File.{FieldContent, endOfFile, readFile, writtenVersion}
+use Rattle.anf.specs.Cut.{cutFile}
+use Rattle.frames.specs.Frames.{frames}
+use Rattle.depacketizer.specs.declared.state.Opened.{Opened}
+use Rattle.depacketizer.specs.declared.state.Opened.the-variants as opened
+use Rattle.stream.specs.declared.state.Answer.{Answer}
+use Rattle.stream.specs.declared.state.Answer.the-variants as answer
+use Rattle.stream.specs.declared.state.Field.{Field}
+use Rattle.stream.specs.Step.{step}
+use Rattle.listing.specs.declared.session.Session.{Session}
+use Rattle.listing.specs.declared.session.Session.the-variants as session
+use Rattle.listing.specs.Session.{entered, layoutIn, turn}
+use Rattle.filing.specs.Filing.{fieldsIn, filing}
+
+-- THE FILE READS BACK: the fields that were handed out, in order, and then 54
+abbrev pub ReadsBack : Type 0
+ReadsBack = (L : Layout) (store input : List ℕ) → Below 256 input
+    → readFile (filing L store input) ≡ record { fields = fieldsIn L store input; end = endOfFile }
+
+-- A FILE THAT IS CUT, as by a full disk, reads as the fields that stand whole in it, and then ends in the refusal of the place of the cut
+abbrev pub CutReads : Type 0
+CutReads = (L : Layout) (store input : List ℕ) → Below 256 input → (n : ℕ)
+    → readFile (take n (filing L store input)) ≡ cutFile writtenVersion n (fieldsIn L store input)
+
+-- the fields that are handed out, as the answers tell them (01: "whole, .. with timestamp, F, records, cells used")
+abbrev pub wholeBy : Answer → List Field
+wholeBy answer.Skipped = []
+wholeBy answer.Held = []
+wholeBy answer.Mixed = []
+wholeBy answer.Overfull = []
+wholeBy (answer.Whole x) = x ∷ []
+wholeBy (answer.Refused x) = []
+
+abbrev pub wholeAt : Layout → List ℕ → List ℕ → Opened → List Field
+wholeAt L octets store (opened.Refused x) = []
+wholeAt L octets store (opened.Open d) = wholeBy (step (d .state) L octets store .answer)
+
+abbrev pub wholesOf : Session → List ℕ → List (List ℕ) → List Field
+wholesOf s store [] = []
+wholesOf s store (p ∷ ps) =
+    wholeAt (layoutIn s) p store (entered s (readContent (layoutIn s) p)) ++ wholesOf (turn s p store .session) (turn s p store .store) ps
+
+-- one is filed: its timestamp, its F, and as many records as it has
+abbrev pub Filed : Field → FieldContent → Type 0
+Filed x k = (k .timestamp ≡ x .timestamp .0) × (k .f ≡ x .f) × (length (k .records) ≡ x .records)
+
+abbrev pub EachFiled : List Field → List FieldContent → Type 0
+EachFiled [] [] = Unit {0}
+EachFiled [] (k ∷ ks) = ⊥
+EachFiled (x ∷ xs) [] = ⊥
+EachFiled (x ∷ xs) (k ∷ ks) = Filed x k × EachFiled xs ks
+
+-- NONE IS LEFT OUT: every field that is handed out is filed, in order, and nothing else is. So no field is ever refused by the file
+abbrev pub NoneLeftOut : Type 0
+NoneLeftOut = (L : Layout) (store input : List ℕ) → Below 256 input
+    → EachFiled (wholesOf (session.Waiting L) store (frames input .packets)) (fieldsIn L store input)

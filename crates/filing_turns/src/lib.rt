@@ -1,0 +1,67 @@
+// What `fieldsave` does between a read and a write: it files a frame, writes the octets that wait, or reads more. Each function asks that places lie within
+// the buffers, and that these are large enough (`Enough`).
+ghost use Prim.Native.Nat.{_≤_};
+ghost use lib.ListN.{length};
+ghost use Rattle.filing.specs.Filing.{fieldRoom};
+ghost use Rattle.program.specs.Buffers.{InBounds};
+ghost use Rattle.program.specs.Run.{Turned};
+ghost use Rattle.filing_turns.specs.Turns.{Enough, Started, fieldsave};
+use fieldfile_writer::begin;
+use filing::file_frame;
+use filing::octets_of;
+use listing::session::Listed;
+use listing::session::Session;
+use program::buffers::Buffers;
+use program::buffers::advance;
+use program::buffers::flush_to;
+use program::buffers::refill_to;
+use wire::layout::Layout;
+
+// The session, and what it left in the buffers.
+pub struct Run {
+    pub session: Session,
+    pub buffers: Buffers,
+}
+
+// One frame, or what must be done before the next: frames come from `fd`, and fields go to `to`.
+pub fn turn(fd: i32, to: i32, run: Run, input: &mut [u8], store: &mut [u16], out: &mut [u8]) -> Run
+    requires { ⌜ InBounds (run .buffers) (length (now input)) (length (now out)) ⌝ }
+    requires { ⌜ Enough (length (now input)) (length (now store)) (length (now out)) ⌝ }
+    ensures { λ r. ⌜ Turned fieldsave (run .session, now (store .entry)) (run .buffers) (now (input .entry)) (now (out .entry)) (r .session, now (store .exit)) (r .buffers) (now (input .exit)) (now (out .exit)) ⌝ }
+{
+    let session = run.session;
+    let buffers = run.buffers;
+    let at = buffers.at;
+    let end = buffers.end;
+    let filled = buffers.filled;
+    let filed = file_frame(session, &input[at..end], store, &mut out[filled..]);
+    match filed {
+        Listed::Frame(turn) => {
+            let next = turn.session;
+            Run {
+                session: next,
+                buffers: advance(buffers, turn.used, turn.length),
+            }
+        }
+        Listed::NoFrame => Run {
+            session,
+            buffers: refill_to(fd, to, buffers, input, out),
+        },
+        Listed::Refused(_) => Run {
+            session,
+            buffers: flush_to(to, buffers, out),
+        },
+    }
+}
+
+// The file's first octets are put, and nothing is read; packets are told this layout.
+pub fn start(layout: Layout, out: &mut [u8]) -> Run
+    requires { ⌜ fieldRoom ≤ length (now out) ⌝ }
+    ensures { λ r. ⌜ Started layout (now (out .entry)) (now (out .exit)) r ⌝ }
+{
+    let filled = octets_of(begin(out));
+    Run {
+        session: Session::Waiting(layout),
+        buffers: program::buffers::begin(filled),
+    }
+}
