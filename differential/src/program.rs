@@ -58,11 +58,15 @@ pub fn from_file(command: &mut Command, input: &[u8], path: &Path) -> Output {
 /// A write that fails is told, once, and ends the run: it does not wait for
 /// more of its input.
 pub fn unwritable(name: &str, input: &[u8]) {
+    told_once(&mut Command::new(program(name)), input);
+}
+
+pub fn told_once(command: &mut Command, input: &[u8]) {
     let full = fs::OpenOptions::new()
         .write(true)
         .open("/dev/full")
         .unwrap();
-    let mut child = Command::new(program(name))
+    let mut child = command
         .stdin(Stdio::piped())
         .stdout(full)
         .stderr(Stdio::piped())

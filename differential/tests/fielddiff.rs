@@ -1,13 +1,14 @@
 //! The program `fielddiff` against the reference's list, byte for byte, on
 //! random pairs of files, of both versions, some of them refused, and with the
-//! files exchanged; on long ones; and on files that are not there.
+//! files exchanged; on long ones; on files that are not there; and where the
+//! list cannot be written.
 
 use std::ffi::OsStr;
 use std::fs;
 use std::path::{Path, PathBuf};
 use std::process::{Command, Stdio};
 
-use differential::program::{program, same};
+use differential::program::{program, same, told_once};
 use reference::fielddiff;
 use reference::file::Version;
 use reference::random::{anc_of, file_field, file_pair, record, Random};
@@ -108,5 +109,27 @@ fn missing_files() {
     ] {
         let output = printed(words);
         assert_eq!(String::from_utf8(output.stdout).unwrap(), expected);
+    }
+}
+
+/// A list of many times the text that the program holds: the first write that
+/// fails is told, and is not tried again. So is one of a few lines.
+#[test]
+fn output_that_cannot_be_written() {
+    let mut r = Random::new(1_404);
+    let mut file = |records: u16| {
+        let cells: Vec<u16> = (0..records).flat_map(|_| record(&mut r, 255)).collect();
+        let anc = anc_of(&cells);
+        let mut file = Version::Two.start().to_vec();
+        file.extend(file_field(Version::Two, 1, 3, records, &anc));
+        file
+    };
+    for (records, least) in [(1, 1), (120, 400_000)] {
+        let (left, right) = (file(records), file(records));
+        assert!(fielddiff(&left, &right).len() >= least);
+        let paths = [path("diff-full-l"), path("diff-full-r")];
+        fs::write(&paths[0], left).unwrap();
+        fs::write(&paths[1], right).unwrap();
+        told_once(Command::new(program(FIELDDIFF)).args(&paths), &[]);
     }
 }

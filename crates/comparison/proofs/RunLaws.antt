@@ -1,7 +1,7 @@
 -- THE WHOLE OUTPUT of `fielddiff` is the text of the list of differences, for what was read and whatever still comes.
 -- Each turn keeps what is printed (`TurnLaws`).
-use mathlib.Core.Path.{_≡_, refl, ap, ap₂, sym, _∙_}
-use mathlib.Core.Bool.{Bool, true, false, true≢false, cond, not, _&&_}
+use mathlib.Core.Path.{_≡_, refl, ap, ap₂, sym, subst, _∙_}
+use mathlib.Core.Bool.{Bool, true, false, true≢false, cond, not, _&&_, _||_}
 use mathlib.Core.List.{List, [], _++_, append-assoc, append-nil}
 use Prim.Native.Nat.{ℕ, _-_, _<_, _≤_}
 use native.Mathlib.Omega.{arith}
@@ -21,7 +21,7 @@ use Rattle.comparison.specs.declared.Run.{Run}
 use Rattle.comparison.specs.declared.Phase.{Phase}
 use Rattle.comparison.specs.declared.Phase.the-variants as phase
 use Rattle.comparison.specs.Turns as turns
-use Rattle.comparison.specs.Turns.{Bounds, Closes, Now, Passed, RunFlushed, Stands, Step, begins, isOver, isWhole, linesLeft, toPrint, turned, turnsOf, writtenIn}
+use Rattle.comparison.specs.Turns.{Bounds, Closed, Closes, Ended, Now, Passed, RunFlushed, Stands, Step, WriteFailed, begins, isOver, isWhole, linesLeft, toPrint, turned, turnsOf, writtenIn}
 
 -- where a run stands
 pub record Stood (readLeft readRight written : List ℕ) (v : Run) (leftInput rightInput leftStore rightStore out : List ℕ) : Type 0 where
@@ -97,6 +97,52 @@ run-closes begins e = absurd (true≢false e)
 run-closes (turned {v = v} {leftInput = leftInput} {rightInput = rightInput} {leftStore = leftStore} {rightStore = rightStore} {r = r} {leftInput′ = leftInput′} {rightInput′ = rightInput′} p o t) e =
     step-closes v leftInput rightInput leftStore rightStore r leftInput′ rightInput′ o (t .step) e
 
+-- while a run is open its list has not ended, and no read failed
+record Goes (v : Run) : Type 0 where
+  pub list : isOver (v .phase) ≡ false
+  pub left : v .left .failed ≡ false
+  pub right : v .right .failed ≡ false
+
+not-true : (b : Bool) → not b ≡ true → b ≡ false
+not-true true e = absurd (true≢false (sym e))
+not-true false e = refl
+
+flushed-goes : (v r : Run) → RunFlushed v r → Goes v → Goes r
+flushed-goes v r f g = subst Goes (sym (f .is)) (record { list = g .list; left = g .left; right = g .right })
+
+step-goes : (v : Run) (leftInput rightInput leftStore rightStore : List ℕ) (r : Run) (leftInput′ rightInput′ : List ℕ)
+    → Goes v → Step v leftInput rightInput leftStore rightStore r leftInput′ rightInput′ → r .«open» ≡ true → Goes r
+step-goes v a b c d r a′ b′ g (turns.writes h f) o = flushed-goes v r f g
+step-goes v a b c d r a′ b′ g (turns.rests h f) o = flushed-goes v r f g
+step-goes v a b c d r a′ b′ g (turns.leftOn h s is) o =
+    subst Goes (sym is) (record { list = refl; left = not-true _ (sym (ap (λ (x : Run). x .«open») is) ∙ o); right = g .right })
+step-goes v a b c d r a′ b′ g (turns.rightOn h s is) o =
+    subst Goes (sym is) (record { list = refl; left = g .left; right = not-true _ (sym (ap (λ (x : Run). x .«open») is) ∙ o) })
+step-goes v a b c d r a′ b′ g (turns.places h is) o =
+    subst Goes (sym is) (record { list = not-true _ (sym (ap (λ (x : Run). x .«open») is) ∙ o); left = g .left; right = g .right })
+step-goes v a b c d r a′ b′ g (turns.next q h ne is) o = subst Goes (sym is) (record { list = refl; left = g .left; right = g .right })
+step-goes v a b c d r a′ b′ g (turns.last q h n is) o = subst Goes (sym is) (record { list = refl; left = g .left; right = g .right })
+
+run-goes : {lo ro : Bool} {readLeft readRight written : List ℕ} {v : Run} {leftInput rightInput leftStore rightStore out : List ℕ}
+    → Passed lo ro readLeft readRight written v leftInput rightInput leftStore rightStore out → v .«open» ≡ true → Goes v
+run-goes begins e = record { list = refl; left = refl; right = refl }
+run-goes (turned {v = v} {leftInput = leftInput} {rightInput = rightInput} {leftStore = leftStore} {rightStore = rightStore} {r = r} {leftInput′ = leftInput′} {rightInput′ = rightInput′} p o t) e =
+    step-goes v leftInput rightInput leftStore rightStore r leftInput′ rightInput′ (run-goes p o) (t .step) e
+
+-- behind a write that failed
+failed-goes : {lo ro : Bool} {readLeft readRight written : List ℕ} {v : Run} {leftInput rightInput leftStore rightStore out : List ℕ}
+    → (p : Passed lo ro readLeft readRight written v leftInput rightInput leftStore rightStore out) → WriteFailed p → Goes v × (v .«open» ≡ false)
+failed-goes begins w = absurd w
+failed-goes (turned {v = v} {r = r} p o t) (f, e) = (flushed-goes v r f (run-goes p o), e)
+
+-- A WRITE THAT FAILED IS NOT TRIED AGAIN: nothing more is written, and the run says that not all was
+pub run-stops : {lo ro whole : Bool} (e : Ended lo ro whole) → WriteFailed (e .passed) → (e .after ≡ e .before) × (whole ≡ false)
+run-stops {whole = whole} e w = go (failed-goes (e .passed) w) (e .closed)
+  where
+    go : Goes (e .before) × (e .before .«open» ≡ false) → Closed (e .before) (e .after) → (e .after ≡ e .before) × (whole ≡ false)
+    go (g, o) (turns.stuck s is) = (is, e .answer ∙ ap isWhole is ∙ ap (λ (b : Bool). b && eqb (e .before .filled) 0) (g .list))
+    go (g, o) (turns.flushes s f) = absurd (true≢false (sym (λ i. not (o i || g .list i) && not (g .left i || g .right i)) ∙ s))
+
 module _ {readLeft readRight written : List ℕ} {v : Run} {leftInput rightInput leftStore rightStore out : List ℕ} (z : Stood readLeft readRight written v leftInput rightInput leftStore rightStore out) where
   pub run-begins : (s t : List ℕ) → MayCome (v .left) s → MayCome (v .right) t → Begins (comparison (readLeft ++ s) (readRight ++ t)) written
   run-begins s t m k = ap (take (length written)) (sym (z .prints s t m k)) ∙ take-append-seam written (toPrint v (z .now) leftInput rightInput out s t)
@@ -106,12 +152,16 @@ module _ {readLeft readRight written : List ℕ} {v : Run} {leftInput rightInput
   over-lines (phase.Comparing r) s t e = absurd (true≢false (sym e))
   over-lines phase.Done s t e = refl
 
+  closed-over : (r : Run) → Closed v r → isOver (v .phase) ≡ isOver (r .phase)
+  closed-over r (turns.stuck s e) = sym (ap (λ (x : Run). isOver (x .phase)) e)
+  closed-over r (turns.flushes s f) = sym (ap (λ (x : Run). isOver (x .phase)) (f .is))
+
   -- THE WHOLE: the texts written, joined, are the output
-  pub run-whole : (r : Run) → RunFlushed v r → isWhole r ≡ true → (s t : List ℕ) → MayCome (v .left) s → MayCome (v .right) t
+  pub run-whole : (r : Run) → Closed v r → isWhole r ≡ true → (s t : List ℕ) → MayCome (v .left) s → MayCome (v .right) t
       → written ++ writtenIn v r out ≡ comparison (readLeft ++ s) (readRight ++ t)
   run-whole r f w s t m k =
       let q = and-true (isOver (r .phase)) (eqb (r .filled) 0) w in
-      let p : isOver (v .phase) ≡ true = sym (ap (λ (x : Run). isOver (x .phase)) (f .is)) ∙ q .0 in
+      let p : isOver (v .phase) ≡ true = closed-over r f ∙ q .0 in
       let n : r .filled ≡ 0 = eqb-true (r .filled) 0 (q .1) in
       let d : v .filled - r .filled ≡ v .filled = omega (arith, n) in
       let e = over-lines (v .phase) (unscanned (v .left) leftInput ++ s) (unscanned (v .right) rightInput ++ t) p in

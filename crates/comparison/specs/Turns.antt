@@ -2,7 +2,7 @@
 -- No contract of the libraries says what the operating system's calls do, so it is assumed here that a write which does not fail writes what it is passed;
 -- what is assumed of a read stands in `side`.
 use mathlib.Core.Path.{_≡_}
-use mathlib.Core.Bool.{Bool, true, false, not, _&&_}
+use mathlib.Core.Bool.{Bool, true, false, not, _&&_, _||_}
 use mathlib.Core.List.{List, [], _++_}
 use Prim.Native.Nat.{ℕ, _+_, _-_, _*_, _^_, _<_, _≤_, min}
 use lib.Dec.{eqb}
@@ -225,6 +225,12 @@ turnsOf (turned p o t) = turnsOf p + 1
 abbrev pub maxTurns : ℕ
 maxTurns = 2 ^ 64 - 1
 
+-- the last turn was a write that failed
+abbrev pub WriteFailed : {leftOpen rightOpen : Bool} {readLeft readRight written : List ℕ} {v : Run} {leftInput rightInput leftStore rightStore out : List ℕ}
+    → Passed leftOpen rightOpen readLeft readRight written v leftInput rightInput leftStore rightStore out → Type 0
+WriteFailed begins = ⊥
+WriteFailed (turned {v = v} {r = r} p o t) = RunFlushed v r × (r .«open» ≡ false)
+
 -- the list has ended, and no text waits: none whose write failed
 abbrev pub isWhole : Run → Bool
 isWhole v = isOver (v .phase) && eqb (v .filled) 0
@@ -235,6 +241,15 @@ pub data Closes (v : Run) : Type 0 where
   left : v .left .failed ≡ true → Closes v
   right : v .right .failed ≡ true → Closes v
   text : 0 < v .filled → Closes v
+
+-- a write failed: the run has ended, though its list has not, and no read failed
+abbrev pub isStuck : Run → Bool
+isStuck v = not (v .«open» || isOver (v .phase)) && not (v .left .failed || v .right .failed)
+
+-- HOW A RUN CLOSES: the text that waits is written; where a write failed, nothing more is
+pub data Closed (v r : Run) : Type 0 where
+  stuck : isStuck v ≡ true → r ≡ v → Closed v r
+  flushes : isStuck v ≡ false → RunFlushed v r → Closed v r
 
 -- THE WHOLE RUN. It goes on until the list ends, a read or a write fails, or no turn is left. What was written is what the output for the two files begins
 -- with, whatever is still to come of them; and where all was written, it is the output, whatever is still to come
@@ -250,7 +265,7 @@ pub record Ended (leftOpen rightOpen : Bool) (whole : Bool) : Type 0 where
   pub out : List ℕ
   pub passed : Passed leftOpen rightOpen readLeft readRight written before leftInput rightInput leftStore rightStore out
   pub after : Run
-  pub flushed : RunFlushed before after
+  pub closed : Closed before after
   pub answer : whole ≡ isWhole after
   pub ends : before .«open» ≡ true → turnsOf passed ≡ maxTurns
   pub closes : before .«open» ≡ false → Closes before

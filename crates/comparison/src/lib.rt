@@ -9,7 +9,7 @@ ghost use Rattle.diff.specs.Diff.{cellLines};
 ghost use Rattle.diff.specs.Text.{diffText};
 ghost use Rattle.diff_lines.specs.Places.{placeLines};
 ghost use Rattle.side.specs.Side.{placeOf};
-ghost use Rattle.comparison.specs.Turns.{Here, Now, RunFlushed, Stands, StillTurned, behindRecord, besideEnd, besideField, cellsHere, isOver, isWhole, phaseAfter, placesDone, recordEnd, started, textRoom, withLeft, withPhase, withRight};
+ghost use Rattle.comparison.specs.Turns.{Closed, Here, Now, RunFlushed, Stands, StillTurned, behindRecord, besideEnd, besideField, cellsHere, isOver, isStuck, isWhole, phaseAfter, placesDone, recordEnd, started, textRoom, withLeft, withPhase, withRight};
 use diff_lines::place::Found;
 use diff_lines::place::Place;
 use diff_lines::put_cells;
@@ -257,4 +257,25 @@ pub fn is_whole(run: Run) -> bool
 {
     let phase = run.phase;
     is_over(phase) & (run.filled == 0)
+}
+
+// Whether a write failed: the run has ended, though its list has not, and no read failed.
+fn is_stuck(run: Run) -> bool
+    ensures { λ r. ⌜ r ≡ isStuck run ⌝ }
+{
+    let left = run.left;
+    let right = run.right;
+    let phase = run.phase;
+    !(run.open | is_over(phase)) & !(left.failed | right.failed)
+}
+
+// Writes the last of the text. A write that failed is not tried again.
+pub fn close(run: Run, out: &[u8]) -> Run
+    requires { ⌜ run .filled ≤ length (now out) ⌝ }
+    ensures { λ r. ⌜ Closed run r ⌝ }
+{
+    if is_stuck(run) {
+        return run;
+    }
+    flush(run, out)
 }

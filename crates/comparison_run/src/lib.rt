@@ -8,6 +8,7 @@ ghost use Rattle.comparison.specs.Turns.{Bounds, Ended, Enough, Now, Stands, Tu
 use comparison::Phase;
 use comparison::Run;
 use comparison::TEXT_ROOM;
+use comparison::close;
 use comparison::flush;
 use comparison::is_whole;
 use comparison::print_places;
@@ -99,7 +100,7 @@ pub fn compare_within(
         run = turn(left_fd, right_fd, run, lread, rread, lstore, rstore, out);
         turns = turns_left(turns, run.open);
     }
-    is_whole(flush(run, out))
+    is_whole(close(run, out))
 }
 
 // Prints the differences of two files, each open for reading, or -1 and read as empty.

@@ -1,4 +1,4 @@
--- `compare_within` makes turn after turn, and then writes what waits.
+-- `compare_within` makes turn after turn, and then closes the run.
 -- Invariant: the turns so far are a run; the buffers keep their sizes; turns are left only while the run is open, and
 -- with those that were made they are as many as at the start.
 use borrow.Author.Needs.{needs}
@@ -78,8 +78,8 @@ loop-again c =
       still-open (t .result .«open») (l .turns) (c .turns-left .result) (c .turns-left .ensures),
     )
 
-flush-requires : tie.Need-flush-requires Inv-loop μ-loop
-flush-requires c κs = run-bounds (c .before .before .loop .inv .0 .passed) .text
+close-requires : tie.Need-close-requires Inv-loop μ-loop
+close-requires c κs = run-bounds (c .before .before .loop .inv .0 .passed) .text
 
 same-length : tie.Need-same-length Inv-loop μ-loop
 same-length c = c .before .before .before .before .loop .inv .1 .0
@@ -100,7 +100,7 @@ returns : tie.Need-returns Inv-loop μ-loop
 returns c =
     let l = c .before .before .before .before .loop in
     let s = l .inv .0 in
-    let t = c .before .flush in
+    let t = c .before .close in
     record {
       readLeft = s .readLeft;
       readRight = s .readRight;
@@ -113,7 +113,7 @@ returns c =
       out = l .out;
       passed = s .passed;
       after = t .result;
-      flushed = t .ensures;
+      closed = t .ensures;
       answer = c .is-whole .ensures;
       ends = λ o. omega (arith, c .before .before .before .loop-test .left, s .made o);
       closes = run-closes (s .passed);
@@ -125,4 +125,4 @@ pub compare-within-spec : {M : Type 1} → statement M
 compare-within-spec =
     tie.close
     (tie.spec Inv-loop μ-loop (λ c κs. search needs) (λ c κs. search needs) (λ c κs. search needs) loop-holds turn-requires turns-left-requires loop-less loop-again
-    flush-requires (λ c κs. search needs) same-length same-length-2 same-length-3 same-length-4 same-length-5 returns)
+    close-requires (λ c κs. search needs) same-length same-length-2 same-length-3 same-length-4 same-length-5 returns)
