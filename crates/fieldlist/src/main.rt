@@ -2,14 +2,14 @@
 // file that its argument names. The frames and the text are the library's; this program moves octets.
 ghost use lib.ListN.{length};
 ghost use Rattle.turns.specs.Turns.{Ended, Enough};
+use arguments::files::file_at;
+use arguments::files::layout_told;
+use arguments::files::open_input;
+use arguments::options::may_start;
 use frames::MAX_FRAME;
 use listing::session::FIELD_ROOM;
-use program::arguments::file_at;
-use program::arguments::layout_told;
-use program::arguments::open_input;
 use program::buffers::is_done;
 use program::buffers::turns_left;
-use program::options::may_start;
 use turns::close;
 use turns::start;
 use turns::turn;

@@ -2,20 +2,20 @@
 // are the library's; this program moves octets.
 ghost use lib.ListN.{length};
 ghost use Rattle.filing_turns.specs.Turns.{Ended, Enough};
+use arguments::files::create_named;
+use arguments::files::file_at;
+use arguments::files::layout_told;
+use arguments::files::open_named;
+use arguments::options::has_words;
+use arguments::options::may_start;
 use filing::FIELD_ROOM;
 use filing_turns::start;
 use filing_turns::turn;
 use frames::MAX_FRAME;
 use libc::STDERR_FILENO;
-use program::arguments::create_named;
-use program::arguments::file_at;
-use program::arguments::layout_told;
-use program::arguments::open_named;
 use program::buffers::Buffers;
 use program::buffers::is_done;
 use program::buffers::silent_turns_left;
-use program::options::has_words;
-use program::options::may_start;
 use wire::layout::Layout;
 use wire::limit::MAX_FIELD_CELLS;
 

@@ -1,4 +1,2 @@
 pub mod BufferLaws
-pub mod Examples
-pub mod OptionLaws
 pub mod RunLaws

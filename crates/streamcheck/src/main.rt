@@ -2,13 +2,13 @@
 // file that its argument names. The frames and the lines are the library's; this program moves octets.
 ghost use lib.ListN.{length};
 ghost use Rattle.report_turns.specs.Turns.{Ended, Enough};
+use arguments::files::file_at;
+use arguments::files::layout_told;
+use arguments::files::open_input;
+use arguments::options::may_start;
 use frames::MAX_FRAME;
-use program::arguments::file_at;
-use program::arguments::layout_told;
-use program::arguments::open_input;
 use program::buffers::is_done;
 use program::buffers::turns_left;
-use program::options::may_start;
 use report::session::LINES_ROOM;
 use report_turns::close;
 use report_turns::start;

@@ -2,8 +2,8 @@
 -- By the arguments that are left.
 use borrow.Author.Needs.{needs}
 use Prim.Native.Nat.{_-_}
-use Rattle.program.proofs.options.has_no_option.Statement.{statement}
-use Rattle.program.proofs.options.has_no_option.Tie as tie
+use Rattle.arguments.proofs.options.has_no_option.Statement.{statement}
+use Rattle.arguments.proofs.options.has_no_option.Tie as tie
 
 abbrev Inv-loop : tie.InvT-loop
 Inv-loop name help count at₀ t8 at = Unit {0}

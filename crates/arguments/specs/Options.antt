@@ -5,8 +5,8 @@ use Prim.Native.Nat.{ℕ}
 use Prim.Native.Char.{code}
 use Prim.Native.String.{String, [] as []ˢ, _∷_ as _∷ˢ_}
 use lib.Dec.{eqb}
-use Rattle.program.specs.declared.options.Told.{Told}
-use Rattle.program.specs.declared.options.Told.the-variants as told
+use Rattle.arguments.specs.declared.options.Told.{Told}
+use Rattle.arguments.specs.declared.options.Told.the-variants as told
 
 -- a word is this text, octet by octet
 unfoldable pub isText : List ℕ → String → Bool

@@ -10,9 +10,9 @@ use borrow.Author.Tests.{eqb-true, eq-eqb, ne-eqb}
 use lib.Dec.{eqb}
 use lib.ListN.{length, getD}
 use Rattle.wire.proofs.ResultLaws.{and-true}
-use Rattle.program.specs.declared.options.Told.{Told}
-use Rattle.program.specs.declared.options.Told.the-variants as told
-use Rattle.program.specs.Options.{isText, dash, named, optionOf}
+use Rattle.arguments.specs.declared.options.Told.{Told}
+use Rattle.arguments.specs.declared.options.Told.the-variants as told
+use Rattle.arguments.specs.Options.{isText, dash, named, optionOf}
 
 -- a text's octets
 abbrev pub octets : String → List ℕ

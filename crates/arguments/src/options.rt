@@ -1,6 +1,6 @@
 // The options of every program, `--help` and `--version`: an argument that begins with `-` is one. A file of such a name is given as `./-x`.
 ghost use mathlib.Core.Path.{_≡_};
-ghost use Rattle.program.specs.Options.{optionOf};
+ghost use Rattle.arguments.specs.Options.{optionOf};
 use check::same;
 use libc::STDERR_FILENO;
 use libc::STDOUT_FILENO;

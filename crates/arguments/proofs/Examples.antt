@@ -2,9 +2,9 @@
 -- By computation.
 use mathlib.Core.Path.{_≡_, refl}
 use mathlib.Core.List.{[]}
-use Rattle.program.specs.declared.options.Told.the-variants as told
-use Rattle.program.specs.Options.{isText, optionOf}
-use Rattle.program.proofs.OptionLaws.{octets}
+use Rattle.arguments.specs.declared.options.Told.the-variants as told
+use Rattle.arguments.specs.Options.{isText, optionOf}
+use Rattle.arguments.proofs.OptionLaws.{octets}
 
 pub options : (optionOf (octets "--help") ≡ told.Help)
     × (optionOf (octets "--version") ≡ told.Version)

@@ -1,9 +1,9 @@
 -- `option_of` finds what a word is: no option, `--help`, `--version`, or another.
 -- By the tests that were passed.
 use borrow.Author.Needs.{needs}
-use Rattle.program.proofs.OptionLaws.{empty-word, no-dash, help-named, version-named, unknown-named, refuted}
-use Rattle.program.proofs.options.option_of.Statement.{statement}
-use Rattle.program.proofs.options.option_of.Tie as tie
+use Rattle.arguments.proofs.OptionLaws.{empty-word, no-dash, help-named, version-named, unknown-named, refuted}
+use Rattle.arguments.proofs.options.option_of.Statement.{statement}
+use Rattle.arguments.proofs.options.option_of.Tie as tie
 
 returns : tie.Need-returns
 returns c = empty-word (c .before .before .args .word .now) (c .if1 .taken)

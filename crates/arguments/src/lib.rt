@@ -1,0 +1,3 @@
+// What the programs are told: options, `old` for the drafts' layout, and files.
+pub mod files;
+pub mod options;
