@@ -1,6 +1,6 @@
 """Lists the ancillary data fields of a capture: list_capture.py PORT CAPTURE.pcap
 
-An example over jibhotran.py. It takes classic pcap with Ethernet, IPv4 and UDP and nothing else; `pcapframes` takes more.
+An example over jibhotran.py. It takes classic pcap with Ethernet, with VLAN tags or without, IPv4 and UDP and nothing else; `pcapframes` takes more.
 """
 
 import struct
@@ -18,9 +18,12 @@ def payloads(capture: bytes, port: int):
     while at + 16 <= len(capture):
         size = struct.unpack(order + "I", capture[at + 8 : at + 12])[0]
         packet, at = capture[at + 16 : at + 16 + size], at + 16 + size
-        if packet[12:14] != b"\x08\x00" or len(packet) < 34 or packet[23] != 17:
+        ip = 14
+        while packet[ip - 2 : ip] == b"\x81\x00":
+            ip += 4
+        if packet[ip - 2 : ip] != b"\x08\x00" or len(packet) < ip + 20 or packet[ip + 9] != 17:
             continue
-        udp = 14 + 4 * (packet[14] & 15)
+        udp = ip + 4 * (packet[ip] & 15)
         to, length = struct.unpack(">HH", packet[udp + 2 : udp + 6])
         if to == port:
             yield packet[udp + 8 : udp + length]

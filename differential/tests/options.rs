@@ -7,7 +7,13 @@ use std::process::{Command, Output, Stdio};
 
 use differential::program::program;
 
-const PROGRAMS: [&str; 4] = ["fieldlist", "streamcheck", "fielddiff", "fieldsave"];
+const PROGRAMS: [&str; 5] = [
+    "fieldlist",
+    "streamcheck",
+    "fielddiff",
+    "fieldsave",
+    "pcapframes",
+];
 
 fn folder(name: &str) -> PathBuf {
     let folder = Path::new(env!("CARGO_TARGET_TMPDIR")).join(name);
@@ -80,6 +86,7 @@ fn help() {
         let usage = match name {
             "fielddiff" => "LEFT RIGHT",
             "fieldsave" => "[old] FRAMES OUT",
+            "pcapframes" => "PORT [FILE]",
             _ => "[old] [FILE]",
         };
         assert!(printed.starts_with(&format!("Usage: {name} {usage}\n")));
@@ -131,6 +138,7 @@ fn too_many_arguments() {
         ("streamcheck", &["old", "a", "b"]),
         ("fielddiff", &["a", "b", "c"]),
         ("fielddiff", &["old", "a", "b"]),
+        ("pcapframes", &["1", "a", "b"]),
     ] {
         let told = format!("{name}: too many arguments, see --help\n");
         refuses(name, arguments, &folder, &told);
@@ -177,11 +185,13 @@ fn files_that_cannot_be_read() {
             refuses(name, &[file], &folder, &told);
             refuses(name, &["old", file], &folder, &told);
         }
+        refuses("pcapframes", &["1", file], &folder, &told);
         let left = ("0 refused 50 50\n".to_string(), told);
         assert_eq!(texts(run("fielddiff", &[file, "there"], &folder)), left);
         assert_eq!(texts(run("fielddiff", &["there", file], &folder)), left);
     }
     let told = "directory: Is a directory\n";
+    refuses("pcapframes", &["1", "directory"], &folder, told);
     for name in ["fieldlist", "streamcheck"] {
         refuses(name, &["directory"], &folder, told);
         refuses(name, &["old", "directory"], &folder, told);

@@ -8,7 +8,9 @@
 #![forbid(unsafe_code)]
 
 pub mod anc;
+pub mod capture;
 pub mod coverage;
+pub mod datagram;
 pub mod depacketizer;
 pub mod fielddiff;
 pub mod fieldlist;

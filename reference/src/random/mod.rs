@@ -4,6 +4,7 @@
 
 mod anc;
 mod arrival;
+mod capture;
 mod field;
 mod line;
 mod list;
@@ -15,6 +16,7 @@ mod text;
 
 pub use anc::*;
 pub use arrival::*;
+pub use capture::*;
 pub use field::*;
 pub use line::*;
 pub use list::*;

@@ -1,0 +1,4 @@
+pub mod Examples
+pub mod LongerLaws
+pub mod StepLaws
+pub mod WrittenLaws

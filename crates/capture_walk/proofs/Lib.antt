@@ -1,0 +1,4 @@
+pub mod Examples
+pub mod FrameLaws
+pub mod SessionLaws
+pub mod WrittenLaws

@@ -1,0 +1,5 @@
+pub mod Answer
+pub mod Udp
+pub mod Ip
+pub mod Link
+pub mod Wrapped

@@ -1,0 +1,33 @@
+-- `run` lends buffers that hold what `extract` asks.
+-- By their sizes; the length of a long array comes by a law, and is not counted.
+use borrow.Author.Needs.{needs}
+use mathlib.Core.Path.{_≡_, sym}
+use Prim.Native.Nat.{ℕ, _≤_}
+use native.Mathlib.Omega.{arith}
+use lib.ListN.{length, replicate, length-replicate}
+use Rattle.frames.specs.Frames.{maxFrame}
+use Rattle.capture.specs.Numbers.{maxItem}
+use Rattle.capture_turns.specs.Turns.{Enough}
+use Rattle.pcapframes.proofs.run.Statement.{statement}
+use Rattle.pcapframes.proofs.run.Tie as tie
+
+zeros : (n : ℕ) → length {0} {A = ℕ} (replicate n 0) ≡ n
+zeros n = length-replicate {0} {A = ℕ} n 0
+
+-- sizes that hold what is asked
+hold : {input out i o : ℕ} → i ≡ input → o ≡ out → maxItem ≤ i → maxFrame ≤ o → Enough input out
+hold a b f g = record { item = omega arith; frame = omega arith }
+
+slice-aggregate-extract : tie.Need-slice-aggregate-extract
+slice-aggregate-extract c = sym (zeros _)
+
+slice-aggregate-extract-2 : tie.Need-slice-aggregate-extract-2
+slice-aggregate-extract-2 c = sym (zeros _)
+
+extract-requires : tie.Need-extract-requires
+extract-requires c κs = hold (slice-aggregate-extract (c .before)) (slice-aggregate-extract-2 c) (omega arith) (omega arith)
+
+pub run-spec : {M : Type 1} → statement M
+run-spec =
+    tie.close
+    (tie.spec (λ c κs. search needs) (λ c. search needs) slice-aggregate-extract slice-aggregate-extract-2 extract-requires (λ c κs. search needs) (λ c. search needs) (λ c. search needs))

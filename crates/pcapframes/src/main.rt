@@ -1,0 +1,135 @@
+// Writes the UDP datagrams of a capture (pcap or pcapng) to one port as frames of RFC 4571: `pcapframes PORT [FILE]`, from standard input where no file is
+// named. What is written is the library's; this program moves octets, and tells on standard error what it left out.
+ghost use Prim.Native.Nat.{_+_, _≤_};
+ghost use lib.ListN.{length};
+ghost use Rattle.capture_turns.specs.Turns.{Ended, Enough};
+use arguments::files::open_named;
+use arguments::options::may_start;
+use capture::format::MAX_ITEM;
+use capture_frames::finish;
+use capture_turns::start;
+use capture_turns::turn;
+use capture_walk::session::Session;
+use capture_walk::session::Standing;
+use frames::MAX_FRAME;
+use libc::STDERR_FILENO;
+use libc::STDIN_FILENO;
+use port::Port;
+use port::port_of;
+use program::buffers::is_done;
+use program::buffers::turns_left;
+use text::put;
+use text::put_labelled;
+
+// Octets of the buffers: any item and more to read, and some frames that wait to be written together.
+const INPUT_SIZE: usize = 2 * MAX_ITEM;
+
+const OUT_SIZE: usize = 4 * MAX_FRAME;
+
+// What the walk came to, and whether all frames were written.
+struct Outcome {
+    session: Session,
+    whole: bool,
+}
+
+fn extract(port: u16, fd: i32, input: &mut [u8], out: &mut [u8]) -> Outcome
+    requires { ⌜ Enough (length (now input)) (length (now out)) ⌝ }
+    ensures { λ r. ⌜ Ended port (r .session) (r .whole) ⌝ }
+{
+    let mut run = start();
+    let mut turns = u64::MAX;
+    while turns > 0 {
+        run = turn(fd, port, run, input, out);
+        let buffers = run.buffers;
+        turns = turns_left(turns, buffers.open);
+    }
+    let session = run.session;
+    let buffers = run.buffers;
+    Outcome {
+        session: finish(session, buffers.end - buffers.at),
+        whole: is_done(buffers),
+    }
+}
+
+// Two numbers with their labels, on a line.
+fn tell_two(before: &[u8], first: u64, between: &[u8], second: u64)
+    requires { ⌜ length (now before) + length (now between) ≤ 20 ⌝ }
+{
+    let mut line = [0u8; 64];
+    let next = put_labelled(&mut line, 0, before, first);
+    let last = put_labelled(&mut line, next, between, second);
+    let end = put(&mut line, last, b"\n");
+    io::write_all(STDERR_FILENO, &line[..end]);
+}
+
+// How many fragments and cut packets there were, where there were any, and the refusal that ended the walk.
+fn tell(session: Session) {
+    if (session.fragments > 0) | (session.cut > 0) {
+        tell_two(b"fragments=", session.fragments, b" cut=", session.cut);
+    }
+    let standing = session.standing;
+    match standing {
+        Standing::Open => {}
+        Standing::Refused(number) => tell_two(b"refused ", number as u64, b" ", session.packets),
+    }
+}
+
+fn port_told() -> Port {
+    if os::arg_count() < 2 {
+        return Port::Wrong;
+    }
+    let mut word = io::buffer();
+    let length = os::arg(1, &mut word);
+    port_of(&word[..length])
+}
+
+// Standard input, or the file that the argument names.
+fn open_input() -> i32 {
+    if os::arg_count() < 3 {
+        return STDIN_FILENO;
+    }
+    open_named(2)
+}
+
+fn run(port: u16) {
+    let fd = open_input();
+    if fd < 0 {
+        return;
+    }
+    let mut input = [0u8; INPUT_SIZE];
+    let mut out = [0u8; OUT_SIZE];
+    let outcome = extract(port, fd, &mut input, &mut out);
+    let session = outcome.session;
+    if outcome.whole {
+        tell(session);
+    }
+}
+
+// Whether the work is to be done: not where an option asks for something else, nor where the arguments are too many.
+fn starts() -> bool {
+    may_start(
+        b"pcapframes",
+        b"Usage: pcapframes PORT [FILE]\n\
+          Writes the UDP datagrams to PORT of a capture (pcap or pcapng), FILE or standard input, as frames of RFC 4571.\n\
+          \x20\x20--help     print this and end\n\
+          \x20\x20--version  print the version and end\n\
+          A file whose name begins with - is given as ./-x.\n",
+        2,
+    )
+}
+
+fn main() {
+    if !starts() {
+        return;
+    }
+    let port = port_told();
+    match port {
+        Port::Number(number) => run(number),
+        Port::Wrong => {
+            io::write_all(
+                STDERR_FILENO,
+                b"pcapframes: PORT is a number from 1 to 65535, see --help\n",
+            );
+        }
+    }
+}
