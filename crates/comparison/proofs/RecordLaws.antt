@@ -4,10 +4,10 @@ use mathlib.Core.Path.{_≡_, refl, ap, ap₂, sym, _∙_}
 use mathlib.Core.List.{List, [], _∷_, _++_}
 use Prim.Native.Nat.{ℕ, _+_, _-_, _≤_}
 use native.Mathlib.Omega.{arith}
-use lib.ListN.{length, take, drop, getD, length-append, length-drop}
-use lib.Seq.{drop-at, drop-drop, getD-drop, getD-take, length-take-le, take-add, take-at}
+use lib.ListN.{length, take, drop, length-append, length-drop}
+use lib.Seq.{drop-at, drop-drop, getD-take, length-take-le, take-add, take-at}
 use Rattle.wire.specs.Anc.{Record}
-use Rattle.wire.specs.Cells.{cellsOf, headCells, listOf}
+use Rattle.wire.specs.Cells.{cellCount, cellsOf, headCells, listOf}
 use Rattle.diff.specs.Diff.{cellLines}
 use Rattle.side_by_side.specs.Rest.{recordLinesFrom}
 use Rattle.side.specs.Side.{Short}
@@ -55,11 +55,8 @@ front store at x xs room is few =
         sym (drop-at (take (length (cellsOf x)) (drop at store)) (take (length (listOf xs)) (drop (length (cellsOf x)) (drop at store))) (length (cellsOf x)) long)
         ∙ ap (drop (length (cellsOf x))) parts ∙ drop-at (cellsOf x) (listOf xs) (length (cellsOf x)) refl
 
-    count : getD store (at + 7) 0 ≡ length (x .words)
-    count =
-        sym (getD-drop at store 7 0)
-        ∙ sym (getD-take (length (cellsOf x)) (drop at store) 7 0 (omega (arith, size)))
-        ∙ ap (λ (l : List ℕ). getD l 7 0) first
+    count : cellCount (drop at store) ≡ length (x .words)
+    count = sym (getD-take (length (cellsOf x)) (drop at store) 7 0 (omega (arith, size))) ∙ ap cellCount first
 
     ends : recordEnd store at ≡ at + length (cellsOf x)
     ends = omega (arith, count, size)

@@ -3,12 +3,12 @@
 use mathlib.Core.Path.{_≡_, refl, ap, ap₂, sym, subst, _∙_}
 use mathlib.Core.Bool.{Bool, true, false, true≢false, cond, not, _&&_, _||_}
 use mathlib.Core.List.{List, [], _++_, append-assoc, append-nil}
-use Prim.Native.Nat.{ℕ, _-_, _<_, _≤_}
+use Prim.Native.Nat.{ℕ, _+_, _-_, _<_, _≤_}
 use native.Mathlib.Omega.{arith}
 use borrow.Author.Tests.{eqb-true}
 use lib.Dec.{eqb}
-use lib.ListN.{length, take}
-use lib.Seq.{take-append-seam}
+use lib.ListN.{length, take, drop}
+use lib.Seq.{take-add, take-append-seam}
 use Rattle.wire.proofs.ResultLaws.{and-true}
 use Rattle.anf.specs.File.{readFile}
 use Rattle.diff.specs.Diff.{Line}
@@ -136,7 +136,8 @@ failed-goes begins w = absurd w
 failed-goes (turned {v = v} {r = r} p o t) (f, e) = (flushed-goes v r f (run-goes p o), e)
 
 -- A WRITE THAT FAILED IS NOT TRIED AGAIN: nothing more is written, and the run says that not all was
-pub run-stops : {lo ro whole : Bool} (e : Ended lo ro whole) → WriteFailed (e .passed) → (e .after ≡ e .before) × (whole ≡ false)
+pub run-stops : {lo ro whole : Bool} {leftInput rightInput leftStore rightStore out : List ℕ} (e : Ended lo ro leftInput rightInput leftStore rightStore out whole)
+    → WriteFailed (e .passed) → (e .after ≡ e .before) × (whole ≡ false)
 run-stops {whole = whole} e w = go (failed-goes (e .passed) w) (e .closed)
   where
     go : Goes (e .before) × (e .before .«open» ≡ false) → Closed (e .before) (e .after) → (e .after ≡ e .before) × (whole ≡ false)
@@ -144,8 +145,34 @@ run-stops {whole = whole} e w = go (failed-goes (e .passed) w) (e .closed)
     go (g, o) (turns.flushes s f) = absurd (true≢false (sym (λ i. not (o i || g .list i) && not (g .left i || g .right i)) ∙ s))
 
 module _ {readLeft readRight written : List ℕ} {v : Run} {leftInput rightInput leftStore rightStore out : List ℕ} (z : Stood readLeft readRight written v leftInput rightInput leftStore rightStore out) where
-  pub run-begins : (s t : List ℕ) → MayCome (v .left) s → MayCome (v .right) t → Begins (comparison (readLeft ++ s) (readRight ++ t)) written
-  run-begins s t m k = ap (take (length written)) (sym (z .prints s t m k)) ∙ take-append-seam written (toPrint v (z .now) leftInput rightInput out s t)
+  -- WHAT WAS WRITTEN, with what is written at the close, begins the output
+  pub run-begins : (r : Run) (s t : List ℕ) → MayCome (v .left) s → MayCome (v .right) t
+      → Begins (comparison (readLeft ++ s) (readRight ++ t)) (written ++ writtenIn v r out)
+  run-begins r s t m k = ap (take (length (written ++ first))) (sym whole) ∙ take-append-seam (written ++ first) (second ++ lines)
+    where
+      count : ℕ
+      count = v .filled - r .filled
+
+      first : List ℕ
+      first = take count out
+
+      second : List ℕ
+      second = take (v .filled - count) (drop count out)
+
+      lines : List ℕ
+      lines = diffText (linesLeft (v .phase) (v .position) (z .now) (unscanned (v .left) leftInput ++ s) (unscanned (v .right) rightInput ++ t))
+
+      both : count + (v .filled - count) ≡ v .filled
+      both = omega arith
+
+      split : first ++ second ≡ take (v .filled) out
+      split = sym (take-add count (v .filled - count) out) ∙ ap (λ (n : ℕ). take n out) both
+
+      whole : (written ++ first) ++ (second ++ lines) ≡ comparison (readLeft ++ s) (readRight ++ t)
+      whole =
+          append-assoc written first (second ++ lines)
+          ∙ ap (λ (l : List ℕ). written ++ l) (sym (append-assoc first second lines) ∙ ap (λ (l : List ℕ). l ++ lines) split)
+          ∙ z .prints s t m k
 
   over-lines : (p : Phase) (s t : List ℕ) → isOver p ≡ true → linesLeft p (v .position) (z .now) s t ≡ []
   over-lines phase.Places s t e = absurd (true≢false (sym e))

@@ -6,10 +6,11 @@ use mathlib.Core.Bool.{Bool, true, false, not, _&&_, _||_}
 use mathlib.Core.List.{List, [], _++_}
 use Prim.Native.Nat.{ℕ, _+_, _-_, _*_, _^_, _<_, _≤_, min}
 use lib.Dec.{eqb}
-use lib.ListN.{length, take, drop, getD}
+use lib.ListN.{length, take, drop}
 use Rattle.wire.specs.Anc.{Record, Each}
-use Rattle.wire.specs.Cells.{headCells, listOf}
+use Rattle.wire.specs.Cells.{cellCount, headCells, listOf}
 use Rattle.wire.specs.Writing.{maxFieldCells}
+use Rattle.file_scan.specs.Window.{mostWords}
 use Rattle.diff.specs.Diff.{Line}
 use Rattle.diff.specs.Text.{diffText, comparison}
 use Rattle.side_by_side.specs.Rest.{Standing, restOf, linesFrom, recordLinesFrom}
@@ -29,7 +30,7 @@ use Rattle.comparison.specs.declared.Phase.the-variants as phase
 
 -- room for the lines of a record, the most that a turn prints: one for each of its cells
 abbrev pub textRoom : ℕ
-textRoom = lineRoom * (headCells + 255)
+textRoom = lineRoom * (headCells + mostWords)
 
 -- WHAT THE BUFFERS MUST HOLD: the octets that any turn needs, and more to read; a field's cells; and the text of one turn
 pub record Enough (leftInput rightInput leftStore rightStore out : ℕ) : Type 0 where
@@ -92,9 +93,9 @@ placesDone v n =
       «open» = not (isOver (phaseAfter (v .position) (placeOf (v .left .standing)) (placeOf (v .right .standing))));
     }
 
--- the cells of the record at a place of the store: the last but one before its words counts these
+-- the cells of the record at a place of the store
 abbrev pub recordEnd : List ℕ → ℕ → ℕ
-recordEnd store at = at + headCells + getD store (at + 7) 0
+recordEnd store at = at + headCells + cellCount (drop at store)
 
 abbrev pub cellsHere : List ℕ → ℕ → List ℕ
 cellsHere store at = take (recordEnd store at - at) (drop at store)
@@ -103,7 +104,7 @@ cellsHere store at = take (recordEnd store at - at) (drop at store)
 pub record Here (store : List ℕ) (at : ℕ) : Type 0 where
   pub head : at + headCells ≤ length store
   pub end : recordEnd store at ≤ length store
-  pub few : getD store (at + 7) 0 ≤ 255
+  pub few : cellCount (drop at store) ≤ mostWords
 
 abbrev pub behindRecord : Records → (left right : List ℕ) → Records
 behindRecord r left right =
@@ -251,24 +252,20 @@ pub data Closed (v r : Run) : Type 0 where
   stuck : isStuck v ≡ true → r ≡ v → Closed v r
   flushes : isStuck v ≡ false → RunFlushed v r → Closed v r
 
--- THE WHOLE RUN. It goes on until the list ends, a read or a write fails, or no turn is left. What was written is what the output for the two files begins
--- with, whatever is still to come of them; and where all was written, it is the output, whatever is still to come
-pub record Ended (leftOpen rightOpen : Bool) (whole : Bool) : Type 0 where
+-- THE WHOLE RUN, which leaves these octets, cells and texts in the buffers. It goes on until the list ends, a read or a write fails, or no turn is left.
+-- What was written is what the output for the two files begins with, whatever is still to come of them; and where all was written, it is the output
+pub record Ended (leftOpen rightOpen : Bool) (leftInput rightInput leftStore rightStore out : List ℕ) (whole : Bool) : Type 0 where
   pub readLeft : List ℕ
   pub readRight : List ℕ
   pub written : List ℕ
   pub before : Run
-  pub leftInput : List ℕ
-  pub rightInput : List ℕ
-  pub leftStore : List ℕ
-  pub rightStore : List ℕ
-  pub out : List ℕ
   pub passed : Passed leftOpen rightOpen readLeft readRight written before leftInput rightInput leftStore rightStore out
   pub after : Run
   pub closed : Closed before after
   pub answer : whole ≡ isWhole after
   pub ends : before .«open» ≡ true → turnsOf passed ≡ maxTurns
   pub closes : before .«open» ≡ false → Closes before
-  pub begins : (s t : List ℕ) → MayCome (before .left) s → MayCome (before .right) t → Begins (comparison (readLeft ++ s) (readRight ++ t)) written
+  pub begins : (s t : List ℕ) → MayCome (before .left) s → MayCome (before .right) t
+      → Begins (comparison (readLeft ++ s) (readRight ++ t)) (written ++ writtenIn before after out)
   pub complete : whole ≡ true → (s t : List ℕ) → MayCome (before .left) s → MayCome (before .right) t
       → written ++ writtenIn before after out ≡ comparison (readLeft ++ s) (readRight ++ t)

@@ -20,10 +20,13 @@ use side::Side;
 use side::next;
 use side::place_of;
 
+// The most user data words of a record: Data_Count carries an eight-bit number.
+const MAX_WORDS: usize = 255;
+
 // Room for the lines of a record, the most that a turn prints: one of up to five numbers for each of its cells.
 pub const LINE_ROOM: usize = 105;
 
-pub const TEXT_ROOM: usize = LINE_ROOM * (Header::CELLS + 255);
+pub const TEXT_ROOM: usize = LINE_ROOM * (Header::CELLS + MAX_WORDS);
 
 // Where the records of two fields at a position are compared: the record's index, how many both have, and where its cells stand in either store.
 pub struct Records {

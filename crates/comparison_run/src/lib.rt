@@ -92,7 +92,7 @@ pub fn compare_within(
     out: &mut [u8],
 ) -> bool
     requires { ⌜ Enough (length (now lread)) (length (now rread)) (length (now lstore)) (length (now rstore)) (length (now out)) ⌝ }
-    ensures { λ r. ⌜ Ended lopen ropen r ⌝ }
+    ensures { λ r. ⌜ Ended lopen ropen (now (lread .exit)) (now (rread .exit)) (now (lstore .exit)) (now (rstore .exit)) (now (out .exit)) r ⌝ }
 {
     let mut run = start(side::start(lopen), side::start(ropen));
     let mut turns = u64::MAX;

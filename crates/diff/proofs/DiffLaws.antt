@@ -46,56 +46,6 @@ differ-swap line line′ l r h = ap (λ b. cond b [] (line′ r l ∷ [])) (eqb-
     go true = refl
     go false = ap (λ x. x ∷ []) h
 
--- SWAPPED
-module _ (i : ℕ) where
-  cells-swap : (j : ℕ) (xs ys : List ℕ) → cellLines i j ys xs ≡ map swap (cellLines i j xs ys)
-  unfolding cellLines
-  cells-swap j xs ys =
-      ap (upTo _) (min-comm (length ys) (length xs))
-      ∙ upTo-map swap _ _ (min (length xs) (length ys)) (λ k h. differ-swap (cellLine i j k) (cellLine i j k) (getD xs k 0) (getD ys k 0) refl)
-
-  records-swap : (xs ys : List Record) → recordLines i ys xs ≡ map swap (recordLines i xs ys)
-  unfolding recordLines
-  records-swap xs ys =
-      ap (upTo _) (min-comm (length ys) (length xs))
-      ∙ upTo-map swap _ _ (min (length xs) (length ys)) (λ j h. cells-swap j (cellsAt xs j) (cellsAt ys j))
-
-  fields-swap : (x y : FieldContent) → fieldLines i y x ≡ map swap (fieldLines i x y)
-  unfolding fieldLines
-  fields-swap x y =
-      ap₂ _++_ (differ-swap (tsLine i) (tsLine i) (x .timestamp) (y .timestamp) refl)
-      (ap₂ _++_ (differ-swap (fLine i) (fLine i) (x .f) (y .f) refl)
-      (ap₂ _++_ (differ-swap (recordsLine i) (recordsLine i) (length (x .records)) (length (y .records)) refl) (records-swap (x .records) (y .records))
-      ∙ sym (map-append swap (differ (recordsLine i) (length (x .records)) (length (y .records))) _))
-      ∙ sym (map-append swap (differ (fLine i) (x .f) (y .f)) _))
-      ∙ sym (map-append swap (differ (tsLine i) (x .timestamp) (y .timestamp)) _)
-
-  compare-swap : (p q : Place) → compareAt i q p ≡ map swap (compareAt i p q)
-  unfolding compareAt
-  compare-swap (field x) (field y) = fields-swap x y
-  compare-swap (field x) ended = refl
-  compare-swap (field x) (refusal m) = refl
-  compare-swap (field x) unread = refl
-  compare-swap ended (field y) = refl
-  compare-swap ended ended = refl
-  compare-swap ended (refusal m) = refl
-  compare-swap ended unread = refl
-  compare-swap (refusal n) (field y) = refl
-  compare-swap (refusal n) ended = refl
-  compare-swap (refusal n) (refusal m) = refl
-  compare-swap (refusal n) unread = refl
-  compare-swap unread (field y) = refl
-  compare-swap unread ended = refl
-  compare-swap unread (refusal m) = refl
-  compare-swap unread unread = refl
-
--- "changing over the two files gives the same list with left and right exchanged"
-pub diff-swap : (a b : FileRead) → diff b a ≡ map swap (diff a b)
-unfolding diff
-diff-swap a b =
-    ap (λ (n : ℕ). upTo (linesAt b a) (suc n)) (max-comm (length (b .fields)) (length (a .fields)))
-    ∙ upTo-map swap (linesAt a b) (linesAt b a) _ (λ i h. compare-swap i (placeAt a i) (placeAt b i))
-
 -- EMPTY
 -- as far as both go, the cells are the same
 abbrev Agree : (xs ys : List ℕ) → Type 0
@@ -236,6 +186,56 @@ diff-empty a b =
           (subst (λ (ys : List FieldContent). Quiet (placeAt a i) (placeIn ys (b .end .number) i)) (h .0)
           (equal-quiet (a .fields) (a .end .number) (b .end .number) (h .1) (h .2) i))),
     )
+
+-- SWAPPED
+module _ (i : ℕ) where
+  cells-swap : (j : ℕ) (xs ys : List ℕ) → cellLines i j ys xs ≡ map swap (cellLines i j xs ys)
+  unfolding cellLines
+  cells-swap j xs ys =
+      ap (upTo _) (min-comm (length ys) (length xs))
+      ∙ upTo-map swap _ _ (min (length xs) (length ys)) (λ k h. differ-swap (cellLine i j k) (cellLine i j k) (getD xs k 0) (getD ys k 0) refl)
+
+  records-swap : (xs ys : List Record) → recordLines i ys xs ≡ map swap (recordLines i xs ys)
+  unfolding recordLines
+  records-swap xs ys =
+      ap (upTo _) (min-comm (length ys) (length xs))
+      ∙ upTo-map swap _ _ (min (length xs) (length ys)) (λ j h. cells-swap j (cellsAt xs j) (cellsAt ys j))
+
+  fields-swap : (x y : FieldContent) → fieldLines i y x ≡ map swap (fieldLines i x y)
+  unfolding fieldLines
+  fields-swap x y =
+      ap₂ _++_ (differ-swap (tsLine i) (tsLine i) (x .timestamp) (y .timestamp) refl)
+      (ap₂ _++_ (differ-swap (fLine i) (fLine i) (x .f) (y .f) refl)
+      (ap₂ _++_ (differ-swap (recordsLine i) (recordsLine i) (length (x .records)) (length (y .records)) refl) (records-swap (x .records) (y .records))
+      ∙ sym (map-append swap (differ (recordsLine i) (length (x .records)) (length (y .records))) _))
+      ∙ sym (map-append swap (differ (fLine i) (x .f) (y .f)) _))
+      ∙ sym (map-append swap (differ (tsLine i) (x .timestamp) (y .timestamp)) _)
+
+  compare-swap : (p q : Place) → compareAt i q p ≡ map swap (compareAt i p q)
+  unfolding compareAt
+  compare-swap (field x) (field y) = fields-swap x y
+  compare-swap (field x) ended = refl
+  compare-swap (field x) (refusal m) = refl
+  compare-swap (field x) unread = refl
+  compare-swap ended (field y) = refl
+  compare-swap ended ended = refl
+  compare-swap ended (refusal m) = refl
+  compare-swap ended unread = refl
+  compare-swap (refusal n) (field y) = refl
+  compare-swap (refusal n) ended = refl
+  compare-swap (refusal n) (refusal m) = refl
+  compare-swap (refusal n) unread = refl
+  compare-swap unread (field y) = refl
+  compare-swap unread ended = refl
+  compare-swap unread (refusal m) = refl
+  compare-swap unread unread = refl
+
+-- "changing over the two files gives the same list with left and right exchanged"
+pub diff-swap : (a b : FileRead) → diff b a ≡ map swap (diff a b)
+unfolding diff
+diff-swap a b =
+    ap (λ (n : ℕ). upTo (linesAt b a) (suc n)) (max-comm (length (b .fields)) (length (a .fields)))
+    ∙ upTo-map swap (linesAt a b) (linesAt b a) _ (λ i h. compare-swap i (placeAt a i) (placeAt b i))
 
 -- THE TWO FILES' OCTETS
 pub differences-empty : (a b : List ℕ)

@@ -1,13 +1,16 @@
 -- The text of lines that stand or do not, and of lines one behind the other.
-use mathlib.Core.Path.{_≡_, ap, sym, _∙_}
-use mathlib.Core.Bool.{Bool, cond}
+use mathlib.Core.Path.{_≡_, refl, ap, sym, _∙_}
+use mathlib.Core.Bool.{Bool, true, false, cond}
 use mathlib.Core.List.{List, [], _∷_, _++_, append-nil}
 use Prim.Native.Nat.{ℕ, _+_}
 use native.Mathlib.Numerals.{add-one}
+use lib.Dec.{eqb}
 use lib.ListN.{getD}
 use borrow.Author.Tests.{eq-eqb, ne-eqb}
 use Rattle.diff.specs.Diff.{Line, cellLine, differ, upTo}
-use Rattle.diff.specs.Text.{diffText, lineText}
+use Rattle.text.specs.Text.{decimal}
+use Rattle.diff.specs.Text.{diffText, lineText, sidesText}
+use Rattle.diff_lines.specs.Places.{differing}
 use Rattle.diff.proofs.TextLaws.{text-append}
 
 pub line-text : (x : Line) → lineText x ≡ diffText (x ∷ [])
@@ -18,6 +21,15 @@ none-differs line l r e = sym (ap (λ (b : Bool). diffText (cond b [] (line l r 
 
 pub one-differs : (line : ℕ → ℕ → Line) (l r : ℕ) → (l ≡ r → ⊥) → lineText (line l r) ≡ diffText (differ line l r)
 one-differs line l r h = line-text (line l r) ∙ sym (ap (λ (b : Bool). diffText (cond b [] (line l r ∷ []))) (ne-eqb l r h))
+
+-- a line with a label, where the two numbers differ
+pub labelled : (line : ℕ → ℕ → Line) (i : ℕ) (label : List ℕ) (l r : ℕ)
+    → decimal i ++ (label ++ sidesText (decimal l) (decimal r)) ≡ lineText (line l r) → differing i label l r ≡ diffText (differ line l r)
+labelled line i label l r e = go (eqb l r)
+  where
+    go : (b : Bool) → cond b [] (decimal i ++ (label ++ sidesText (decimal l) (decimal r))) ≡ diffText (cond b [] (line l r ∷ []))
+    go true = refl
+    go false = e ∙ line-text (line l r)
 
 pub three-texts : (xs ys zs : List Line) → diffText xs ++ (diffText ys ++ diffText zs) ≡ diffText (xs ++ (ys ++ zs))
 three-texts xs ys zs = sym (text-append xs (ys ++ zs) ∙ ap (λ (t : List ℕ). diffText xs ++ t) (text-append ys zs))

@@ -1,10 +1,18 @@
 -- The lines of a position but for those of the records, from what the code knows of the two files there.
 use mathlib.Core.List.{List, [], _∷_, _++_}
+use mathlib.Core.Bool.{cond}
 use Prim.Native.Nat.{ℕ}
+use lib.Dec.{eqb}
+use Rattle.text.specs.Text.{decimal}
 use Rattle.diff.specs.Diff.{left, right, dash, number, Line, tsLine, fLine, recordsLine, onlyLine, refusedLine, differ}
+use Rattle.diff.specs.Text.{sidesText}
 use Rattle.diff_lines.specs.declared.place.Found.{Found}
 use Rattle.diff_lines.specs.declared.place.Place.{Place}
 use Rattle.diff_lines.specs.declared.place.Place.the-variants as place
+
+-- the text `I LABEL L R`, where the two numbers differ
+abbrev pub differing : ℕ → (label : List ℕ) → (l r : ℕ) → List ℕ
+differing i label l r = cond (eqb l r) [] (decimal i ++ (label ++ sidesText (decimal l) (decimal r)))
 
 -- both have a field: "timestamp, F, record count"
 abbrev pub headLines : ℕ → (x y : Found) → List Line

@@ -4,3 +4,7 @@ use Rattle.text.specs.Text.{decimalMost}
 
 abbrev pub lineRoom : ℕ
 lineRoom = 5 * decimalMost + 5
+
+-- a label: ` records `
+abbrev pub labelRoom : ℕ
+labelRoom = 9

@@ -6,10 +6,10 @@ ghost use Prim.Native.Nat.{_+_, _*_, _≤_, min};
 ghost use lib.ListN.{length};
 ghost use Rattle.text.specs.Put.{Put};
 ghost use Rattle.text.specs.Text.{decimal, decimalMost};
-ghost use Rattle.diff.specs.Diff.{cellLine, cellLines, differ, fLine, recordsLine, tsLine};
+ghost use Rattle.diff.specs.Diff.{cellLine, cellLines, differ};
 ghost use Rattle.diff.specs.Text.{diffText, sidesText};
-ghost use Rattle.diff_lines.specs.Room.{lineRoom};
-ghost use Rattle.diff_lines.specs.Places.{besideEnd, besideField, besideRefusal, headLines, placeLines};
+ghost use Rattle.diff_lines.specs.Room.{labelRoom, lineRoom};
+ghost use Rattle.diff_lines.specs.Places.{besideEnd, besideField, besideRefusal, differing, headLines, placeLines};
 
 pub mod place;
 
@@ -31,43 +31,17 @@ fn put_sides(out: &mut [u8], at: usize, label: &[u8], l: u64, r: u64) -> usize
     put(out, next, b"\n")
 }
 
-// `I ts L R`
-fn put_timestamps(out: &mut [u8], at: usize, i: u64, l: u64, r: u64) -> usize
-    requires { ⌜ at + lineRoom ≤ length (now out) ⌝ }
-    ensures { λ r′. ⌜ Put (now (out .entry)) at (diffText (differ (tsLine i) l r)) (now (out .exit)) r′ ⌝ }
+// `I LABEL L R`, where the two numbers differ.
+fn put_differing(out: &mut [u8], at: usize, i: u64, label: &[u8], l: u64, r: u64) -> usize
+    requires { ⌜ (at + lineRoom ≤ length (now out)) × (length (now label) ≤ labelRoom) ⌝ }
+    ensures { λ r′. ⌜ Put (now (out .entry)) at (differing i (now (label .entry)) l r) (now (out .exit)) r′ ⌝ }
     ensures { λ r′. ⌜ r′ ≤ at + lineRoom ⌝ }
 {
     if l == r {
         return at;
     }
     let next = put_decimal(out, at, i);
-    put_sides(out, next, b" ts ", l, r)
-}
-
-// `I f L R`
-fn put_f(out: &mut [u8], at: usize, i: u64, l: u64, r: u64) -> usize
-    requires { ⌜ at + lineRoom ≤ length (now out) ⌝ }
-    ensures { λ r′. ⌜ Put (now (out .entry)) at (diffText (differ (fLine i) l r)) (now (out .exit)) r′ ⌝ }
-    ensures { λ r′. ⌜ r′ ≤ at + lineRoom ⌝ }
-{
-    if l == r {
-        return at;
-    }
-    let next = put_decimal(out, at, i);
-    put_sides(out, next, b" f ", l, r)
-}
-
-// `I records L R`
-fn put_counts(out: &mut [u8], at: usize, i: u64, l: u64, r: u64) -> usize
-    requires { ⌜ at + lineRoom ≤ length (now out) ⌝ }
-    ensures { λ r′. ⌜ Put (now (out .entry)) at (diffText (differ (recordsLine i) l r)) (now (out .exit)) r′ ⌝ }
-    ensures { λ r′. ⌜ r′ ≤ at + lineRoom ⌝ }
-{
-    if l == r {
-        return at;
-    }
-    let next = put_decimal(out, at, i);
-    put_sides(out, next, b" records ", l, r)
+    put_sides(out, next, label, l, r)
 }
 
 // `I J K L R`
@@ -115,9 +89,16 @@ fn put_heads(out: &mut [u8], at: usize, i: u64, l: Found, r: Found) -> usize
 {
     let left_time = l.timestamp;
     let right_time = r.timestamp;
-    let next = put_timestamps(out, at, i, left_time.0 as u64, right_time.0 as u64);
-    let next = put_f(out, next, i, l.f as u64, r.f as u64);
-    put_counts(out, next, i, l.records as u64, r.records as u64)
+    let next = put_differing(out, at, i, b" ts ", left_time.0 as u64, right_time.0 as u64);
+    let next = put_differing(out, next, i, b" f ", l.f as u64, r.f as u64);
+    put_differing(
+        out,
+        next,
+        i,
+        b" records ",
+        l.records as u64,
+        r.records as u64,
+    )
 }
 
 // `I refused - R`

@@ -28,6 +28,12 @@ fn beside(path: &[u8]) {
     both(b"equal2.anf", path);
 }
 
+// A file that is refused: on either side, and on both.
+fn refused(path: &[u8]) {
+    beside(path);
+    show(path, path);
+}
+
 // Files that are read whole.
 fn show_read() {
     beside(b"equal1.anf");
@@ -40,29 +46,29 @@ fn show_read() {
 
 // Files whose head is refused.
 fn show_heads() {
-    beside(b"empty.anf");
-    beside(b"missing.anf");
-    beside(b"name.anf");
-    beside(b"version.anf");
-    beside(b"short.anf");
+    refused(b"empty.anf");
+    refused(b"missing.anf");
+    refused(b"name.anf");
+    refused(b"version.anf");
+    refused(b"short.anf");
 }
 
 // Files of which a field is cut or too large.
 fn show_sizes() {
-    beside(b"cut52.anf");
-    beside(b"longercut.anf");
-    beside(b"cut9.anf");
-    beside(b"count9.anf");
-    beside(b"over21.anf");
+    refused(b"cut52.anf");
+    refused(b"longercut.anf");
+    refused(b"cut9.anf");
+    refused(b"count9.anf");
+    refused(b"over21.anf");
 }
 
 // Files of which a field is refused by what it says.
 fn show_fields() {
-    beside(b"f53.anf");
-    beside(b"bad10.anf");
-    beside(b"bad11.anf");
-    beside(b"bad12.anf");
-    beside(b"bad16.anf");
+    refused(b"f53.anf");
+    refused(b"bad10.anf");
+    refused(b"bad11.anf");
+    refused(b"bad12.anf");
+    refused(b"bad16.anf");
 }
 
 // Others.

@@ -2,18 +2,23 @@
 use mathlib.Core.Path.{_≡_}
 use mathlib.Core.Logic.{_⊎_}
 use mathlib.Core.List.{List, [], _∷_, _++_}
-use Prim.Native.Nat.{ℕ, zero, suc, _≤_}
+use Prim.Native.Nat.{ℕ, zero, suc, _-_, _≤_}
 use lib.ListN.{length, drop}
 use Rattle.wire.specs.declared.refusal.Refusal.{Refusal}
 use Rattle.wire.specs.Layout.{Layout, rfc8331}
+use Rattle.wire.specs.Words.{headerNumbers}
 use Rattle.wire.specs.Result.{Result, refused, accepted, noRefusal, judge, _then_}
 use Rattle.wire.specs.Anc.{Record, ancSize, dataCount, readAnc, readRun}
 use Rattle.anf.specs.declared.format.Version.{Version}
 use Rattle.anf.specs.File.{FieldContent, fieldHeaderSize, fieldSize, timestampField, fileFField, countField, fieldHeaderChecks, limitChecks, endOfFile, readFront, FileRead, noField, fieldThen}
 
--- octets of the largest ANC data packet, with 255 user data words: 328
+-- "Data_Count" carries an eight-bit number: the most user data words
+abbrev pub mostWords : ℕ
+mostWords = headerNumbers - 1
+
+-- octets of the largest ANC data packet
 abbrev pub mostSize : Layout → ℕ
-mostSize L = ancSize L 255
+mostSize L = ancSize L mostWords
 
 -- the octets `w` are at hand of the octets `s` that are still to be read: at least `n`, or all that there are
 pub record AtHand (n : ℕ) (w s : List ℕ) : Type 0 where

@@ -11,10 +11,11 @@ use lib.Signed.{ltZ}
 use lib.ListN.{length, take, drop}
 use Rattle.wire.specs.declared.refusal.Refusal.{Refusal}
 use Rattle.wire.specs.Words.{headerNumbers}
+use Rattle.wire.specs.Layout.{rfc8331}
 use Rattle.wire.specs.Anc.{Record, Each}
 use Rattle.wire.specs.Cells.{listOf}
 use Rattle.diff.specs.Diff.{endNumber}
-use Rattle.file_scan.specs.Window.{between, within, content}
+use Rattle.file_scan.specs.Window.{between, within, content, mostSize}
 use Rattle.file_scan.specs.Store.{Holds}
 use Rattle.side_by_side.specs.Rest.{Standing, starts, reading, has, over, restOf}
 use Rattle.diff_lines.specs.declared.place.Place.{Place}
@@ -31,7 +32,7 @@ use Rattle.side.specs.declared.Standing.the-variants as held
 
 -- octets that are enough for any turn: those of the largest ANC data packet
 abbrev pub windowSize : ℕ
-windowSize = 328
+windowSize = mostSize rfc8331
 
 -- a file that is open, or one that is not and "reads as empty"
 abbrev pub opened : Bool → Side
@@ -125,7 +126,8 @@ HeldReachable (held.Field k v) = Unit {0}
 HeldReachable held.Ended = Unit {0}
 HeldReachable (held.Refused n) = Unit {0}
 
--- more is read behind what was left; there may be more where something was, or where a signal interrupted the read; any other failure is kept
+-- more is read behind what was left; there may be more where something was, or where the read failed; a failure is kept, but where a signal interrupted
+-- the read, which is then tried again
 pub record ReadMore (d : Side) (input : List ℕ) (r : Side) (input′ : List ℕ) : Type 0 where
   pub answer : ℤ
   pub count : ℕ
@@ -135,7 +137,7 @@ pub record ReadMore (d : Side) (input : List ℕ) (r : Side) (input′ : List �
   pub octets : Begins (unscanned r input′) (unscanned d input)
   pub counts : Count answer count
   pub signal : Interrupted answer interrupted
-  pub goes-on : r .more ≡ (ltb 0 count || interrupted)
+  pub goes-on : r .more ≡ (ltb 0 count || ltZ answer (pos 0))
   pub fails : r .failed ≡ (ltZ answer (pos 0) && not interrupted)
 
 -- WHAT A TURN OF A FILE DOES: more is read where fewer octets are at hand than any turn needs, and else these are scanned; a file that is not being read stays

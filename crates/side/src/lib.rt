@@ -67,7 +67,7 @@ fn read_more(fd: i32, side: Side, input: &mut [u8]) -> Side
         standing,
         at: 0,
         end: rest + n,
-        more: (n > 0) | interrupted,
+        more: (n > 0) | (got < 0),
         failed: (got < 0) & !interrupted,
     }
 }

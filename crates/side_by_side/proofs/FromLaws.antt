@@ -34,12 +34,6 @@ at-0 j = omega arith
 plus-0 : (i : ℕ) → i + 0 ≡ i
 plus-0 i = omega arith
 
--- THE WHOLE LIST is the lines from the first position on
-pub from-0 : (a b : FileRead) → diff a b ≡ linesFrom 0 a b
-unfolding diff linesFrom
-from-0 a b =
-    upTo-same (linesAt a b) (λ j. compareAt (0 + j) (placeAt a j) (placeAt b j)) _ (λ j. ap (λ (i : ℕ). compareAt i (placeAt a j) (placeAt b j)) (at-0 j))
-
 -- what a file has behind a position where it has ended is what it has there
 pub ended-after : (n : ℕ) → n ≡ endNumber → (j : ℕ) → placeIn [] n j ≡ ended
 ended-after n e zero = rw (eq-eqb n endNumber e)
@@ -56,6 +50,12 @@ both-fields i k m a b =
     ∙ ap₂ (λ (x y : List Line). x ++ y) (ap (λ (c : ℕ). fieldLines c k m) (plus-0 i))
     (upTo-same (λ j. compareAt (i + suc j) (placeAt a j) (placeAt b j)) (λ j. compareAt (i + 1 + j) (placeAt a j) (placeAt b j)) (suc n)
     (λ j. ap (λ (c : ℕ). compareAt c (placeAt a j) (placeAt b j)) (shift i j)))
+
+-- THE WHOLE LIST is the lines from the first position on
+pub from-0 : (a b : FileRead) → diff a b ≡ linesFrom 0 a b
+unfolding diff linesFrom
+from-0 a b =
+    upTo-same (linesAt a b) (λ j. compareAt (0 + j) (placeAt a j) (placeAt b j)) _ (λ j. ap (λ (i : ℕ). compareAt i (placeAt a j) (placeAt b j)) (at-0 j))
 
 -- ONE HAS ENDED
 pub left-only : (i : ℕ) (k : FieldContent) (a : FileRead) (x : Refusal) → x .number ≡ endNumber

@@ -106,18 +106,13 @@ returns c =
       readRight = s .readRight;
       written = s .written;
       before = l .run;
-      leftInput = l .lread;
-      rightInput = l .rread;
-      leftStore = l .lstore;
-      rightStore = l .rstore;
-      out = l .out;
       passed = s .passed;
       after = t .result;
       closed = t .ensures;
       answer = c .is-whole .ensures;
       ends = λ o. omega (arith, c .before .before .before .loop-test .left, s .made o);
       closes = run-closes (s .passed);
-      begins = run-begins (run-stands (s .passed));
+      begins = run-begins (run-stands (s .passed)) (t .result);
       complete = λ h. run-whole (run-stands (s .passed)) (t .result) (t .ensures) (sym (c .is-whole .ensures) ∙ h);
     }
 

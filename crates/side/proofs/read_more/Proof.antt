@@ -2,10 +2,11 @@
 -- By the law of what is moved to the front; what is left and what was read fit the input.
 use borrow.Author.Needs.{needs}
 use mathlib.Core.Path.{_≡_, refl, ap, sym, subst}
-use mathlib.Core.Bool.{not, _&&_}
+use mathlib.Core.Bool.{not, _&&_, _||_}
 use mathlib.Core.List.{_++_}
 use native.Mathlib.Omega.{arith}
 use Prim.Native.Nat.{_-_}
+use lib.Dec.{ltb}
 use lib.IntN.{ℤ, pos}
 use lib.Signed.{ltZ}
 use lib.ListN.{length, take, drop}
@@ -46,7 +47,7 @@ returns c =
       octets = part-moved i (v .at) (v .end) (p .0) (p .1) moved read tail (c .before .count .result) (c .before .before .before .before .before .before .before .before .before .before .move-to-front .ensures);
       counts = counted z (toZ w64 (ofZ w64 z)) (c .before .count .result) k w x back (c .before .before .before .before .before .input2 .given .1) (c .before .before .before .before .before .before .read .ensures) (c .before .count .ensures .1);
       signal = subst (λ (a : ℤ). Interrupted a (c .is-interrupted .result)) back (c .is-interrupted .ensures);
-      goes-on = refl;
+      goes-on = ap (λ (a : ℤ). ltb 0 (c .before .count .result) || ltZ a (pos 0)) back;
       fails = ap (λ (a : ℤ). ltZ a (pos 0) && not (c .is-interrupted .result)) back;
     }
 
