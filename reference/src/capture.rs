@@ -157,7 +157,7 @@ fn blocks(port: u16, capture: &[u8], outcome: &mut Outcome) -> Result<(), u8> {
             3 => 16,
             _ => 12,
         };
-        if length < least || length % 4 != 0 {
+        if length < least || !length.is_multiple_of(4) {
             return Err(LENGTHS_DISAGREE);
         }
         if length > LONGEST {

@@ -174,89 +174,36 @@ fn udp(reader: &mut Reader, end: usize, port: u16) -> Result<Range<usize>, Found
 #[cfg(test)]
 mod tests {
     use super::*;
+    use crate::random::{extension, fragment, ipv4_packet, ipv6_packet, on_link, udp_packet};
 
     const PORT: u16 = 20_000;
-
-    fn udp_packet(port: u16, payload: &[u8]) -> Vec<u8> {
-        let mut packet = vec![0x13, 0x8C];
-        packet.extend(port.to_be_bytes());
-        packet.extend((8 + payload.len() as u16).to_be_bytes());
-        packet.extend([0, 0]);
-        packet.extend(payload);
-        packet
-    }
-
-    fn ipv4_packet(fragment: u16, protocol: u8, options: &[u8], carried: &[u8]) -> Vec<u8> {
-        let size = 20 + options.len();
-        let mut packet = vec![0x40 + (size / 4) as u8, 0];
-        packet.extend(((size + carried.len()) as u16).to_be_bytes());
-        packet.extend([0x12, 0x34]);
-        packet.extend(fragment.to_be_bytes());
-        packet.extend([64, protocol, 0, 0, 10, 0, 0, 1, 239, 1, 1, 1]);
-        packet.extend(options);
-        packet.extend(carried);
-        packet
-    }
-
-    fn ipv6_packet(next: u8, carried: &[u8]) -> Vec<u8> {
-        let mut packet = vec![0x60, 0, 0, 0];
-        packet.extend((carried.len() as u16).to_be_bytes());
-        packet.extend([next, 64]);
-        packet.extend([0xFE; 32]);
-        packet.extend(carried);
-        packet
-    }
-
-    fn extension(next: u8, units: u8, rest: &[u8]) -> Vec<u8> {
-        let mut packet = vec![next, units];
-        packet.resize(8 * (usize::from(units) + 1), 1);
-        packet.extend(rest);
-        packet
-    }
-
-    fn fragment(next: u8, place: u16, rest: &[u8]) -> Vec<u8> {
-        let mut packet = vec![next, 0];
-        packet.extend(place.to_be_bytes());
-        packet.extend([0, 0, 0, 7]);
-        packet.extend(rest);
-        packet
-    }
-
-    fn ethernet(tags: &[u16], number: u16, carried: &[u8]) -> Vec<u8> {
-        let mut packet = vec![2; 12];
-        for tag in tags {
-            packet.extend(tag.to_be_bytes());
-            packet.extend([0, 100]);
-        }
-        packet.extend(number.to_be_bytes());
-        packet.extend(carried);
-        packet
-    }
 
     /// Packets with the payload "ABC" for the port, and their link types.
     fn whole() -> Vec<(u32, Vec<u8>)> {
         let udp = udp_packet(PORT, b"ABC");
         let v4 = ipv4_packet(0x4000, UDP, &[], &udp);
+        let v4_options = ipv4_packet(0, UDP, &[1; 40], &udp);
         let v6 = ipv6_packet(UDP, &udp);
-        let options = extension(DESTINATION_OPTIONS, 0, &extension(UDP, 2, &udp));
-        let atomic = fragment(UDP, 0, &udp);
-        let cooked = [&[0; 14], &IPV4.to_be_bytes()[..], &v4].concat();
-        let tagged = [&[0; 14], &[0x81, 0, 0, 9, 0x86, 0xDD][..], &v6].concat();
-        let cooked2 = [&IPV6.to_be_bytes()[..], &[0; 18], &v6].concat();
+        let options = extension(UDP, 2, 1, &udp);
+        let routing = extension(DESTINATION_OPTIONS, 0, 1, &options);
+        let chain = extension(ROUTING, 255, 1, &routing);
+        let atomic = extension(FRAGMENT, 1, 1, &fragment(UDP, 0, &udp));
+        let tags = TAGS.map(|tag| [tag, 100]);
         vec![
-            (1, ethernet(&[], IPV4, &v4)),
-            (1, ethernet(&TAGS, IPV4, &v4)),
-            (1, ethernet(&[0x8100], IPV6, &v6)),
-            (1, ethernet(&[], IPV4, &ipv4_packet(0, UDP, &[1; 40], &udp))),
-            (113, cooked),
-            (113, tagged),
-            (276, cooked2),
+            (1, on_link(1, &[], IPV4, &v4)),
+            (1, on_link(1, &tags, IPV4, &v4)),
+            (1, on_link(1, &tags[..1], IPV6, &v6)),
+            (1, on_link(1, &[], IPV4, &v4_options)),
+            (113, on_link(113, &[], IPV4, &v4)),
+            (113, on_link(113, &tags[1..], IPV6, &v6)),
+            (276, on_link(276, &[], IPV6, &v6)),
             (101, v4.clone()),
             (12, v6.clone()),
             (228, v4),
             (229, v6),
-            (229, ipv6_packet(HOP_BY_HOP, &options)),
-            (229, ipv6_packet(FRAGMENT, &atomic)),
+            (229, ipv6_packet(HOP_BY_HOP, &chain)),
+            (229, ipv6_packet(ROUTING, &routing)),
+            (229, ipv6_packet(DESTINATION_OPTIONS, &atomic)),
         ]
     }
 
@@ -324,7 +271,7 @@ mod tests {
         let mut shorter = good.clone();
         shorter[25] = 8;
         assert_eq!(find(&shorter, 228, PORT), Found::Payload(28..28));
-        let mut packet = ipv6_packet(HOP_BY_HOP, &extension(UDP, 0, &udp));
+        let mut packet = ipv6_packet(HOP_BY_HOP, &extension(UDP, 0, 1, &udp));
         assert_eq!(find(&packet, 229, PORT), Found::Payload(56..59));
         for room in [0, 7, 8, 15, 18] {
             packet[5] = room;

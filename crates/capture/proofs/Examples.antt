@@ -79,19 +79,19 @@ unfolding stepOf wordAt
 little-section = refl
 
 -- no Byte-Order Magic; a length that is no multiple of four; another behind; less than a section's head has
-no-order : stepOf opened (blockOf order.Big 168627466 (wordOf order.Big 439041102 ++ replicate 12 0)) ≡ item.Refused 82
+no-order : stepOf opened (blockOf order.Big 0x0A0D0D0A (wordOf order.Big 0x1A2B3C4E ++ replicate 12 0)) ≡ item.Refused 82
 unfolding stepOf wordAt
 no-order = refl
 
-not-four : stepOf opened (wordOf order.Big 168627466 ++ (wordOf order.Big 30 ++ (wordOf order.Big 439041101 ++ []))) ≡ item.Refused 82
+not-four : stepOf opened (wordOf order.Big 0x0A0D0D0A ++ (wordOf order.Big 30 ++ (wordOf order.Big 0x1A2B3C4D ++ []))) ≡ item.Refused 82
 unfolding stepOf wordAt
 not-four = refl
 
-other-behind : stepOf opened (wordOf order.Big 168627466 ++ (wordOf order.Big 28 ++ (wordOf order.Big 439041101 ++ (replicate 12 0 ++ wordOf order.Big 32)))) ≡ item.Refused 82
+other-behind : stepOf opened (wordOf order.Big 0x0A0D0D0A ++ (wordOf order.Big 28 ++ (wordOf order.Big 0x1A2B3C4D ++ (replicate 12 0 ++ wordOf order.Big 32)))) ≡ item.Refused 82
 unfolding stepOf wordAt
 other-behind = refl
 
-too-small : stepOf opened (blockOf order.Big 168627466 (wordOf order.Big 439041101 ++ replicate 8 0)) ≡ item.Refused 82
+too-small : stepOf opened (blockOf order.Big 0x0A0D0D0A (wordOf order.Big 0x1A2B3C4D ++ replicate 8 0)) ≡ item.Refused 82
 unfolding stepOf wordAt
 too-small = refl
 

@@ -20,19 +20,19 @@ unfoldable pub wordAt : Order → List ℕ → ℕ → ℕ
 wordAt order.Big s at = quadOf (getD s at 0) (getD s (at + 1) 0) (getD s (at + 2) 0) (getD s (at + 3) 0)
 wordAt order.Little s at = quadOf (getD s (at + 3) 0) (getD s (at + 2) 0) (getD s (at + 1) 0) (getD s at 0)
 
--- pcap, "File Header", Magic Number: 0xA1B2C3D4, and 0xA1B23C4D where timestamps are in nanoseconds
+-- pcap, "File Header", Magic Number; the second where timestamps are in nanoseconds
 abbrev pub magicMicro : ℕ
-magicMicro = 2712847316
+magicMicro = 0xA1B2C3D4
 
 abbrev pub magicNano : ℕ
-magicNano = 2712812621
+magicNano = 0xA1B23C4D
 
--- pcapng, "Section Header Block": its type, 0x0A0D0D0A, and its Byte-Order Magic, 0x1A2B3C4D
+-- pcapng, "Section Header Block": its type, and its Byte-Order Magic
 abbrev pub sectionType : ℕ
-sectionType = 168627466
+sectionType = 0x0A0D0D0A
 
 abbrev pub orderMagic : ℕ
-orderMagic = 439041101
+orderMagic = 0x1A2B3C4D
 
 -- "Interface Description Block", "Packet Block (obsolete)", "Simple Packet Block", "Enhanced Packet Block"
 abbrev pub interfaceType : ℕ
@@ -52,7 +52,6 @@ abbrev pub wordSize : ℕ
 wordSize = 4
 
 -- octets of pcap's head and of a record's, and of a block's type, length and magic
-
 abbrev pub headSize : ℕ
 headSize = 24
 

@@ -52,9 +52,12 @@ blockExtent o least s =
     cond (isLength least (wordAt o s lengthAt)) (sized (wordAt o s lengthAt) s (trailed o (wordAt o s lengthAt) s)) (extent.Refused lengthsDisagree)
 
 -- "Section Header Block": its order holds for all blocks of the section
+abbrev pub sectionHead : Order → Extent → Item
+sectionHead o e = within e (λ n. item.Head (container.Section o) n)
+
 abbrev pub sectionBy : Ordered → List ℕ → Item
 sectionBy ordered.Neither s = item.Refused lengthsDisagree
-sectionBy (ordered.As o) s = within (blockExtent o leastSection s) (λ n. item.Head (container.Section o) n)
+sectionBy (ordered.As o) s = sectionHead o (blockExtent o leastSection s)
 
 -- "Interface Description Block": LinkType (16 bits), reserved, SnapLen
 abbrev pub interfaceItem : Order → State → ℕ → List ℕ → Item

@@ -29,7 +29,7 @@ blockOf o t body = wordOf o t ++ (wordOf o (12 + length body) ++ (body ++ wordOf
 
 -- "Section Header Block": Byte-Order Magic, version 1.0, Section Length (not told)
 abbrev pub sectionOf : Order → List ℕ
-sectionOf o = blockOf o 168627466 (wordOf o 439041101 ++ (halfOf o 1 ++ (halfOf o 0 ++ (wordOf o 4294967295 ++ wordOf o 4294967295))))
+sectionOf o = blockOf o 0x0A0D0D0A (wordOf o 0x1A2B3C4D ++ (halfOf o 1 ++ (halfOf o 0 ++ (wordOf o 0xFFFFFFFF ++ wordOf o 0xFFFFFFFF))))
 
 -- "Interface Description Block": LinkType, reserved, SnapLen
 abbrev pub interfaceOf : Order → (link snap : ℕ) → List ℕ

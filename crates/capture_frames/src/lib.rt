@@ -1,6 +1,5 @@
-// One item of a capture, and the frame (RFC 4571) of the UDP datagram that it holds for a port.
-//
-// `begin`, `take_item` and `finish` are the entry points.
+// One item of a capture, and the frame (RFC 4571) of the UDP datagram that it holds for a port. The functions that put a frame ask for room for any, and that
+// one packet more can be counted.
 ghost use mathlib.Core.Path.{_≡_};
 ghost use Prim.Native.Nat.{_+_, _≤_};
 ghost use lib.ListN.{length};
@@ -10,6 +9,9 @@ ghost use Rattle.frames.specs.Frames.{lengthSize, maxFrame};
 ghost use Rattle.capture.specs.Step as capture;
 ghost use Rattle.capture_walk.specs.Frames.{frameOf};
 ghost use Rattle.capture_walk.specs.Session.{CanCount, Countable, FoundFits, begun, counted, foundFront, isWhole, itemFront, lastOf, moved, outAfter, packetFront, refusedBy, replyOf, sessionFront};
+
+pub mod told;
+
 use capture::format::CAPTURE_CUT;
 use capture::format::LINK_NOT_TAKEN;
 use capture::state::Container;

@@ -5,7 +5,7 @@ ghost use mathlib.Core.Path.{_≡_};
 ghost use Prim.Native.Nat.{_+_, _<_, _≤_};
 ghost use lib.ListN.{length};
 ghost use Rattle.capture.specs.Numbers.{blockHead, maxInterfaces};
-ghost use Rattle.capture.specs.Step.{Fits, begunAs, behind, blockItem, headBy, interfaceAdded, opened, recordItem, sectionBy, startItem, stepOf};
+ghost use Rattle.capture.specs.Step.{Fits, begunAs, behind, blockItem, headBy, interfaceAdded, opened, recordItem, sectionBy, sectionHead, startItem, stepOf};
 use capture::format::BLOCK_HEAD;
 use capture::format::HEAD_SIZE;
 use capture::format::LEAST_SECTION;
@@ -80,23 +80,27 @@ fn record_item(order: Order, link: u32, octets: &[u8]) -> Item
     }
 }
 
+// The head of a section in this order.
+fn section_head(order: Order, extent: Extent) -> Item
+    ensures { λ r. ⌜ r ≡ sectionHead order extent ⌝ }
+{
+    match extent {
+        Extent::Short => Item::Short,
+        Extent::Refused(number) => Item::Refused(number),
+        Extent::Whole(n) => Item::Head {
+            container: Container::Section(order),
+            used: n,
+        },
+    }
+}
+
 fn section_item(octets: &[u8], by: Ordered) -> Item
     requires { ⌜ blockHead ≤ length (now octets) ⌝ }
     ensures { λ r. ⌜ r ≡ sectionBy by (now (octets .entry)) ⌝ }
 {
     match by {
         Ordered::Neither => Item::Refused(LENGTHS_DISAGREE),
-        Ordered::As(order) => {
-            let extent = block_extent(order, LEAST_SECTION, octets);
-            match extent {
-                Extent::Short => Item::Short,
-                Extent::Refused(number) => Item::Refused(number),
-                Extent::Whole(n) => Item::Head {
-                    container: Container::Section(order),
-                    used: n,
-                },
-            }
-        }
+        Ordered::As(order) => section_head(order, block_extent(order, LEAST_SECTION, octets)),
     }
 }
 

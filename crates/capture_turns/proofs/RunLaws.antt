@@ -28,7 +28,7 @@ countable {port} p turns h e =
     }
 
 -- the whole run, said of the frames
-pub ended : {port : ℕ} {s : Session} {isWhole : Bool} → walk.Ended (frameWalk port) hasRoom begun s isWhole → Ended port s isWhole
+pub ended : {port : ℕ} {s : Session} {input out : List ℕ} {isWhole : Bool} → walk.Ended (frameWalk port) hasRoom begun s input out isWhole → Ended port s input out isWhole
 ended {port} e =
     record {
       run = e;

@@ -26,9 +26,9 @@ hasRoom n = leb maxFrame n
 abbrev pub started : Run
 started = record { session = begun; buffers = buffers.begun 0 }
 
--- THE WHOLE RUN: what is written is what the frames of all that is read begin with, whatever is still to be read; and where all was written, it is those
+-- THE WHOLE RUN, which leaves these octets in the buffers: what is written is what the frames of all that is read begin with, whatever is still to be read; and where all was written, it is those
 -- frames, and what is told at last is what the walk over it comes to
-pub record Ended (port : ℕ) (s : Session) (isWhole : Bool) : Type 0 where
-  pub run : walk.Ended (frameWalk port) hasRoom begun s isWhole
+pub record Ended (port : ℕ) (s : Session) (input out : List ℕ) (isWhole : Bool) : Type 0 where
+  pub run : walk.Ended (frameWalk port) hasRoom begun s input out isWhole
   pub begins : (unread : List ℕ) → buffers.Begins (framesOf port (run .read ++ unread)) (run .written)
   pub complete : isWhole ≡ true → run .written ≡ framesOf port (run .read)

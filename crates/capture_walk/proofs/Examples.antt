@@ -11,9 +11,11 @@ use Rattle.capture.specs.Written.{headOf, recordOf}
 use Rattle.datagram.specs.Udp.{isForPort, udpIn}
 use Rattle.datagram.specs.Ip.{ipv4In, isIpv4Udp, isIpv4Whole}
 use Rattle.datagram.specs.Link.{linkIn, linkOf}
+use Rattle.text.specs.Text.{ascii, decimal, decimalIn}
 use Rattle.walk.specs.Walk.{walk, walkIn}
 use Rattle.capture_walk.specs.declared.session.Standing.the-variants as standing
-use Rattle.capture_walk.specs.Session.{begun, frameWalk}
+use Rattle.capture_walk.specs.Session.{begun, counted, frameWalk}
+use Rattle.capture_walk.specs.Told.{leftOutText, refusedText, toldText}
 
 -- a datagram to port 20000 with two octets; to 20001; a fragment; one that was cut
 datagram : (fragment port : ℕ) → List ℕ
@@ -69,3 +71,20 @@ ends-at-fourth = refl
 nothing : walk (frameWalk 20000) begun [] .state .standing ≡ standing.Refused 81
 unfolding walkIn stepOf wordAt linkOf linkIn ipv4In isIpv4Udp isIpv4Whole udpIn isForPort four datagram
 nothing = refl
+
+-- what is told of the capture that ends early, and of the link type that is not taken; where a fragment was left out; and nothing where nothing was
+told-both : toldText (walk (frameWalk 20000) begun (take 200 (four 228)) .state) ≡ ascii "fragments=1 cut=1\nrefused 81 3\n"
+unfolding leftOutText refusedText decimal decimalIn ascii walkIn stepOf wordAt linkOf linkIn ipv4In isIpv4Udp isIpv4Whole udpIn isForPort four datagram
+told-both = refl
+
+told-refused : toldText (walk (frameWalk 20000) begun (four 105) .state) ≡ ascii "refused 83 0\n"
+unfolding leftOutText refusedText decimal decimalIn ascii walkIn stepOf wordAt linkOf linkIn ipv4In isIpv4Udp isIpv4Whole udpIn isForPort four datagram
+told-refused = refl
+
+told-fragment : toldText (counted begun 1 0) ≡ ascii "fragments=1 cut=0\n"
+unfolding leftOutText refusedText decimal decimalIn ascii
+told-fragment = refl
+
+nothing-told : toldText (counted begun 0 0) ≡ []
+unfolding leftOutText refusedText
+nothing-told = refl

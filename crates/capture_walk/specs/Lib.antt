@@ -1,3 +1,4 @@
 pub mod Frames
 pub mod Session
+pub mod Told
 pub mod Written

@@ -65,9 +65,19 @@ extensionUnit = 8
 abbrev pub fragmentHeader : ℕ
 fragmentHeader = 44
 
--- sections 4.3, 4.4 and 4.6: Hop-by-Hop Options 0, Routing 43, Destination Options 60
+-- sections 4.3, 4.4 and 4.6: Hop-by-Hop Options, Routing, Destination Options
+abbrev pub hopByHopHeader : ℕ
+hopByHopHeader = 0
+
+abbrev pub routingHeader : ℕ
+routingHeader = 43
+
+abbrev pub destinationHeader : ℕ
+destinationHeader = 60
+
+-- a header behind which another stands
 unfoldable pub isExtension : ℕ → Bool
-isExtension next = eqb next 0 || (eqb next 43 || (eqb next 60 || eqb next fragmentHeader))
+isExtension next = eqb next hopByHopHeader || (eqb next routingHeader || (eqb next destinationHeader || eqb next fragmentHeader))
 
 -- a header that is UDP's, or one that it may stand behind
 unfoldable pub leadsToUdp : ℕ → Bool

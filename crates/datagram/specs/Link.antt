@@ -52,9 +52,18 @@ etherIpv4 = 0x0800
 abbrev pub etherIpv6 : ℕ
 etherIpv6 = 0x86DD
 
--- IEEE 802.1Q, table 9-1: 81-00 of customer tags, 88-A8 of service tags; 91-00 is what others used before
+-- IEEE 802.1Q, table 9-1: of customer tags, and of service tags; the third is what others used before
+abbrev pub customerTag : ℕ
+customerTag = 0x8100
+
+abbrev pub serviceTag : ℕ
+serviceTag = 0x88A8
+
+abbrev pub olderTag : ℕ
+olderTag = 0x9100
+
 unfoldable pub isTag : ℕ → Bool
-isTag n = eqb n 0x8100 || (eqb n 0x88A8 || eqb n 0x9100)
+isTag n = eqb n customerTag || (eqb n serviceTag || eqb n olderTag)
 
 -- its Tag Protocol Identifier and its Tag Control Information, two octets each
 abbrev pub tagSize : ℕ

@@ -14,6 +14,13 @@ const IPV4: usize = 0x0800;
 
 const IPV6: usize = 0x86DD;
 
+// Tag Protocol Identifiers (IEEE 802.1Q, table 9-1), and the one that others used before.
+const CUSTOMER_TAG: usize = 0x8100;
+
+const SERVICE_TAG: usize = 0x88A8;
+
+const OLDER_TAG: usize = 0x9100;
+
 // Octets of a tag, and of an EtherType.
 const TAG: usize = 4;
 
@@ -22,7 +29,7 @@ const TYPE: usize = 2;
 fn is_tag(kind: usize) -> bool
     ensures { λ r. ⌜ r ≡ isTag kind ⌝ }
 {
-    (kind == 0x8100) | ((kind == 0x88A8) | (kind == 0x9100))
+    (kind == CUSTOMER_TAG) | ((kind == SERVICE_TAG) | (kind == OLDER_TAG))
 }
 
 // A whole tag stands at `at`.

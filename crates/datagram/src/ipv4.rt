@@ -13,7 +13,7 @@ ghost use mathlib.Core.Path.{_≡_};
 ghost use Prim.Native.Nat.{_+_, _≤_};
 ghost use lib.ListN.{drop, length};
 ghost use Rattle.datagram.specs.Answer.{beyond};
-ghost use Rattle.datagram.specs.Ip.{ipv4In, ipv4Size, isIpv4Udp, isIpv4Whole, totalLength, version};
+ghost use Rattle.datagram.specs.Ip.{ipv4Header, ipv4In, ipv4Size, isIpv4Udp, isIpv4Whole, totalLength, version};
 use crate::answer::Found;
 use crate::field::holds;
 use crate::field::number;
@@ -41,7 +41,7 @@ pub fn version_at(packet: &[u8], at: usize) -> usize
 
 // The octets of the header: IHL counts words of four.
 fn header_size(packet: &[u8], at: usize) -> usize
-    requires { ⌜ at + 20 ≤ length (now packet) ⌝ }
+    requires { ⌜ at + ipv4Header ≤ length (now packet) ⌝ }
     ensures { λ r. ⌜ r ≡ ipv4Size (drop at (now (packet .entry))) ⌝ }
 {
     4 * (octet(packet, at, 0) % 16)
@@ -49,7 +49,7 @@ fn header_size(packet: &[u8], at: usize) -> usize
 
 // The header is right, and of UDP.
 fn is_udp(packet: &[u8], at: usize) -> bool
-    requires { ⌜ at + 20 ≤ length (now packet) ⌝ }
+    requires { ⌜ at + ipv4Header ≤ length (now packet) ⌝ }
     ensures { λ r. ⌜ r ≡ isIpv4Udp (drop at (now (packet .entry))) ⌝ }
 {
     let version = version_at(packet, at);
@@ -61,7 +61,7 @@ fn is_udp(packet: &[u8], at: usize) -> bool
 
 // More Fragments and the Fragment Offset are zero.
 fn is_whole(packet: &[u8], at: usize) -> bool
-    requires { ⌜ at + 20 ≤ length (now packet) ⌝ }
+    requires { ⌜ at + ipv4Header ≤ length (now packet) ⌝ }
     ensures { λ r. ⌜ r ≡ isIpv4Whole (drop at (now (packet .entry))) ⌝ }
 {
     number(packet, at, FRAGMENT_AT) % 0x4000 == 0

@@ -14,7 +14,9 @@ ghost use Rattle.datagram.specs.Answer.{beyond};
 ghost use Rattle.datagram.specs.Ip.{
   extensionIn,
   extensionSize,
+  extensionUnit,
   headers,
+  ipv6Header,
   ipv6In,
   isExtension,
   isIpv6Udp,
@@ -39,15 +41,21 @@ const NEXT_HEADER_AT: usize = 6;
 // Extension headers come in eights of octets.
 const UNIT: usize = 8;
 
+// Next headers (sections 4.3 to 4.6).
+const HOP_BY_HOP: usize = 0;
+
+const ROUTING: usize = 43;
+
 const FRAGMENT: usize = 44;
+
+const DESTINATION: usize = 60;
 
 const FRAGMENT_OFFSET_AT: usize = 2;
 
-// Hop-by-Hop Options, Routing, Destination Options or Fragment.
 fn is_extension(next: usize) -> bool
     ensures { λ r. ⌜ r ≡ isExtension next ⌝ }
 {
-    (next == 0) | ((next == 43) | ((next == 60) | (next == FRAGMENT)))
+    (next == HOP_BY_HOP) | ((next == ROUTING) | ((next == DESTINATION) | (next == FRAGMENT)))
 }
 
 // UDP's, or a header that it may stand behind.
@@ -59,7 +67,7 @@ fn leads_to_udp(next: usize) -> bool
 
 // The octets of the extension header `next`.
 fn extension_size(packet: &[u8], at: usize, next: usize) -> usize
-    requires { ⌜ at + 8 ≤ length (now packet) ⌝ }
+    requires { ⌜ at + extensionUnit ≤ length (now packet) ⌝ }
     ensures { λ r. ⌜ r ≡ extensionSize next (drop at (now (packet .entry))) ⌝ }
 {
     if next == FRAGMENT {
@@ -70,7 +78,7 @@ fn extension_size(packet: &[u8], at: usize, next: usize) -> usize
 
 // The extension header `next` is not that of a fragment, or of one that is the whole datagram.
 fn is_whole(packet: &[u8], at: usize, next: usize) -> bool
-    requires { ⌜ at + 8 ≤ length (now packet) ⌝ }
+    requires { ⌜ at + extensionUnit ≤ length (now packet) ⌝ }
     ensures { λ r. ⌜ r ≡ isIpv6Whole next (drop at (now (packet .entry))) ⌝ }
 {
     if next == FRAGMENT {
@@ -131,7 +139,7 @@ fn headers_at(packet: &[u8], start: usize, first: usize, payload: usize, port: u
 
 // The version is 6, and the first header leads to UDP.
 fn is_udp(packet: &[u8], at: usize) -> bool
-    requires { ⌜ at + 40 ≤ length (now packet) ⌝ }
+    requires { ⌜ at + ipv6Header ≤ length (now packet) ⌝ }
     ensures { λ r. ⌜ r ≡ isIpv6Udp (drop at (now (packet .entry))) ⌝ }
 {
     let version = version_at(packet, at);

@@ -2,7 +2,7 @@
 // lies in the packet.
 ghost use mathlib.Core.Path.{_≡_};
 ghost use Rattle.datagram.specs.Answer.{pair};
-ghost use Rattle.datagram.specs.Link.{behind, datagramIn, rawIn, typedIn};
+ghost use Rattle.datagram.specs.Link.{behind, cookedV2Header, datagramIn, rawIn, typedIn};
 
 pub mod answer;
 pub mod ethernet;
@@ -31,7 +31,7 @@ const COOKED_FRONT: usize = 14;
 const COOKED_V2_HEADER: usize = 20;
 
 fn cooked_v2(packet: &[u8], port: u16) -> Found
-    ensures { λ r. ⌜ r ≡ behind 20 (typedIn port (pair (now (packet .entry)) 0)) (now (packet .entry)) ⌝ }
+    ensures { λ r. ⌜ r ≡ behind cookedV2Header (typedIn port (pair (now (packet .entry)) 0)) (now (packet .entry)) ⌝ }
 {
     if packet.len() < COOKED_V2_HEADER {
         return Found::Cut;

@@ -10,7 +10,7 @@ ghost use mathlib.Core.Path.{_≡_};
 ghost use Prim.Native.Nat.{_+_, _≤_};
 ghost use lib.ListN.{drop, length};
 ghost use Rattle.datagram.specs.Answer.{beyond};
-ghost use Rattle.datagram.specs.Udp.{isForPort, udpIn};
+ghost use Rattle.datagram.specs.Udp.{isForPort, udpHeader, udpIn};
 use crate::answer::Found;
 use crate::field::holds;
 use crate::field::number;
@@ -23,7 +23,7 @@ const LENGTH_AT: usize = 4;
 
 // The datagram is to the port, and its length is right within `room` octets.
 fn is_for_port(packet: &[u8], at: usize, room: usize, port: u16) -> bool
-    requires { ⌜ at + 8 ≤ length (now packet) ⌝ }
+    requires { ⌜ at + udpHeader ≤ length (now packet) ⌝ }
     ensures { λ r. ⌜ r ≡ isForPort port room (drop at (now (packet .entry))) ⌝ }
 {
     let destination = number(packet, at, DESTINATION_AT);

@@ -1,16 +1,16 @@
 // Writes the UDP datagrams of a capture (pcap or pcapng) to one port as frames of RFC 4571: `pcapframes PORT [FILE]`, from standard input where no file is
 // named. What is written is the library's; this program moves octets, and tells on standard error what it left out.
-ghost use Prim.Native.Nat.{_+_, _≤_};
 ghost use lib.ListN.{length};
 ghost use Rattle.capture_turns.specs.Turns.{Ended, Enough};
 use arguments::files::open_named;
 use arguments::options::may_start;
 use capture::format::MAX_ITEM;
 use capture_frames::finish;
+use capture_frames::told::TOLD_ROOM;
+use capture_frames::told::put_told;
 use capture_turns::start;
 use capture_turns::turn;
 use capture_walk::session::Session;
-use capture_walk::session::Standing;
 use frames::MAX_FRAME;
 use libc::STDERR_FILENO;
 use libc::STDIN_FILENO;
@@ -18,8 +18,6 @@ use port::Port;
 use port::port_of;
 use program::buffers::is_done;
 use program::buffers::turns_left;
-use text::put;
-use text::put_labelled;
 
 // Octets of the buffers: any item and more to read, and some frames that wait to be written together.
 const INPUT_SIZE: usize = 2 * MAX_ITEM;
@@ -34,7 +32,7 @@ struct Outcome {
 
 fn extract(port: u16, fd: i32, input: &mut [u8], out: &mut [u8]) -> Outcome
     requires { ⌜ Enough (length (now input)) (length (now out)) ⌝ }
-    ensures { λ r. ⌜ Ended port (r .session) (r .whole) ⌝ }
+    ensures { λ r. ⌜ Ended port (r .session) (now (input .exit)) (now (out .exit)) (r .whole) ⌝ }
 {
     let mut run = start();
     let mut turns = u64::MAX;
@@ -51,27 +49,11 @@ fn extract(port: u16, fd: i32, input: &mut [u8], out: &mut [u8]) -> Outcome
     }
 }
 
-// Two numbers with their labels, on a line.
-fn tell_two(before: &[u8], first: u64, between: &[u8], second: u64)
-    requires { ⌜ length (now before) + length (now between) ≤ 20 ⌝ }
-{
-    let mut line = [0u8; 64];
-    let next = put_labelled(&mut line, 0, before, first);
-    let last = put_labelled(&mut line, next, between, second);
-    let end = put(&mut line, last, b"\n");
-    io::write_all(STDERR_FILENO, &line[..end]);
-}
-
-// How many fragments and cut packets there were, where there were any, and the refusal that ended the walk.
+// What was left out, and the refusal that ended the walk.
 fn tell(session: Session) {
-    if (session.fragments > 0) | (session.cut > 0) {
-        tell_two(b"fragments=", session.fragments, b" cut=", session.cut);
-    }
-    let standing = session.standing;
-    match standing {
-        Standing::Open => {}
-        Standing::Refused(number) => tell_two(b"refused ", number as u64, b" ", session.packets),
-    }
+    let mut told = [0u8; TOLD_ROOM];
+    let end = put_told(&mut told, 0, session);
+    io::write_all(STDERR_FILENO, &told[..end]);
 }
 
 fn port_told() -> Port {

@@ -10,9 +10,13 @@ use Rattle.port.specs.declared.Port.the-variants as port
 abbrev pub maxPort : ℕ
 maxPort = 65535
 
+-- a value that is none
+abbrev pub noPort : ℕ
+noPort = maxPort + 1
+
 -- the value with one digit more; what is no digit gives none
 abbrev pub nextValue : (value digit : ℕ) → ℕ
-nextValue v d = cond (ltb d 0x30) (maxPort + 1) (cond (ltb 0x39 d) (maxPort + 1) (v * 10 + (d - 0x30)))
+nextValue v d = cond (ltb d 0x30) noPort (cond (ltb 0x39 d) noPort (v * 10 + (d - 0x30)))
 
 -- the value of the digits behind those that gave `v`
 unfoldable pub portIn : ℕ → List ℕ → Port

@@ -48,15 +48,13 @@ module _ (W : Walk) (room : ℕ → Bool) where
   turnsOf started = 0
   turnsOf (turned p o t) = turnsOf p + 1
 
-  -- THE WHOLE RUN. It goes on until the input ends, nothing more is taken, a write fails or no turn is left. What was written is what the text of the walk
+  -- THE WHOLE RUN, which leaves these octets in the buffers. It goes on until the input ends, nothing more is taken, a write fails or no turn is left. What was written is what the text of the walk
   -- begins with, whatever is still to be read; and where all was written, it is the text for what was read, and what is carried at last is the walk's
-  pub record Ended (s₀ s : W .State) (isWhole : Bool) : Type 0 where
+  pub record Ended (s₀ s : W .State) (input out : List ℕ) (isWhole : Bool) : Type 0 where
     pub read : List ℕ
     pub written : List ℕ
     pub carried : W .State
     pub before : Buffers
-    pub input : List ℕ
-    pub out : List ℕ
     pub passed : Passed s₀ read written carried before input out
     pub answer : isWhole ≡ isDone before
     pub at-last : s ≡ W .last carried (unused before input)

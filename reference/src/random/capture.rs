@@ -4,8 +4,9 @@
 use super::*;
 use crate::capture::Order;
 
-/// The link types that are drawn: those that are taken, and one that is not.
-const LINKS: [u32; 7] = [1, 101, 12, 113, 276, 228, 229];
+/// The link types that are taken.
+pub const LINKS: [u32; 7] = [1, 101, 12, 113, 276, 228, 229];
+const TAGS: [u16; 3] = [0x8100, 0x88A8, 0x9100];
 
 pub fn put16(order: Order, number: u16, out: &mut Vec<u8>) {
     out.extend(match order {
@@ -96,54 +97,71 @@ pub fn simple_block(order: Order, original: u32, captured: &[u8], out: &mut Vec<
     block(order, 3, &body, out);
 }
 
-fn udp(r: &mut Random, port: u16) -> Vec<u8> {
-    let size = r.pick(&[0, 1, 3, 40, 200, 1_460]);
-    let port = if r.one_in(4) { r.draw() as u16 } else { port };
+/// The last block, which begins there, with a comment behind the rest of it.
+pub fn comment(order: Order, at: usize, out: &mut Vec<u8>) {
+    let mut length = Vec::new();
+    put32(order, (out.len() - at + 12) as u32, &mut length);
+    out.truncate(out.len() - 4);
+    put16(order, 1, out);
+    put16(order, 3, out);
+    out.extend(b"ABC\0");
+    put32(order, 0, out);
+    out.extend(&length);
+    out[at + 4..at + 8].copy_from_slice(&length);
+}
+
+/// A UDP datagram without a checksum.
+pub fn udp_packet(port: u16, payload: &[u8]) -> Vec<u8> {
     let mut out = vec![0x13, 0x8C];
     out.extend(port.to_be_bytes());
-    out.extend((8 + size as u16).to_be_bytes());
+    out.extend((8 + payload.len() as u16).to_be_bytes());
     out.extend([0, 0]);
-    out.extend((0..size).map(|_| r.octet()));
+    out.extend(payload);
     out
 }
 
-fn ip(r: &mut Random, port: u16, version: u8) -> Vec<u8> {
-    let carried = udp(r, port);
-    let protocol = if r.one_in(10) { 6 } else { 17 };
-    let fragment = if r.one_in(8) { 0x2000 } else { 0 };
-    let mut out = Vec::new();
-    if version == 4 {
-        let options = 4 * r.pick(&[0, 0, 0, 1, 10]);
-        let size = 20 + options;
-        out.extend([0x40 + (size / 4) as u8, 0]);
-        out.extend(((size + carried.len()) as u16).to_be_bytes());
-        out.extend([0, 1]);
-        out.extend((fragment as u16).to_be_bytes());
-        out.extend([64, protocol, 0, 0, 192, 0, 2, 1, 233, 252, 0, 1]);
-        out.resize(size, 1);
-    } else {
-        let extended = r.one_in(4);
-        let size = carried.len() + if extended { 8 } else { 0 };
-        out.extend([0x60, 0, 0, 0]);
-        out.extend((size as u16).to_be_bytes());
-        out.extend([if extended { 44 } else { protocol }, 64]);
-        out.resize(40, 0xFE);
-        if extended {
-            out.extend([protocol, 0, 0, (fragment >> 13) as u8, 0, 0, 0, 9]);
-        }
-    }
+/// The place has IPv4's three flags and the fragment's offset.
+pub fn ipv4_packet(place: u16, protocol: u8, options: &[u8], carried: &[u8]) -> Vec<u8> {
+    let size = 20 + options.len();
+    let mut out = vec![0x40 + (size / 4) as u8, 0];
+    out.extend(((size + carried.len()) as u16).to_be_bytes());
+    out.extend([0, 1]);
+    out.extend(place.to_be_bytes());
+    out.extend([64, protocol, 0, 0, 192, 0, 2, 1, 233, 252, 0, 1]);
+    out.extend(options);
     out.extend(carried);
     out
 }
 
-/// A packet as captured on a link of this type; cut or damaged at times.
-pub fn captured(r: &mut Random, port: u16, link: u32) -> Vec<u8> {
-    let version = match link {
-        228 => 4,
-        229 => 6,
-        _ => r.pick(&[4, 4, 6]),
-    };
-    let number: u16 = if version == 4 { 0x0800 } else { 0x86DD };
+pub fn ipv6_packet(next: u8, carried: &[u8]) -> Vec<u8> {
+    let mut out = vec![0x60, 0, 0, 0];
+    out.extend((carried.len() as u16).to_be_bytes());
+    out.extend([next, 64]);
+    out.extend([0xFE; 32]);
+    out.extend(carried);
+    out
+}
+
+/// A header of eight octets and so many units of eight more: hop-by-hop,
+/// routing or destination.
+pub fn extension(next: u8, units: u8, filler: u8, carried: &[u8]) -> Vec<u8> {
+    let mut out = vec![next, units];
+    out.resize(8 * (usize::from(units) + 1), filler);
+    out.extend(carried);
+    out
+}
+
+/// A fragment header; the place has the offset, two reserved bits and M.
+pub fn fragment(next: u8, place: u16, carried: &[u8]) -> Vec<u8> {
+    let mut out = vec![next, 0];
+    out.extend(place.to_be_bytes());
+    out.extend([0, 0, 0, 9]);
+    out.extend(carried);
+    out
+}
+
+/// Tags stand in Ethernet and the first Linux cooked header alone.
+pub fn on_link(link: u32, tags: &[[u16; 2]], number: u16, carried: &[u8]) -> Vec<u8> {
     let mut out = match link {
         1 => vec![2; 12],
         113 => vec![0; 14],
@@ -151,12 +169,102 @@ pub fn captured(r: &mut Random, port: u16, link: u32) -> Vec<u8> {
         _ => Vec::new(),
     };
     if matches!(link, 1 | 113) {
-        for _ in 0..r.pick(&[0, 0, 0, 1, 2]) {
-            out.extend([0x81, 0, 0, 5]);
-        }
-        out.extend(number.to_be_bytes());
+        let tags = tags.as_flattened().iter().chain([&number]);
+        out.extend(tags.flat_map(|number| number.to_be_bytes()));
     }
-    out.extend(ip(r, port, version));
+    out.extend(carried);
+    out
+}
+
+/// A length of two octets, at times one too large or too small.
+fn nudge(r: &mut Random, octets: &mut [u8], at: usize) {
+    let length = u16::from_be_bytes([octets[at], octets[at + 1]]);
+    let length = match r.below(60) {
+        0 => length.wrapping_add(1),
+        1 => length.wrapping_sub(1),
+        _ => length,
+    };
+    octets[at..at + 2].copy_from_slice(&length.to_be_bytes());
+}
+
+fn udp(r: &mut Random, port: u16) -> Vec<u8> {
+    let size = r.pick(&[0, 1, 3, 40, 200, 1_460]);
+    let port = if r.one_in(4) { r.draw() as u16 } else { port };
+    let mut out = udp_packet(port, &r.octets(size));
+    nudge(r, &mut out, 4);
+    out
+}
+
+fn ipv4(r: &mut Random, protocol: u8, carried: &[u8]) -> Vec<u8> {
+    let place = if r.one_in(8) {
+        r.pick(&[0x2000, 0x0001, 0x1F00, 0x20B9, 0x3FFF])
+    } else {
+        r.pick(&[0, 0x4000, 0x8000])
+    };
+    let options = 4 * r.pick(&[0, 0, 0, 1, 10]);
+    let mut out = ipv4_packet(place, protocol, &vec![1; options], carried);
+    nudge(r, &mut out, 2);
+    out
+}
+
+/// Up to four extension headers in any order.
+fn ipv6(r: &mut Random, protocol: u8, mut carried: Vec<u8>) -> Vec<u8> {
+    let mut next = protocol;
+    for _ in 0..r.pick(&[0, 0, 0, 1, 2, 4]) {
+        let header = r.pick(&[0, 43, 60, 44]);
+        carried = if header == 44 {
+            let place = r.pick(&[0, 0, 0, 6, 1, 8, 0x0100, 0x05C9, 0xFFF8]);
+            let mut out = fragment(next, place, &carried);
+            // Reserved, where the others have their length.
+            out[1] = r.pick(&[0, 0, 1]);
+            out
+        } else {
+            let units = r.pick(&[0, 0, 1, 2, 255]);
+            extension(next, units, r.octet(), &carried)
+        };
+        next = header;
+    }
+    let mut out = ipv6_packet(next, &carried);
+    nudge(r, &mut out, 4);
+    out
+}
+
+/// Mostly UDP; of the others some are numbers of extension headers.
+fn ip(r: &mut Random, port: u16, version: u8) -> Vec<u8> {
+    let carried = udp(r, port);
+    let protocol = if r.one_in(10) {
+        r.pick(&[6, 58, 50, 51, 59, 135, 0, 43, 44, 60])
+    } else {
+        17
+    };
+    match version {
+        4 => ipv4(r, protocol, &carried),
+        _ => ipv6(r, protocol, carried),
+    }
+}
+
+/// Up to three tags; what they tell looks like a number of a protocol at
+/// times.
+fn tags(r: &mut Random) -> Vec<[u16; 2]> {
+    let count = r.pick(&[0, 0, 0, 1, 2, 3]);
+    let mut tag = || [r.pick(&TAGS), r.pick(&[5, 0x0800, 0x8100])];
+    (0..count).map(|_| tag()).collect()
+}
+
+/// A packet as captured on a link of this type; cut or damaged at times.
+pub fn captured(r: &mut Random, port: u16, link: u32) -> Vec<u8> {
+    let version = match link {
+        228 if !r.one_in(20) => 4,
+        229 if !r.one_in(20) => 6,
+        _ => r.pick(&[4, 4, 6]),
+    };
+    let number = match version {
+        _ if r.one_in(20) => r.pick(&[0x0800, 0x86DD, 0x0806, 0x8100, 46]),
+        4 => 0x0800,
+        _ => 0x86DD,
+    };
+    let carried = ip(r, port, version);
+    let mut out = on_link(link, &tags(r), number, &carried);
     if r.one_in(4) {
         out.extend([0; 6]);
     }
@@ -181,8 +289,9 @@ fn pcap(r: &mut Random, port: u16, trouble: usize) -> Vec<u8> {
     let order = r.pick(&[Order::Big, Order::Little]);
     let magic = r.pick(&[0xA1B2_C3D4, 0xA1B2_3C4D]);
     let link = link(r, trouble);
-    // The bits above the link type tell of an FCS.
-    let above = if r.one_in(4) { 0x5400_0000 } else { 0 };
+    // The bits above the link type tell of an FCS: of four octets, of ten; or
+    // are all set.
+    let above = r.pick(&[0, 0, 0, 0, 0, 0x2400_0000, 0x5400_0000, 0xFFFF_0000]);
     let mut out = pcap_head(order, magic, above | link);
     for _ in 0..r.below(20) {
         pcap_record(order, &captured(r, port, link), &mut out);
@@ -198,6 +307,7 @@ fn pcapng(r: &mut Random, port: u16, trouble: usize) -> Vec<u8> {
         let mut links = Vec::new();
         let snap = r.pick(&[0, 0, 65_535, 60]);
         for _ in 0..r.below(25) {
+            let at = out.len();
             match r.below(10) {
                 0 => block(order, r.pick(&[4, 5, 0xBAD, 10]), &[3; 9], &mut out),
                 1 | 2 => {
@@ -220,14 +330,17 @@ fn pcapng(r: &mut Random, port: u16, trouble: usize) -> Vec<u8> {
                 }
                 _ => {}
             }
+            if out.len() > at && r.one_in(5) {
+                comment(order, at, &mut out);
+            }
         }
     }
     out
 }
 
 /// A capture with datagrams to the port. Here and there link types are not
-/// taken and interfaces not described, and the whole is cut or damaged; some
-/// captures have none of this.
+/// taken and interfaces not described, and the whole is cut or damaged, mostly
+/// near its front; some captures have none of this.
 pub fn capture(r: &mut Random, port: u16) -> Vec<u8> {
     let trouble = r.pick(&[4, 20, 100_000]);
     let mut out = match r.below(2) {
@@ -238,7 +351,8 @@ pub fn capture(r: &mut Random, port: u16) -> Vec<u8> {
         out.truncate(r.below(out.len() + 1));
     }
     if r.one_in(trouble) && !out.is_empty() {
-        let at = r.below(out.len());
+        let front = r.pick(&[12, 64, usize::MAX]);
+        let at = r.below(out.len().min(front));
         let octet = r.octet();
         out[at] = r.pick(&[0, 1, 4, 0xFF, octet]);
     }

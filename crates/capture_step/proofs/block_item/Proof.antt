@@ -19,10 +19,10 @@ use Rattle.capture.proofs.StepLaws.{block-in, whole-in}
 use Rattle.capture_step.proofs.block_item.Statement.{statement}
 use Rattle.capture_step.proofs.block_item.Tie as tie
 
-other : (o : Order) (st : State) (s : List ℕ) (y l : ℕ) (e : Extent) (x : Item) → 12 ≤ length s → y ≡ wordAt o s 0 → (y ≡ 168627466 → ⊥) → l ≡ leastOf y → e ≡ blockExtent o l s
+other : (o : Order) (st : State) (s : List ℕ) (y l : ℕ) (e : Extent) (x : Item) → 12 ≤ length s → y ≡ wordAt o s 0 → (y ≡ 0x0A0D0D0A → ⊥) → l ≡ leastOf y → e ≡ blockExtent o l s
     → x ≡ within e (λ n. bodyItem y o st n s) → x ≡ blockItem o st s
 other o st s y l e x h w n k f g =
-    rw (le-ltb (length s) 12 h, ← w, ne-eqb y 168627466 n)
+    rw (le-ltb (length s) 12 h, ← w, ne-eqb y 0x0A0D0D0A n)
     (g ∙ ap (λ (z : Extent). within z (λ n. bodyItem y o st n s)) (f ∙ ap (λ (z : ℕ). blockExtent o z s) k))
 
 returns : tie.Need-returns
@@ -31,7 +31,7 @@ returns c = rw (lt-ltb _ 12 (c .if1 .taken))
 returns-2 : tie.Need-returns-2
 returns-2 c =
     let s = c .before .before .before .before .before .before .args .octets .now in
-    rw (le-ltb _ 12 (c .before .before .before .before .if1 .left), ← c .before .before .before .word-at .ensures .0, eq-eqb _ 168627466 (c .before .before .if2 .taken))
+    rw (le-ltb _ 12 (c .before .before .before .before .if1 .left), ← c .before .before .before .word-at .ensures .0, eq-eqb _ 0x0A0D0D0A (c .before .before .if2 .taken))
     (c .section-item .ensures ∙ ap (λ (o : Ordered). sectionBy o s) (c .before .section-order .ensures))
 
 body-item-requires : tie.Need-body-item-requires
