@@ -1,8 +1,10 @@
--- Options, and words that are none.
+-- Options, words that are none, and `old`.
 -- By computation.
 use mathlib.Core.Path.{_≡_, refl}
+use mathlib.Core.Bool.{true, false}
 use mathlib.Core.List.{[]}
 use Rattle.arguments.specs.declared.options.Told.the-variants as told
+use Rattle.arguments.specs.Files.{isOld}
 use Rattle.arguments.specs.Options.{isText, optionOf}
 use Rattle.arguments.proofs.OptionLaws.{octets}
 
@@ -24,3 +26,13 @@ pub operands : (optionOf (octets "./-x") ≡ told.Operand)
     × (optionOf [] ≡ told.Operand)
 unfolding optionOf isText
 operands = (refl, refl, refl, refl, refl)
+
+-- the word, and words that are files' names
+pub old : (isOld (octets "old") ≡ true)
+    × (isOld (octets "./old") ≡ false)
+    × (isOld (octets "Old") ≡ false)
+    × (isOld (octets "older") ≡ false)
+    × (isOld (octets "ol") ≡ false)
+    × (isOld [] ≡ false)
+unfolding isText
+old = (refl, refl, refl, refl, refl, refl)

@@ -1,6 +1,6 @@
 -- What `option_of` found by its tests is what the word is.
 use mathlib.Core.Path.{_≡_, refl, ap, ap₂, sym, _∙_}
-use mathlib.Core.Bool.{Bool, true, false, cond, _&&_}
+use mathlib.Core.Bool.{Bool, true, false}
 use mathlib.Core.List.{List, [], _∷_}
 use Prim.Native.Nat.{ℕ}
 use Prim.Native.Char.{code}
@@ -10,7 +10,6 @@ use borrow.Author.Tests.{eqb-true, eq-eqb, ne-eqb}
 use lib.Dec.{eqb}
 use lib.ListN.{length, getD}
 use Rattle.wire.proofs.ResultLaws.{and-true}
-use Rattle.arguments.specs.declared.options.Told.{Told}
 use Rattle.arguments.specs.declared.options.Told.the-variants as told
 use Rattle.arguments.specs.Options.{isText, dash, named, optionOf}
 
@@ -28,6 +27,12 @@ is-text (x ∷ xs) []ˢ e = let o : _≡_ {A = ℕ} 0 1 = cc in absurd (omega ar
 is-text (x ∷ xs) (c ∷ˢ s) e =
     let p = and-true (eqb x (code c)) (isText xs s) e in
     ap₂ _∷_ (eqb-true x (code c) (p .0)) (is-text xs s (p .1))
+
+-- and the text itself does
+same-text : (s : String) → isText (octets s) s ≡ true
+unfolding isText
+same-text []ˢ = refl
+same-text (c ∷ˢ s) = rw (eq-eqb (code c) (code c) refl, same-text s) refl
 
 not-text : (w : List ℕ) (s : String) → (w ≡ octets s → ⊥) → isText w s ≡ false
 not-text w s h = go (isText w s) refl
@@ -69,3 +74,11 @@ unknown-named w l e h v = sym (by-name w l e ∙ (rw (not-text w "--help" h, not
 -- a test that would have passed did not
 pub refuted : {A : Type 0} {b : Bool} → (A → b ≡ true) → b ≡ false → A → ⊥
 refuted h e x = let o : true ≡ false = sym (h x) ∙ e in let z : _≡_ {A = ℕ} 0 1 = cc in omega arith
+
+-- a test that passes on the text alone tells what `isText` does
+pub as-text : (w : List ℕ) (s : String) (b : Bool) → (b ≡ true → w ≡ octets s) → (w ≡ octets s → b ≡ true) → b ≡ isText w s
+as-text w s b h k = go b refl
+  where
+    go : (a : Bool) → b ≡ a → a ≡ isText w s
+    go true e = sym (ap (λ (v : List ℕ). isText v s) (h e) ∙ same-text s)
+    go false e = sym (not-text w s (refuted k e))

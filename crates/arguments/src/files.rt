@@ -1,15 +1,17 @@
 // What a program is told: `old` for the drafts' layout, and a file.
 ghost use Prim.Native.Nat.{_≤_};
+ghost use mathlib.Core.Path.{_≡_};
+ghost use Rattle.arguments.specs.Files.{fileAt, isOld};
+use check::same;
 use libc::ENAMETOOLONG;
 use libc::STDIN_FILENO;
 use wire::layout::Layout;
 
 // The word `old`.
-fn is_old(word: &[u8]) -> bool {
-    if word.len() != 3 {
-        return false;
-    }
-    (word[0] == b'o') & ((word[1] == b'l') & (word[2] == b'd'))
+fn is_old(word: &[u8]) -> bool
+    ensures { λ r. ⌜ r ≡ isOld (now (word .entry)) ⌝ }
+{
+    same(word, b"old")
 }
 
 // The layout of the drafts where the first argument is `old` (02, K3).
@@ -27,7 +29,7 @@ pub fn layout_told() -> Layout {
 
 // Where the file stands among the arguments: behind `old`.
 pub fn file_at(layout: Layout) -> usize
-    ensures { λ r. ⌜ r ≤ 2 ⌝ }
+    ensures { λ r. ⌜ (r ≡ fileAt layout) × (r ≤ 2) ⌝ }
 {
     match layout {
         Layout::Rfc8331 => 1,

@@ -93,7 +93,8 @@ fn main() {
         return;
     }
     let to = create_named(at + 1);
-    if to < 0 {
+    // Where a program is started without standard error, a new file takes its place, and must not get what is told there.
+    if to <= STDERR_FILENO {
         return;
     }
     let mut input = [0u8; INPUT_SIZE];

@@ -1,93 +1,22 @@
--- What one turn gives, from what its calls promise; and THE WHOLE OUTPUT: what was written, and then what waits and what is printed for the octets that are
+-- THE WHOLE OUTPUT: what was written, and then what waits and what is printed for the octets that are
 -- left, read or not, is the output at the start and after every turn. So where all of it is written, with the last lines, that is the output for what was read.
 use mathlib.Core.Path.{_≡_, refl, ap, sym, subst, _∙_}
 use mathlib.Core.Bool.{Bool, true, false, cond, _&&_}
 use mathlib.Core.List.{List, [], _++_, append-assoc, append-nil}
 use Prim.Native.Nat.{ℕ, _+_, _-_, _≤_, _<_}
 use native.Mathlib.Omega.{arith}
-use lib.ListN.{length, take, drop, drop-of-length-le, length-append}
-use lib.Seq.{drop-drop, take-append-seam}
-use Rattle.wire.specs.Bits.{overwrite}
-use Rattle.wire.proofs.ListLaws.{part-written, take-splice}
-use Rattle.frames.specs.Answers.{frontOf}
-use Rattle.frames.specs.Frames.{Front, end, cut, frame, front, isBroken, lengthSize}
-use Rattle.frames.proofs.FrameLaws.{frame-found}
+use lib.ListN.{length, take, drop, drop-of-length-le, length-replicate, replicate}
+use lib.Seq.{take-append-seam}
+use Rattle.frames.specs.Frames.{Front, end, cut, frame, front, isBroken}
 use Rattle.frames.proofs.NextLaws.{shorter}
 use Rattle.program.specs.declared.buffers.Buffers.{Buffers}
-use Rattle.program.specs.Buffers.{Begins, Flushed, InBounds, Refilled, advanced, isDone, readIn, unused, unwritten, writtenIn}
-use Rattle.program.specs.Run.{Closed, Closing, FrameTaken, NoneTaken, Passed, Program, Started, Step, Turned, started, turned, turnsOf}
-use Rattle.program.proofs.BufferLaws.{Done, Kept, done, flushed-bounds, flushed-keeps, lent, length-lent, not-done, octets-parts, outWith, part-behind, read-bounds, refilled-keeps, short, text-waits}
-
--- what lies behind a frame
-behind-frame : (s p rest : List ℕ) → front s ≡ frame p rest → rest ≡ drop (lengthSize + length p) s
-behind-frame s p rest e =
-    let f = frame-found s (length p) (ap frontOf e) in
-    rest-is (sym e ∙ f .is) ∙ drop-drop (length p) lengthSize s
-  where
-    rest-is : {q t : List ℕ} → frame p rest ≡ frame q t → rest ≡ t
-    rest-is g = cc
+use Rattle.program.specs.Buffers.{Begins, InBounds, isDone, readIn, unused, unwritten, writtenIn}
+use Rattle.program.specs.Run.{Closed, Closing, Ended, FrameTaken, Passed, Program, Started, Step, Turned, maxTurns, started, turned, turnsOf}
+use Rattle.program.proofs.BufferLaws.{Done, Kept, done, flushed-keeps, not-done, octets-parts, one-more, refilled-keeps, short, still-open}
 
 -- no whole frame stands there
 abbrev pub NoFrame : Front → Type 0
 NoFrame f = (p rest : List ℕ) → f ≡ frame p rest → ⊥
-
-module _ (P : Program) (s : P .State) (b : Buffers) (input out : List ℕ) (inside : InBounds b (length input) (length out)) where
-  -- a frame was taken, and its text put into the octets that were lent
-  pub frame-turn : (p rest : List ℕ) → P .room s (length out - b .filled) ≡ true → front (unused b input) ≡ frame p rest → (s′ : P .State) → s′ ≡ P .next s p
-      → (used size : ℕ) → used ≡ lengthSize + length p → size ≡ length (P .text s p) → b .at + used ≤ b .end → b .filled + size ≤ length out
-      → (part : List ℕ) → part ≡ overwrite (P .text s p) (lent b out) → length (outWith b out part) ≡ length out
-      → Turned P s b input out s′ (advanced b used size) input (outWith b out part)
-  frame-turn p rest room f s′ n used size u t fits fits-out part octets l =
-      let text = P .text s p in
-      let x : FrameTaken P s b out p rest s′ (advanced b used size) input (outWith b out part) =
-      record {
-        state = n;
-        filled = ap (λ (k : ℕ). b .filled + k) t;
-        text = (λ i. take (b .filled + t i) (part-written (b .filled) out text part octets i)) ∙ take-splice out (b .filled) text (inside .2);
-        octets =
-            part-behind input (b .at) (b .end) (inside .0) (inside .1) used fits ∙ ap (λ (k : ℕ). drop k (unused b input)) u
-            ∙ sym (behind-frame (unused b input) p rest f);
-        goes-on = refl;
-      }
-      in
-      record {
-        bounds = (fits, inside .1, omega (arith, fits-out, l));
-        step =
-            subst (λ (g : Front). Step P (P .room s (length out - b .filled)) g s b input out s′ (advanced b used size) input (outWith b out part)) (sym f)
-            (subst (λ (r : Bool). Step P r (frame p rest) s b input out s′ (advanced b used size) input (outWith b out part)) (sym room) x);
-      }
-
-  none : (part : List ℕ) → NoneTaken P s b out s (outWith b out part)
-  none part = record { state = refl; text = text-waits b out part (inside .2) }
-
-  -- there was no room: text waits, and is written
-  pub flushed-turn : P .room s (length out - b .filled) ≡ false → 0 < b .filled → (part : List ℕ) (r : Buffers) → Flushed b r
-      → length (outWith b out part) ≡ length out → Turned P s b input out s r input (outWith b out part)
-  flushed-turn room waits part r t l =
-      let k = flushed-bounds b input out inside r t in
-      record {
-        bounds = (k .0, k .1, omega (arith, k .2, l));
-        step =
-            subst (λ (z : Bool). Step P z (front (unused b input)) s b input out s r input (outWith b out part)) (sym room)
-            (none part, t, refl, waits);
-      }
-
-  -- there was no whole frame: the text is written, and more is read
-  pub refilled-turn : P .room s (length out - b .filled) ≡ true → NoFrame (front (unused b input)) → (part : List ℕ) (r : Buffers) (input′ : List ℕ)
-      → Refilled b input r input′ → length (outWith b out part) ≡ length out → Turned P s b input out s r input′ (outWith b out part)
-  refilled-turn room bare part r input′ t l =
-      let k = read-bounds b input out inside r input′ t in
-      record {
-        bounds = (k .0, k .1, omega (arith, k .2, l));
-        step =
-            subst (λ (z : Bool). Step P z (front (unused b input)) s b input out s r input′ (outWith b out part)) (sym room)
-            (go (front (unused b input)) bare);
-      }
-    where
-      go : (f : Front) → NoFrame f → Step P true f s b input out s r input′ (outWith b out part)
-      go end h = (none part, t)
-      go cut h = (none part, t)
-      go (frame p rest) h = absurd (h p rest refl)
 
 module _ (P : Program) {first : List ℕ} {s₀ : P .State} where
   pub bounds : {read written : List ℕ} {s : P .State} {b : Buffers} {input out : List ℕ} → Passed P first s₀ read written s b input out → InBounds b (length input) (length out)
@@ -106,6 +35,40 @@ module _ (P : Program) {first : List ℕ} {s₀ : P .State} where
       go true end (u, x) = omega (arith, ap f (u .state))
       go true cut (u, x) = omega (arith, ap f (u .state))
       go true (frame q rest) x = omega (arith, ap f (x .state), h s q)
+
+-- THE LOOP of a program: its turns are a run, and with those that are left they are as many as at the start; some are left only while the run is open
+module _ (P : Program) (first : List ℕ) (s₀ : P .State) where
+  pub record Sofar (s : P .State) (b : Buffers) (input out : List ℕ) (turns : ℕ) : Type 0 where
+    pub read : List ℕ
+    pub written : List ℕ
+    pub passed : Passed P first s₀ read written s b input out
+    pub made : b .«open» ≡ true → turns + turnsOf P passed ≡ maxTurns
+    pub goes-on : 0 < turns → b .«open» ≡ true
+
+module _ {P : Program} {first : List ℕ} {s₀ : P .State} where
+  pub first-turn : {b : Buffers} {input out : List ℕ} → Started first b out → Sofar P first s₀ s₀ b input out maxTurns
+  first-turn t = record { read = []; written = []; passed = started t; made = λ o. refl; goes-on = λ h. t .goes-on }
+
+  pub next-turn : {s : P .State} {b : Buffers} {input out : List ℕ} {turns : ℕ} → Sofar P first s₀ s b input out turns → 0 < turns
+      → {s′ : P .State} {b′ : Buffers} {input′ out′ : List ℕ} → Turned P s b input out s′ b′ input′ out′ → {left : ℕ} → left ≡ cond (b′ .«open») (turns - 1) 0
+      → Sofar P first s₀ s′ b′ input′ out′ left
+  next-turn {turns = turns} f h {b′ = b′} t {left} e =
+      let o = f .goes-on h in
+      record {
+        read = _;
+        written = _;
+        passed = turned (f .passed) o t;
+        made = one-more (b′ .«open») turns left (turnsOf P (f .passed)) maxTurns e h (f .made o);
+        goes-on = still-open (b′ .«open») turns left e;
+      }
+
+-- the length of a buffer at its start comes by a law, and is not counted
+pub zeros : (n : ℕ) → length {0} {A = ℕ} (replicate n 0) ≡ n
+zeros n = length-replicate {0} {A = ℕ} n 0
+
+-- buffers of the same sizes hold what is asked of them
+pub still-enough : (E : ℕ → ℕ → ℕ → Type 0) {i s o : ℕ} {i′ s′ o′ : ℕ} → i′ ≡ i → s′ ≡ s → o′ ≡ o → E i s o → E i′ s′ o′
+still-enough E a b d e = rw (a, b, d) e
 
 -- WHAT A PROGRAM PRINTS for the rest of an input: a frame that was read gives its packet's text, and then what is printed for the rest, read or not;
 -- where no frame is in all that is left, the last lines
@@ -182,6 +145,10 @@ module _ (P : Program) (remaining : P .State → List ℕ → List ℕ) (prints 
         go true cut e (u, x) = other cut e (λ z. let y : _≡_ {A = ℕ} 0 1 = cc in omega arith) (refilled-keeps b input out inside b′ input′ out′ x (u .text) .rest h)
         go true (frame p rest) e x = not-done (b′ .«open») (b′ .filled) (x .goes-on) h
 
+  -- a list begins with the first of its parts
+  begins-with : (first rest l : List ℕ) → first ++ rest ≡ l → Begins l first
+  begins-with first rest l e = ap (take (length first)) (sym e) ∙ take-append-seam first rest
+
   module _ {first : List ℕ} {s₀ : P .State} where
     -- THE INVARIANT OF A RUN
     run-prints : {read written : List ℕ} {s : P .State} {b : Buffers} {input out : List ℕ} → Passed P first s₀ read written s b input out
@@ -200,30 +167,61 @@ module _ (P : Program) (remaining : P .State → List ℕ → List ℕ) (prints 
     run-ends (turned {read} {written} {s} {b} {input} {out} {s′} {b′} {input′} {out′} p o t) h =
         turn-ends s b input out s′ b′ input′ out′ (bounds P p) o t h
 
-    pub run-begins : {read written : List ℕ} {s : P .State} {b : Buffers} {input out : List ℕ} → Passed P first s₀ read written s b input out
-        → (unread : List ℕ) → Begins (first ++ remaining s₀ (read ++ unread)) written
-    run-begins {read} {written} {s} {b} {input} {out} p unread =
-        ap (take (length written)) (sym (run-prints p unread)) ∙ take-append-seam written (printed s b input out unread)
+    module _ {read written : List ℕ} {s : P .State} {b : Buffers} {input out : List ℕ} (p : Passed P first s₀ read written s b input out) where
+      -- what was written is a beginning of it
+      run-begins : (unread : List ℕ) → Begins (first ++ remaining s₀ (read ++ unread)) written
+      run-begins unread = begins-with written _ _ (run-prints p unread)
 
-    -- THE WHOLE: the texts written, joined, are the output for the pieces read, joined
-    pub run-whole : {read written : List ℕ} {s : P .State} {b : Buffers} {input out : List ℕ} → Passed P first s₀ read written s b input out
-        → (r : Buffers) (out′ : List ℕ) (c : Closed P s b input out r out′) → isDone r ≡ true
-        → written ++ writtenIn (c .ready) r out′ ≡ first ++ remaining s₀ read
-    run-whole {read} {written} {s} {b} {input} {out} p r out′ c h = go (isDone b) refl (c .step)
-      where
-        go : (z : Bool) → isDone b ≡ z → Closing P z s b input out (c .ready) r out′ → written ++ writtenIn (c .ready) r out′ ≡ first ++ remaining s₀ read
-        go false e (a, x, same) =
-            let f : isDone b ≡ true = subst (λ (z : Buffers). isDone z ≡ true) x h in
-            let z : _≡_ {A = ℕ} 0 1 = cc (e, f) in
-            absurd (omega arith)
-        go true e x =
+      -- and the text that waits comes next
+      run-waits : (unread : List ℕ) → Begins (first ++ remaining s₀ (read ++ unread)) (written ++ unwritten b out)
+      run-waits unread =
+          begins-with (written ++ unwritten b out) _ _ (append-assoc written (unwritten b out) (remaining s (unused b input ++ unread)) ∙ run-prints p unread)
+
+      module _ (r : Buffers) (out′ : List ℕ) (c : Closed P s b input out r out′) where
+        -- at the end of the input the last lines do
+        run-last : isDone b ≡ true → written ++ unwritten (c .ready) out′ ≡ first ++ remaining s₀ read
+        run-last e =
+            let x = subst (λ (z : Bool). Closing P z s b input out (c .ready) r out′) e (c .step) in
             let d = done (b .«open») (b .filled) e in
-            let k = done (r .«open») (r .filled) h in
-            let last = P .last (isBroken (front (unused b input))) s in
-            let lines : remaining s (unused b input ++ []) ≡ last =
+            let lines : remaining s (unused b input ++ []) ≡ P .last (isBroken (front (unused b input))) s =
             ap (remaining s) (append-nil (unused b input)) ∙ prints .last s (unused b input) (run-ends p e) in
-            let n : c .ready .filled - r .filled ≡ c .ready .filled = omega (arith, k .empty) in
-            ap (λ (j : ℕ). written ++ take j out′) n
-            ∙ ap (λ (z : List ℕ). written ++ z) (x .text ∙ sym lines ∙ sym (λ i. take (d .empty i) out ++ remaining s (unused b input ++ [])))
+            ap (λ (z : List ℕ). written ++ z) (x .text ∙ sym lines ∙ sym (λ i. take (d .empty i) out ++ remaining s (unused b input ++ [])))
             ∙ run-prints p []
             ∙ ap (λ (z : List ℕ). first ++ remaining s₀ z) (append-nil read)
+
+        -- they are written where the input had ended, and then nothing waits
+        closed-done : isDone r ≡ true → isDone b ≡ true
+        closed-done h = go (isDone b) refl (c .step)
+          where
+            go : (z : Bool) → isDone b ≡ z → Closing P z s b input out (c .ready) r out′ → isDone b ≡ true
+            go false e (a, x, same) = subst (λ (z : Buffers). isDone z ≡ true) x h
+            go true e x = e
+
+        -- THE WHOLE: the texts written, joined, are the output for the pieces read, joined
+        run-whole : isDone r ≡ true → written ++ writtenIn (c .ready) r out′ ≡ first ++ remaining s₀ read
+        run-whole h =
+            let n : c .ready .filled - r .filled ≡ c .ready .filled = omega (arith, done (r .«open») (r .filled) h .empty) in
+            ap (λ (j : ℕ). written ++ take j out′) n ∙ run-last (closed-done h)
+
+    -- A RUN THAT HAS ENDED: no turn is left
+    pub run-ended : (whole : List ℕ → List ℕ) → ((l : List ℕ) → whole l ≡ first ++ remaining s₀ l) → {s : P .State} {b : Buffers} {input out : List ℕ} {turns : ℕ}
+        → Sofar P first s₀ s b input out turns → turns ≤ 0 → {r : Buffers} {out′ : List ℕ} → Closed P s b input out r out′ → {isWhole : Bool} → isWhole ≡ isDone r
+        → Ended P whole first s₀ s out′ isWhole
+    run-ended whole w {b = b} {input = input} {out = out} f n {r} {out′} c e =
+        let p = f .passed in
+        record {
+          read = f .read;
+          written = f .written;
+          before = b;
+          input = input;
+          out = out;
+          passed = p;
+          after = r;
+          closed = c;
+          answer = e;
+          ends = λ o. omega (arith, n, f .made o);
+          begins = λ unread. subst (λ (l : List ℕ). Begins l (f .written)) (sym (w (f .read ++ unread))) (run-begins p unread);
+          waits = λ unread. subst (λ (l : List ℕ). Begins l (f .written ++ unwritten b out)) (sym (w (f .read ++ unread))) (run-waits p unread);
+          last-waits = λ h. run-last p r out′ c h ∙ sym (w (f .read));
+          complete = λ h. run-whole p r out′ c (sym e ∙ h) ∙ sym (w (f .read));
+        }

@@ -82,7 +82,9 @@ abbrev pub maxTurns : ℕ
 maxTurns = 2 ^ 64 - 1
 
 -- THE WHOLE RUN of a program whose output is `whole`. It goes on until the input ends, a write fails or no turn is left. What was written is what the
--- output begins with, whatever is still to be read; and where all was written, with the last lines, it is the output for what was read
+-- output begins with, whatever is still to be read; and where all was written, with the last lines, it is the output for what was read. The text that waits
+-- comes next, and at the end of the input the last lines: a write that fails part-way has written a beginning of them, so that a file on a full disk is a
+-- beginning of the file
 pub record Ended (P : Program) (whole : List ℕ → List ℕ) (first : List ℕ) (s₀ s : P .State) (out′ : List ℕ) (isWhole : Bool) : Type 0 where
   pub read : List ℕ
   pub written : List ℕ
@@ -95,4 +97,6 @@ pub record Ended (P : Program) (whole : List ℕ → List ℕ) (first : List ℕ
   pub answer : isWhole ≡ isDone after
   pub ends : before .«open» ≡ true → turnsOf P passed ≡ maxTurns
   pub begins : (unread : List ℕ) → Begins (whole (read ++ unread)) written
+  pub waits : (unread : List ℕ) → Begins (whole (read ++ unread)) (written ++ unwritten before out)
+  pub last-waits : isDone before ≡ true → written ++ unwritten (closed .ready) out′ ≡ whole read
   pub complete : isWhole ≡ true → written ++ writtenIn (closed .ready) after out′ ≡ whole read

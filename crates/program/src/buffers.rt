@@ -182,8 +182,9 @@ fn count_down(turns: u64, open: bool, prints: bool) -> u64
     ensures { λ r. ⌜ r ≡ cond «open» (turns - 1) 0 ⌝ }
 {
     if open {
-        show(turns, prints);
-        return turns - 1;
+        let left = turns - 1;
+        show(left, prints);
+        return left;
     }
     end(turns, prints);
     0

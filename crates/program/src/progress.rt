@@ -11,20 +11,21 @@ fn is_watched(prints: bool) -> bool {
 }
 
 // So many turns are left of u64::MAX.
-pub(crate) fn show(turns: u64, prints: bool) {
-    if turns % EVERY != 0 {
+pub(crate) fn show(left: u64, prints: bool) {
+    let made = u64::MAX - left;
+    if made % EVERY != 0 {
         return;
     }
     if is_watched(prints) {
         io::write_all(STDERR_FILENO, b"\r");
-        io::print_decimal(STDERR_FILENO, u64::MAX - turns);
+        io::print_decimal(STDERR_FILENO, made);
         io::write_all(STDERR_FILENO, b" steps");
     }
 }
 
 // Behind the last number that was shown.
-pub(crate) fn end(turns: u64, prints: bool) {
-    if u64::MAX - turns < EVERY {
+pub(crate) fn end(left: u64, prints: bool) {
+    if u64::MAX - left < EVERY {
         return;
     }
     if is_watched(prints) {

@@ -1,59 +1,50 @@
 -- `turn` reports the frame at the front, or makes room, or reads more.
--- By the answer of `check_frame`.
+-- By the answer of `check_frame`, as any program over frames does (`program` `FrameLaws`).
 use borrow.Author.Needs.{needs}
-use mathlib.Core.Path.{sym, subst}
+use borrow.Author.Tests.{le-leb}
+use mathlib.Core.Path.{_≡_, refl}
 use Prim.Native.Nat.{_+_, _^_, _<_}
 use native.Mathlib.Omega.{arith}
 use lib.ListN.{length}
-use Rattle.program.specs.declared.buffers.Buffers.{Buffers}
-use Rattle.program.specs.Run.{Turned}
-use Rattle.program.proofs.BufferLaws.{outWith}
+use Rattle.program.proofs.FrameLaws.{Answered, flushed-turn, frame-fits, frame-turn, refilled-turn, room-to-read}
 use Rattle.report.specs.declared.session.Session.{Session}
-use Rattle.report_turns.specs.Turns.{counted, streamcheck}
-use Rattle.report_turns.proofs.TurnLaws.{frame-fits, reported-turn, flushed-turn, refilled-turn, room-to-read}
+use Rattle.report.specs.declared.session.Reported.{Reported}
+use Rattle.report_lines.specs.Lines.{linesRoom}
+use Rattle.report_turns.specs.Turns.{streamcheck}
+use Rattle.report_turns.proofs.TurnLaws.{answered, sessionIn, shown}
 use Rattle.report_turns.proofs.turn.Statement.{statement}
 use Rattle.report_turns.proofs.turn.Tie as tie
 
+-- what `check_frame` answered
+given : (c : tie.After-out) (z : Reported) → c .before .before .before .check-frame .result ≡ z → (s : Session) → s ≡ sessionIn z (c .before .before .before .before .before .before .before .before .before .before .before .before .before .args .run .session)
+    → let a = c .before .before .before .before .before .before .before .before .before .before .before .before .before .args in
+    Answered streamcheck (a .run .session) (a .run .buffers) (a .input .now) (a .out .now) (shown z) s (c .before .before .before .check-frame .last .1 .1 .1 .0)
+given c z told s e =
+    let a = c .before .before .before .before .before .before .before .before .before .before .before .before .before .args in
+    let p = c .before .before .before .before .before .before .before .before .before .before .before .before .before .pre in
+    let y = c .before .before .before .check-frame in
+    answered (a .run .session) (a .run .buffers) (a .input .now) (a .out .now) (y .last .1 .1 .1 .0) (length (a .cells .now)) (p .0) (p .1 .0) (c .out .given .1) (y .result) (y .ensures .0) (y .ensures .1 .1 .0) (y .ensures .1 .1 .1) z told s e
+
 advance-requires : tie.Need-advance-requires
 advance-requires c κs =
-    let a = c .before .before .before .before .before .before .before .before .before .before .before .before .before .before .before .before .before .before .before .args in
-    let y = c .before .before .before .before .before .before .before .before .before .check-frame in
-    let k = frame-fits (a .run .session) (a .run .buffers) (a .input .now) (a .out .now) (length (a .cells .now)) (c .before .before .before .before .before .before .before .before .before .before .before .before .before .before .before .before .before .before .before .pre .0) (c .before .before .before .before .before .before .before .before .before .before .before .before .before .before .before .before .before .before .before .pre .1 .0) (y .result) (y .ensures .0) (y .ensures .1 .1 .1) (c .before .before .before .reported .given .0 .0) (c .before .before .before .reported .given .1) in
-    let b = a .run .buffers in
-    let x = c .before .before .before .reported .given .0 .0 in
-    let l : b .filled + x .length < 2 ^ 64 = omega (arith, k .1, c .before .before .before .before .before .before .before .before .before .before .before .before .before .before .before .before .before .before .before .good) in
+    let k = frame-fits (given (c .before .before .before .before .before .before) _ (c .before .before .before .reported .given .1) _ refl) in
+    let l : c .before .before .before .before .before .before .before .before .before .before .before .before .before .before .before .before .before .before .before .args .run .buffers .filled + c .before .before .before .reported .given .0 .0 .length < 2 ^ 64 = omega (arith, k .1, c .before .before .before .before .before .before .before .before .before .before .before .before .before .before .before .before .before .before .before .good) in
     (k .0, l)
 
 refill-requires : tie.Need-refill-requires
 refill-requires c κs =
-    let a = c .before .before .before .before .before .before .before .before .before .before .before .before .before .before .before .before .before .before .args in
-    let p = c .before .before .before .before .before .before .before .before .before .before .before .before .before .before .before .before .before .before .pre .0 in
-    let y = c .before .before .before .before .before .before .before .before .check-frame in
-    ((p .0, p .1, search needs), room-to-read (a .run .session) (a .run .buffers) (a .input .now) (a .out .now) (length (a .cells .now)) p (c .before .before .before .before .before .before .before .before .before .before .before .before .before .before .before .before .before .before .pre .1 .0) (y .result) (y .ensures .0) (y .ensures .1 .1 .1) (c .before .before .enum-told .given .1))
+    let p = c .before .before .before .before .before .before .before .before .before .before .before .before .before .before .before .before .before .before .pre in
+    ((p .0 .0, p .0 .1, search needs), room-to-read (given (c .before .before .before .before .before) _ (c .before .before .enum-told .given .1) _ refl) (p .1 .0 .frame))
 
 returns : tie.Need-returns
-returns c =
-    let a = c .before .before .before .before .before .before .before .before .before .before .before .before .before .before .before .before .before .before .before .before .args in
-    let y = c .before .before .before .before .before .before .before .before .before .before .check-frame in
-    let e = y .ensures in
-    let l = y .last .1 .1 in
-    let x = c .before .before .before .before .reported .given .0 .0 in
-    let t = reported-turn (a .run .session) (a .run .buffers) (a .input .now) (a .out .now) (length (a .cells .now)) (c .before .before .before .before .before .before .before .before .before .before .before .before .before .before .before .before .before .before .before .before .pre .0) (c .before .before .before .before .before .before .before .before .before .before .before .before .before .before .before .before .before .before .before .before .pre .1 .0) (y .result) (e .0) (e .1 .1 .1) x (c .before .before .before .before .reported .given .1) (l .1 .0) (e .1 .1 .0) (c .before .before .before .before .before .before .before .out .given .1) in
-    subst (λ (s : Session). Turned streamcheck (a .run .session) (a .run .buffers) (a .input .now) (a .out .now) s (c .advance .result) (a .input .now) (outWith (a .run .buffers) (a .out .now) (l .1 .0))) (sym (c .before .count .ensures))
-    (subst (λ (b : Buffers). Turned streamcheck (a .run .session) (a .run .buffers) (a .input .now) (a .out .now) (counted (a .run .session) (x .checker)) b (a .input .now) (outWith (a .run .buffers) (a .out .now) (l .1 .0))) (sym (c .advance .ensures)) t)
+returns c = frame-turn (given (c .before .before .before .before .before .before .before) _ (c .before .before .before .before .reported .given .1) _ (c .before .count .ensures)) (c .advance .ensures)
 
 returns-2 : tie.Need-returns-2
-returns-2 c =
-    let a = c .before .before .before .before .before .before .before .before .before .before .before .before .before .before .before .before .before .before .before .before .before .args in
-    let y = c .before .before .before .before .before .before .before .before .before .before .before .check-frame in
-    let t = c .before .before .refill in
-    refilled-turn (a .run .session) (a .run .buffers) (a .input .now) (a .out .now) (length (a .cells .now)) (c .before .before .before .before .before .before .before .before .before .before .before .before .before .before .before .before .before .before .before .before .before .pre .0) (c .before .before .before .before .before .before .before .before .before .before .before .before .before .before .before .before .before .before .before .before .before .pre .1 .0) (y .result) (y .ensures .0) (y .ensures .1 .1 .1) (c .before .before .before .before .before .enum-told .given .1) (y .last .1 .1 .1 .0) (t .result) (t .last .1 .1 .0) (t .ensures) (c .before .before .before .before .before .before .before .before .out .given .1)
+returns-2 c = refilled-turn (given (c .before .before .before .before .before .before .before .before) _ (c .before .before .before .before .before .enum-told .given .1) _ refl) (c .before .before .refill .ensures)
 
 returns-3 : tie.Need-returns-3
 returns-3 c =
-    let a = c .before .before .before .before .before .before .before .before .before .before .before .before .before .before .before .before .before .before .args in
-    let y = c .before .before .before .before .before .before .before .before .check-frame in
-    flushed-turn (a .run .session) (a .run .buffers) (a .input .now) (a .out .now) (length (a .cells .now)) (c .before .before .before .before .before .before .before .before .before .before .before .before .before .before .before .before .before .before .pre .0) (c .before .before .before .before .before .before .before .before .before .before .before .before .before .before .before .before .before .before .pre .1 .0) (y .result) (y .ensures .0) (y .ensures .1 .1 .1) _ (c .before .before .enum-told2 .given .1) (y .last .1 .1 .1 .0) (c .flush .result) (c .flush .ensures) (c .before .before .before .before .before .out .given .1)
+    flushed-turn (given (c .before .before .before .before .before) _ (c .before .before .enum-told2 .given .1) _ refl) (le-leb linesRoom (length (c .before .before .before .before .before .before .before .before .before .before .before .before .before .before .before .before .before .before .args .out .now)) (c .before .before .before .before .before .before .before .before .before .before .before .before .before .before .before .before .before .before .pre .1 .0 .text)) (c .flush .ensures)
 
 pub turn-spec : {M : Type 1} → statement M
 turn-spec =

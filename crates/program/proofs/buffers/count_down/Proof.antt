@@ -12,4 +12,4 @@ returns-2 c = rw (c .before .if1 .left)
 
 pub count-down-spec : {M : Type 1} → statement M
 count-down-spec = tie.close
-    (tie.spec (λ c κs. search needs) (λ c. search needs) returns (λ c κs. search needs) returns-2)
+    (tie.spec (λ c. search needs) (λ c κs. search needs) returns (λ c κs. search needs) returns-2)
