@@ -9,7 +9,8 @@
 
 static uint8_t packet[JIBHOTRAN_PACKET_OCTETS];
 static uint8_t octets[JIBHOTRAN_FIELD_OCTETS];
-static uint16_t store[JIBHOTRAN_FIELD_CELLS];
+/* Room for any packet, to read the first; the fields take less. */
+static uint16_t store[JIBHOTRAN_PACKET_CELLS];
 static uint64_t state[JIBHOTRAN_STATE];
 static uint64_t answer[JIBHOTRAN_ANSWER];
 
@@ -40,7 +41,7 @@ static int gather(FILE *frames, FILE *file) {
     while ((size = next_frame(frames)) >= 0) {
         uint8_t number;
         if (!opened) {
-            number = jibhotran_read_strict(JIBHOTRAN_RFC8331, packet, (size_t)size, store, JIBHOTRAN_FIELD_CELLS, answer, JIBHOTRAN_ANSWER);
+            number = jibhotran_read_strict(JIBHOTRAN_RFC8331, packet, (size_t)size, store, JIBHOTRAN_PACKET_CELLS, answer, JIBHOTRAN_ANSWER);
             if (number == JIBHOTRAN_ACCEPTED) {
                 struct jibhotran_packet first = jibhotran_packet_of(answer);
                 opened = jibhotran_open(first.source, first.payload_type, state, JIBHOTRAN_STATE, answer, JIBHOTRAN_ANSWER) == JIBHOTRAN_ACCEPTED;
@@ -70,8 +71,8 @@ int main(int argc, char **argv) {
         return 2;
     }
     FILE *frames = fopen(argv[1], "rb");
-    FILE *file = fopen(argv[2], "wb");
-    if (frames == NULL || file == NULL) {
+    FILE *file = frames == NULL ? NULL : fopen(argv[2], "wb");
+    if (file == NULL) {
         perror(frames == NULL ? argv[1] : argv[2]);
         return 1;
     }

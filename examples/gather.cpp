@@ -25,7 +25,8 @@ void accept(std::uint8_t number, const char *what) {
 
 class Gatherer {
   public:
-    explicit Gatherer(std::ostream &out) : file(out), store(JIBHOTRAN_FIELD_CELLS), octets(JIBHOTRAN_FIELD_OCTETS) {
+    // The store has room for any packet, to read the first; the fields take less.
+    explicit Gatherer(std::ostream &out) : file(out), store(JIBHOTRAN_PACKET_CELLS), octets(JIBHOTRAN_FIELD_OCTETS) {
         accept(jibhotran_file_begin(octets.data(), octets.size(), answer.data(), answer.size()), "the file");
         put();
     }
@@ -81,8 +82,11 @@ int main(int argc, char **argv) {
         return 2;
     }
     std::ifstream frames(argv[1], std::ios::binary);
-    std::ofstream file(argv[2], std::ios::binary);
-    if (!frames || !file) {
+    std::ofstream file;
+    if (frames) {
+        file.open(argv[2], std::ios::binary);
+    }
+    if (!file.is_open()) {
         std::cerr << (frames ? argv[2] : argv[1]) << ": cannot be opened\n";
         return 1;
     }

@@ -7,8 +7,8 @@
  * Each function but the two that ask for wanted records returns 0 where the call is accepted and a refusal's number otherwise
  * (docs/FORMATS.md, "Refusal numbers").
  * `answer` takes what a call returns beside that: on acceptance the numbers that are named at the function, on a refusal the refusal's
- * index in answer[0]; the rest of the row stays. A row of fewer than JIBHOTRAN_ANSWER numbers is refused by JIBHOTRAN_ROW, and nothing is
- * written at all. On a refusal the other lent memory is unchanged, but for the late count (refusal 32) and the remembered number
+ * index in answer[0]; the rest of the row stays. A row of fewer than JIBHOTRAN_ANSWER numbers, or a state's of fewer than it needs, is refused by
+ * JIBHOTRAN_ROW, and nothing is written at all. On a refusal the other lent memory is unchanged, but for the late count (refusal 32) and the remembered number
  * (refusal 36). Number 22 is reserved: no call gives it.
  *
  * `layout` is the packets' layout, JIBHOTRAN_RFC8331 or JIBHOTRAN_DRAFTS, which the octets do not tell. Another number is refused by
@@ -71,7 +71,7 @@ extern "C" {
 /* No layout has the number that is given as one. */
 #define JIBHOTRAN_LAYOUT 254
 
-/* Layouts: RFC 8331, and the drafts of 2015 (source documents 000 and 001), which have no F, S and StreamNum. */
+/* Layouts: RFC 8331, and its drafts of 2015, which have no F, S and StreamNum. */
 #define JIBHOTRAN_RFC8331 0
 #define JIBHOTRAN_DRAFTS 1
 

@@ -1,13 +1,17 @@
 """Jibhotran from Python: ancillary data over RTP (RFC 8331 and its drafts of 2015), over the proved library and nothing else.
 
-The calls are those of `include/jibhotran.h`, under the same names without `jibhotran_`. A refusal raises `Refused`, which has the
-refusal's `number` and `index` (docs/FORMATS.md, "Refusal numbers"). Lists of records go in and come out as `Record`s.
+The calls are those of `include/jibhotran.h`, under the same names without `jibhotran_`; `open` and `arrive` are `Depacketizer`, the
+outlet's three `Outlet`. A refusal raises `Refused`, which has the
+refusal's `number`, one of `Refusal` or of ROW and LAYOUT, and `index` (docs/FORMATS.md, "Refusal numbers"). Lists of records go in and come out as
+`Record`s. A number that C's type does not hold raises OverflowError: none is cut to fit.
 
 The shared library is the one that JIBHOTRAN_LIBRARY names, or else `libjibhotran.so` as the system finds it.
 """
 
 import ctypes
+import enum
 import os
+from array import array
 from ctypes import POINTER, c_size_t, c_uint8, c_uint16, c_uint32, c_uint64
 from typing import Iterator, List, NamedTuple, Optional, Sequence, Tuple, Union
 
@@ -21,8 +25,59 @@ PACKET_OCTETS, FIELD_OCTETS, FILE_HEAD_OCTETS = 65_535, 49_159, 5
 PAIR_OCTETS, TEXT_OCTETS = 128, 1_357
 RECORD_HEAD, COUNT_CELL, INDEX_CELL = 9, 7, 8
 NO_VPID = 256
-END_OF_FILE = 54
+CHANNELS = 8
+ROW, LAYOUT = 255, 254
 
+
+class Refusal(enum.IntEnum):
+    """The numbers of refusal by their names; docs/FORMATS.md says when each is given, and with which index."""
+
+    TOO_LONG = 1
+    HEADER_CUT = 2
+    VERSION_NOT_2 = 3
+    PADDING_WRONG = 4
+    PAYLOAD_CUT = 5
+    F_INVALID = 6
+    LENGTH_WRONG = 7
+    LENGTH_WITHOUT_PACKETS = 8
+    ANC_CUT = 9
+    HEADER_WORD_MALFORMED = 10
+    CHECKSUM_WRONG = 11
+    ALIGNMENT_BIT_SET = 12
+    OCTETS_LEFT = 13
+    LIST_TOO_SHORT = 14
+    R_BIT_SET = 15
+    PROTECTED_WORD = 16
+    LIST_MALFORMED = 20
+    OVER_LIMIT = 21
+    ROOM_TOO_SMALL = 23
+    HEAD_INVALID = 24
+    NOT_IN_LAYOUT = 25
+    SOURCE_OTHER = 30
+    TYPE_OTHER = 31
+    LATE = 32
+    STATE_UNSOUND = 35
+    FAR = 36
+    TEXT_TOO_LONG = 40
+    ITEM_MALFORMED = 41
+    SECOND_VPID_CODE = 42
+    TOO_MANY_PAIRS = 43
+    TEXT_ROOM_TOO_SMALL = 44
+    NOT_ANF = 50
+    FILE_VERSION_WRONG = 51
+    FIELD_HEADER_CUT = 52
+    FILE_F_INVALID = 53
+    END_OF_FILE = 54
+    OFFSET_INVALID = 55
+    CHANNEL_INVALID = 60
+    OFFER_SIZE_INVALID = 61
+    CHANNEL_FULL = 62
+    NOTHING_WAITS = 63
+    OUTLET_UNSOUND = 64
+    LINE_TOO_LONG = 70
+    START_PAST_END = 71
+    LINE_FULL = 72
+    LINE_WORD_TOO_LARGE = 73
 
 
 class _Pair(ctypes.Structure):
@@ -51,8 +106,8 @@ _CALLS = {
 }
 _library = ctypes.CDLL(os.environ.get("JIBHOTRAN_LIBRARY", "libjibhotran.so"))
 for _name, _types in _CALLS.items():
-    _call = getattr(_library, "jibhotran_" + _name)
-    _call.argtypes, _call.restype = _types, c_uint8
+    _function = getattr(_library, "jibhotran_" + _name)
+    _function.argtypes, _function.restype = _types, c_uint8
 
 
 class Refused(Exception):
@@ -104,22 +159,33 @@ class Field(NamedTuple):
     after: Optional[int] = None
 
 
+_CODES = {c_uint8: "B", c_uint16: "H"}
+
+
 def _lent(kind, values):
     """Memory with these values. C's pointer must not be null, also where the length is 0."""
-    values = values if isinstance(values, (bytes, bytearray)) else list(values)
-    memory = (kind * max(1, len(values)))(*values)
-    return memory, len(values)
+    held = array(_CODES[kind])
+    held.extend(values)
+    length = len(held)
+    held.append(0)
+    return (kind * len(held)).from_buffer(held), length
 
 
-def _call(name, *parts, answer=True):
-    """Calls with what is lent taken apart into pointer and length; the answer's row, or the refusal."""
+def _number(name, *parts):
+    """The number that a call returns, what is lent taken apart into pointer and length."""
     flat = []
     for part in parts:
         flat.extend(part if isinstance(part, tuple) else (part,))
+    for kind, value in zip(_CALLS[name], flat):
+        if isinstance(value, int) and not 0 <= value < 256 ** ctypes.sizeof(kind):
+            raise OverflowError(f"{name}: {value} does not fit its type")
+    return getattr(_library, "jibhotran_" + name)(*flat)
+
+
+def _call(name, *parts):
+    """The row of a call's answer, or its refusal."""
     row = (c_uint64 * ANSWER)()
-    if answer:
-        flat += [row, ANSWER]
-    number = getattr(_library, "jibhotran_" + name)(*flat)
+    number = _number(name, *parts, (row, ANSWER))
     if number:
         raise Refused(number, row[0])
     return row
@@ -189,7 +255,7 @@ class Depacketizer:
 
 
 def _joined(pairs: Sequence[Tuple[int, int]]) -> List[int]:
-    return [n for pair in pairs for n in pair]
+    return [n for did, sdid in pairs for n in (did, sdid)]
 
 
 def sdp_read(text: Union[str, bytes]) -> Tuple[List[Tuple[int, int]], Optional[int]]:
@@ -202,7 +268,9 @@ def sdp_read(text: Union[str, bytes]) -> Tuple[List[Tuple[int, int]], Optional[i
 
 
 def sdp_write(pairs: Sequence[Tuple[int, int]], vpid: Optional[int] = None) -> str:
-    """The text of such parameters."""
+    """The text of such parameters. A code is at most 255."""
+    if vpid is not None and vpid >= NO_VPID:
+        raise OverflowError(f"sdp_write: {vpid} is no VPID code")
     out = (c_uint8 * TEXT_OCTETS)()
     row = _call("sdp_write", _lent(c_uint8, _joined(pairs)), NO_VPID if vpid is None else vpid, (out, TEXT_OCTETS))
     return bytes(out[: row[0]]).decode()
@@ -228,7 +296,7 @@ def _field_at(file, at: int) -> Field:
 
 
 def file_read(file: bytes, at: int = FILE_HEAD_OCTETS) -> Field:
-    """The field at an offset of a file; END_OF_FILE is its end."""
+    """The field at an offset of a file; refusal END_OF_FILE is its end."""
     return _field_at(_lent(c_uint8, file), at)
 
 
@@ -239,7 +307,7 @@ def fields(file: bytes) -> Iterator[Field]:
         try:
             field = _field_at(lent, at)
         except Refused as refused:
-            if refused.number == END_OF_FILE:
+            if refused.number == Refusal.END_OF_FILE:
                 return
             raise
         yield field
@@ -262,14 +330,13 @@ def line_read(line: Sequence[int], start: int, c: int, line_number: int, offset:
 
 def wanted(did: int, sdid: int, pairs: Sequence[Tuple[int, int]]) -> bool:
     """Whether a record is wanted; of a DID of 0x80 or above by the DID alone. No pairs want everything."""
-    memory, n = _lent(c_uint8, _joined(pairs))
-    return bool(_library.jibhotran_wanted(did, sdid, memory, n))
+    return bool(_number("wanted", did, sdid, _lent(c_uint8, _joined(pairs))))
 
 
 def wanted_of(did: int, sdid: int, pairs: Sequence[Tuple[int, int]]) -> bool:
     """The same over a row of pairs."""
-    row = (_Pair * max(1, len(pairs)))(*pairs)
-    return bool(_library.jibhotran_wanted_of(did, sdid, row, len(pairs)))
+    memory, _ = _lent(c_uint8, _joined(pairs))
+    return bool(_number("wanted_of", did, sdid, (ctypes.cast(memory, POINTER(_Pair)), len(pairs))))
 
 
 class Outlet:
@@ -278,7 +345,7 @@ class Outlet:
     def __init__(self):
         self.state = (c_uint64 * OUTLET_STATE)()
         self.memory = (c_uint8 * OUTLET_MEMORY)()
-        _call("outlet_open", (self.state, OUTLET_STATE), answer=False)
+        _number("outlet_open", (self.state, OUTLET_STATE))
 
     def offer(self, channel: int, packet: bytes) -> None:
         """Copies a packet in: 60, 61 or 62 where it is not taken."""

@@ -24,6 +24,8 @@ def payloads(capture: bytes, port: int):
         if packet[ip - 2 : ip] != b"\x08\x00" or len(packet) < ip + 20 or packet[ip + 9] != 17:
             continue
         udp = ip + 4 * (packet[ip] & 15)
+        if len(packet) < udp + 8 or struct.unpack(">H", packet[ip + 6 : ip + 8])[0] & 0x3FFF:
+            continue  # cut, or a fragment
         to, length = struct.unpack(">HH", packet[udp + 2 : udp + 6])
         if to == port:
             yield packet[udp + 8 : udp + length]

@@ -62,6 +62,19 @@ class Packets(unittest.TestCase):
         self.assertEqual(refused.exception.number, 254)
 
 
+    def test_numbers_too_large(self):
+        for head in (HEAD._replace(source=2**32), HEAD._replace(payload_type=368), HEAD._replace(f=258), HEAD._replace(number=-1)):
+            self.assertRaises(OverflowError, j.write, j.RFC8331, head, [A])
+        for record in (A._replace(line=65536 + 9), A._replace(words=(65536 + 512,)), A._replace(c=-1)):
+            self.assertRaises(OverflowError, j.write, j.RFC8331, HEAD, [record])
+        for wanted in (j.wanted, j.wanted_of):
+            self.assertRaises(OverflowError, wanted, 0x161, 2, [])
+            self.assertRaises(OverflowError, wanted, 0x61, 2, [(0x161, 2)])
+        for vpid in (256, 65536 + 132, -1):
+            self.assertRaises(OverflowError, j.sdp_write, [], vpid)
+        self.assertRaises(OverflowError, j.Outlet().offer, 256, b"packet")
+
+
 class Fields(unittest.TestCase):
     def test_depacketizer(self):
         d = j.Depacketizer(1, 112)
@@ -156,11 +169,15 @@ class Header(unittest.TestCase):
     text = (ROOT / "include/jibhotran.h").read_text()
 
     def test_numbers(self):
-        defined = re.findall(r"^#define JIBHOTRAN_(\w+) (\d+)$", self.text, re.M) + re.findall(r"^    JIBHOTRAN_(END_OF_FILE) = (\d+)", self.text, re.M)
+        defined = re.findall(r"^#define JIBHOTRAN_(\w+) (\d+)$", self.text, re.M)
         named = {name: int(value) for name, value in defined if hasattr(j, name)}
         self.assertEqual(named, {name: getattr(j, name) for name in named})
         own = {name for name, value in vars(j).items() if name.isupper() and isinstance(value, int)}
         self.assertEqual(own, set(named))
+
+    def test_refusals(self):
+        numbers = {name: int(value) for name, value in re.findall(r"^    JIBHOTRAN_(\w+) = ([1-9]\d*)", self.text, re.M)}
+        self.assertEqual(numbers, {refusal.name: refusal.value for refusal in j.Refusal})
 
     def test_calls(self):
         declared = re.findall(r"^uint8_t jibhotran_(\w+)\(([^)]*)\);", self.text, re.M)

@@ -7,7 +7,8 @@
 #include <stdlib.h>
 #include <string.h>
 
-enum { WIDTH = 1920, CELLS = 2 * WIDTH, V210 = WIDTH / 6 * 16 };
+/* A record has two cells more than its packet has words. */
+enum { WIDTH = 1920, CELLS = 2 * WIDTH, V210 = WIDTH / 6 * 16, HEAD = JIBHOTRAN_RECORD_HEAD, MORE_CELLS = 2 };
 
 static uint64_t seed = 1;
 
@@ -55,10 +56,10 @@ static unsigned found(const uint16_t *luma, GstVideoAncillary *ancs, unsigned mo
 
 /* A record of n words; any that is not protected, or one of eight bits with its parity. */
 static size_t record(uint16_t *cells, unsigned n) {
-    const uint16_t head[8] = {below(2), below(2048), below(4096), below(2), below(128), 1 + below(255), below(256), n};
+    const uint16_t head[HEAD] = {below(2), below(2048), below(4096), below(2), below(128), 1 + below(255), below(256), n, 0};
     memcpy(cells, head, sizeof head);
-    for (unsigned k = 0; k < n; k++) cells[8 + k] = 4 + below(1016);
-    return 8 + n;
+    for (unsigned k = 0; k < n; k++) cells[HEAD + k] = 4 + below(1016);
+    return HEAD + n;
 }
 
 static unsigned counts(unsigned k) {
@@ -75,14 +76,14 @@ static void ours_found(void) {
         uint64_t answer[JIBHOTRAN_ANSWER];
         size_t used = 0, records = below(7), start = below(40);
         for (size_t k = 0; k < records; k++) used += record(cells + used, counts(below(1000)));
-        if (start + used - records > WIDTH) continue;
+        if (start + used - MORE_CELLS * records > WIDTH) continue;
         blank(luma);
         check(jibhotran_line_write(luma, WIDTH, start, cells, used, answer, JIBHOTRAN_ANSWER) == 0, "written");
         check(found(luma, ancs, 300) == records, "as many packets found");
         const uint16_t *cell = cells;
-        for (size_t k = 0; k < records; k++, cell += 8 + cell[7]) {
+        for (size_t k = 0; k < records; k++, cell += HEAD + cell[7]) {
             check(ancs[k].DID == cell[5] && ancs[k].SDID_block_number == cell[6] && ancs[k].data_count == cell[7], "DID, SDID, Data_Count");
-            for (unsigned j = 0; j < cell[7]; j++) check(ancs[k].data[j] == (cell[8 + j] & 0xFF), "a word's low eight bits");
+            for (unsigned j = 0; j < cell[7]; j++) check(ancs[k].data[j] == (cell[HEAD + j] & 0xFF), "a word's low eight bits");
             words += cell[7];
         }
         packets += records;
@@ -112,12 +113,12 @@ static void its_read(void) {
         check(jibhotran_line_read(luma, WIDTH, 0, 0, 9, 0, 0, 0, cells, CELLS, answer, JIBHOTRAN_ANSWER) == 0, "read");
         check(answer[0] == records, "as many records read");
         const uint16_t *cell = cells;
-        for (unsigned k = 0; k < records; k++, cell += 8 + cell[7]) {
+        for (unsigned k = 0; k < records; k++, cell += HEAD + cell[7]) {
             check(cell[5] == did[k] && cell[6] == sdid[k] && cell[7] == n[k], "DID, SDID, Data_Count");
             for (unsigned j = 0; j < n[k]; j++) {
                 unsigned word = data[k][j];
                 word |= __builtin_parity(word) ? 0x100 : 0x200;
-                check(cell[8 + j] == word, "a word with its parity");
+                check(cell[HEAD + j] == word, "a word with its parity");
             }
             words += n[k];
         }

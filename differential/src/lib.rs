@@ -8,6 +8,7 @@
 pub mod archive;
 pub mod behind;
 pub mod call;
+pub mod edges;
 pub mod inputs;
 pub mod model;
 pub mod program;

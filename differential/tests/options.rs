@@ -199,3 +199,48 @@ fn files_that_cannot_be_read() {
     refuses("fielddiff", &["directory", "there"], &folder, told);
     refuses("fielddiff", &["there", "directory"], &folder, told);
 }
+
+/// What is shown on a terminal, of which `script` makes one.
+fn shown(name: &str, words: &str, folder: &Path) -> String {
+    let line = format!("'{}' {words}", program(name).display());
+    let output = Command::new("script")
+        .args(["-q", "-e", "-c", &line, "/dev/null"])
+        .current_dir(folder)
+        .stdin(Stdio::null())
+        .output()
+        .unwrap();
+    assert!(output.status.success(), "{line}");
+    String::from_utf8(output.stdout).unwrap()
+}
+
+/// Long work is shown where standard error is a terminal, but not between the
+/// lines that are printed there.
+#[test]
+fn progress_on_a_terminal() {
+    let folder = folder("options-progress");
+    // Frames of length 0, one a turn.
+    fs::write(folder.join("long"), vec![0; 2 * 300_000]).unwrap();
+    fs::write(folder.join("short"), vec![0; 2 * 1_000]).unwrap();
+    let steps = "\r262144 steps\r\n";
+    for (name, long, short) in [
+        ("fieldlist", "long > list", "short > list"),
+        ("streamcheck", "long > report", "short > report"),
+        ("fieldsave", "long long.anf", "short short.anf"),
+    ] {
+        assert_eq!(shown(name, long, &folder), steps, "{name}");
+        assert_eq!(shown(name, short, &folder), "", "{name}");
+    }
+    assert!(!shown("fieldlist", "long", &folder).contains("steps"));
+    let (_, told) = texts(run("fieldlist", &["long"], &folder));
+    assert_eq!(told, "");
+}
+
+/// The manual has the header's version.
+#[test]
+fn version_of_the_manual() {
+    for name in PROGRAMS {
+        let page = Path::new(env!("CARGO_MANIFEST_DIR")).join(format!("../docs/{name}.1"));
+        let title = format!("\"Jibhotran {}\"", version());
+        assert!(fs::read_to_string(page).unwrap().contains(&title), "{name}");
+    }
+}

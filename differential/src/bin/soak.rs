@@ -3,19 +3,21 @@
 //! message has the call and the memory lent.
 //!
 //! Half of the calls are drawn as the tests draw them. The other half is
-//! guided: a call that behaves as none before it (by its kind, its number, its
-//! index, and the sizes of what it took and gave) is kept, and later calls
-//! are kept ones with a few octets, cells or numbers changed, cut or
-//! repeated. So what is rare is gone into further.
+//! guided: a call that behaves as none before it is kept, and later calls are
+//! kept ones with a few octets, cells or numbers changed, cut or repeated, or
+//! lent other room. So what is rare is gone into further. How a call behaves
+//! is told by the edges of the reference's code, where the build counts them,
+//! and otherwise by its kind, its number, its index, and the sizes of what it
+//! took, gave and was lent.
 
 use std::collections::HashSet;
 use std::io::{stderr, IsTerminal, Write};
 use std::time::{Duration, Instant};
 
 use differential::call::{compare, compare_wanted, Call, Lengths, Memory};
+use differential::edges::Edges;
 use differential::inputs::{self, Case};
-use differential::{OUTLET_MEMORY, OUTLET_PACKET};
-use reference::outlet;
+use differential::{OUTLET_MEMORY, OUTLET_PACKET, OUTLET_STATE};
 use reference::random::{outlet_calls, OutletCall, Random};
 
 /// Calls that are kept at most; then one of them makes room.
@@ -148,29 +150,107 @@ fn shake_state(r: &mut Random, memory: &mut Memory) {
     }
 }
 
-/// A kept call with some of it changed, over memory of its own size.
+fn place(r: &mut Random, n: usize) -> usize {
+    match r.below(4) {
+        0 => n + 1,
+        1 => n.saturating_sub(1),
+        _ => r.below(n + 2),
+    }
+}
+
+/// One number beside the rest, at times.
+fn at_times<T: Copy>(r: &mut Random, n: &mut T, near: fn(&mut Random, T) -> T) {
+    if r.one_in(8) {
+        *n = near(r, *n);
+    }
+}
+
+/// Memory of nearly the same lengths, with what stood there.
+fn lent_otherwise(r: &mut Random, memory: &Memory) -> Memory {
+    let mut lengths = Lengths {
+        answer: memory.answer.get().len(),
+        state: memory.state.get().len(),
+        cells: memory.cells.get().len(),
+        octets: memory.octets.get().len(),
+    };
+    for n in [
+        &mut lengths.answer,
+        &mut lengths.state,
+        &mut lengths.cells,
+        &mut lengths.octets,
+    ] {
+        at_times(r, n, place);
+    }
+    let mut next = Memory::new(lengths, r);
+    let numbers = memory.state.get();
+    (next.state.get_mut().iter_mut().zip(numbers)).for_each(|(to, from)| *to = *from);
+    let cells = memory.cells.get();
+    (next.cells.get_mut().iter_mut().zip(cells)).for_each(|(to, from)| *to = *from);
+    next
+}
+
+/// A kept call with some of it changed, over memory of nearly its own size.
 fn shaken(r: &mut Random, (call, memory): &Case) -> Case {
-    let (mut call, mut memory) = (call.clone(), memory.clone());
+    let (mut call, mut memory) = (call.clone(), lent_otherwise(r, memory));
     match &mut call {
-        Call::Read { octets, .. } | Call::ReadStrict { octets, .. } => shake(r, octets, octet),
-        Call::Arrive { octets, .. } => {
+        Call::Read { layout, octets } | Call::ReadStrict { layout, octets } => {
+            at_times(r, layout, octet);
+            shake(r, octets, octet);
+        }
+        Call::Arrive { layout, octets } => {
+            at_times(r, layout, octet);
             shake_state(r, &mut memory);
             if r.one_in(2) {
                 shake(r, octets, octet);
             }
         }
-        Call::Write { cells, .. }
-        | Call::FileWrite { cells, .. }
-        | Call::LineWrite { cells, .. } => shake(r, cells, cell),
-        Call::SdpRead { text } => shake(r, text, octet),
-        Call::SdpWrite { pairs, .. } | Call::Wanted { pairs, .. } => shake(r, pairs, octet),
-        Call::FileRead { file, at } => {
-            shake(r, file, octet);
-            if r.one_in(8) {
-                *at = r.below(file.len() + 2);
+        Call::Write {
+            layout,
+            head,
+            cells,
+        } => {
+            for n in [
+                layout,
+                &mut head.payload_type,
+                &mut head.marker,
+                &mut head.f,
+            ] {
+                at_times(r, n, octet);
             }
+            shake(r, cells, cell);
         }
-        Call::LineRead { line, .. } => shake(r, line, cell),
+        Call::Open { payload_type, .. } => at_times(r, payload_type, octet),
+        Call::FileWrite { f, cells, .. } => {
+            at_times(r, f, octet);
+            shake(r, cells, cell);
+        }
+        Call::LineWrite { start, cells } => {
+            at_times(r, start, place);
+            shake(r, cells, cell);
+        }
+        Call::SdpRead { text } => shake(r, text, octet),
+        Call::SdpWrite { pairs, vpid } => {
+            at_times(r, vpid, cell);
+            shake(r, pairs, octet);
+        }
+        Call::Wanted { did, sdid, pairs } => {
+            at_times(r, did, octet);
+            at_times(r, sdid, octet);
+            shake(r, pairs, octet);
+        }
+        Call::FileRead { file, at } => {
+            at_times(r, at, place);
+            shake(r, file, octet);
+        }
+        Call::LineRead {
+            line,
+            start,
+            place: told,
+        } => {
+            at_times(r, start, place);
+            told.iter_mut().for_each(|n| at_times(r, n, cell));
+            shake(r, line, cell);
+        }
         _ => {}
     }
     (call, memory)
@@ -178,7 +258,12 @@ fn shaken(r: &mut Random, (call, memory): &Case) -> Case {
 
 /// A run of an outlet, state and memory handed on, the state damaged at times.
 fn outlet_run(r: &mut Random) -> usize {
-    let mut state = outlet::open().row().to_vec();
+    let opening = Lengths {
+        state: OUTLET_STATE,
+        ..Lengths::default()
+    };
+    let (_, opened) = compare(&Call::OutletOpen, &Memory::new(opening, r));
+    let mut state = opened.state.get().to_vec();
     let mut memory = r.octets(OUTLET_MEMORY);
     let calls = outlet_calls(r, 200);
     for call in &calls {
@@ -218,7 +303,59 @@ fn outlet_run(r: &mut Random) -> usize {
             memory = after.octets.get().to_vec();
         }
     }
-    calls.len()
+    calls.len() + 1
+}
+
+/// What was met, and the calls that met it first.
+struct Guide {
+    edges: Option<Edges>,
+    behaviours: HashSet<Behaviour>,
+    kept: Vec<Case>,
+}
+
+impl Guide {
+    fn next(&self, r: &mut Random) -> Case {
+        if self.kept.is_empty() || r.one_in(2) {
+            return DRAWN[r.below(DRAWN.len())](r);
+        }
+        let at = r.below(self.kept.len());
+        shaken(r, &self.kept[at])
+    }
+
+    /// Makes the call on both sides, and keeps it where it is new.
+    fn call(&mut self, r: &mut Random) {
+        let case = self.next(r);
+        self.edges.iter_mut().for_each(Edges::clear);
+        let (number, after) = compare(&case.0, &case.1);
+        let new = match &mut self.edges {
+            Some(edges) => edges.is_new(),
+            None => (self.behaviours).insert(behaviour(&case.0, number, &case.1, &after)),
+        };
+        if new && self.kept.len() < KEPT {
+            self.kept.push(case);
+        } else if new {
+            self.kept[r.below(KEPT)] = case;
+        }
+    }
+
+    fn tell(&self, calls: usize) -> String {
+        let (met, what) = match &self.edges {
+            Some(edges) => (edges.met(), "edges by how often"),
+            None => (self.behaviours.len(), "ways to behave"),
+        };
+        format!("{calls} calls alike, {met} {what}")
+    }
+}
+
+/// Calls of every kind.
+fn round(r: &mut Random, guide: &mut Guide) -> usize {
+    for _ in 0..200 {
+        guide.call(r);
+    }
+    let (asked, row) = inputs::wanted_of(r);
+    compare_wanted(asked, &row, &Memory::new(Lengths::default(), r));
+    let outlet = if r.one_in(20) { outlet_run(r) } else { 0 };
+    202 + outlet
 }
 
 fn main() {
@@ -229,48 +366,21 @@ fn main() {
     };
     let seed = arguments.next().map_or(1, |s| s.unwrap_or(1));
     let mut r = Random::new(seed);
+    let mut guide = Guide {
+        edges: Edges::counted(),
+        behaviours: HashSet::new(),
+        kept: Vec::new(),
+    };
     let (start, end) = (Instant::now(), Duration::from_secs(60 * minutes));
-    let (mut told, mut calls) = (start, 0usize);
-    let mut met: HashSet<Behaviour> = HashSet::new();
-    let mut kept: Vec<Case> = Vec::new();
+    let (mut told, mut calls) = (start, 0);
     while start.elapsed() < end {
-        for _ in 0..200 {
-            let guided = !kept.is_empty() && r.one_in(2);
-            let case = if guided {
-                let at = r.below(kept.len());
-                shaken(&mut r, &kept[at])
-            } else {
-                DRAWN[r.below(DRAWN.len())](&mut r)
-            };
-            let (number, after) = compare(&case.0, &case.1);
-            calls += 1;
-            if met.insert(behaviour(&case.0, number, &case.1, &after)) {
-                if kept.len() < KEPT {
-                    kept.push(case);
-                } else {
-                    let at = r.below(KEPT);
-                    kept[at] = case;
-                }
-            }
-        }
-        let (asked, row) = inputs::wanted_of(&mut r);
-        compare_wanted(asked, &row, &Memory::new(Lengths::default(), &mut r));
-        calls += 2;
-        if r.one_in(20) {
-            calls += outlet_run(&mut r);
-        }
+        calls += round(&mut r, &mut guide);
         if told.elapsed() >= PROGRESS && stderr().is_terminal() {
             told = Instant::now();
             let seconds = start.elapsed().as_secs();
-            eprint!(
-                "\r{seconds} s: {calls} calls alike, {} ways to behave",
-                met.len()
-            );
+            eprint!("\r{seconds} s: {}", guide.tell(calls));
             let _ = stderr().flush();
         }
     }
-    println!(
-        "{minutes} minutes, seed {seed}: {calls} calls alike, {} ways to behave",
-        met.len()
-    );
+    println!("{minutes} minutes, seed {seed}: {}", guide.tell(calls));
 }
