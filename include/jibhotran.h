@@ -290,7 +290,8 @@ uint8_t jibhotran_wanted_of(uint8_t did, uint8_t sdid, const struct jibhotran_pa
  *
  * state: the heads and the counts of the channels' rings of eight places, the slots and the lengths of these places, channel by channel (channel c's are
  * 8c to 8c + 7), and the channel that is next. Numbers that no outlet has, and memory of another size, are refused by 64, before all else
- * but JIBHOTRAN_ROW; a number that is too wide for its field (lengths have 16 bits, all others 8) is too, in a place that holds nothing as well.
+ * but JIBHOTRAN_ROW; a slot over 63, and a number that is too wide for its field (lengths have 16 bits, all others 8), are too, in a place that
+ * holds nothing as well.
  * A refusal changes nothing.
  */
 

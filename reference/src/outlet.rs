@@ -139,6 +139,9 @@ impl Channel {
         if self.head as usize >= PLACES || self.count as usize > PLACES {
             return None;
         }
+        if self.slots.iter().any(|&slot| slot as usize >= SLOTS) {
+            return None;
+        }
         let mut held = 0;
         for step in 0..self.count {
             let place = self.place(step);

@@ -416,13 +416,13 @@ fn what_64_names() {
     assert!(!with(|state| state.next = 255));
 }
 
-/// Of a place that holds no packet slot and length may be anything, and the
-/// next packet's are put there.
+/// Of a place that holds no packet the length may be anything, and the slot
+/// any of the 64; the next packet's are put there.
 #[test]
 fn places_that_hold_none() {
     let mut state = held();
     for place in 0..7 {
-        state.channels[2].slots[place] = [63, 62, 64, 255, 0, 63, 62][place];
+        state.channels[2].slots[place] = [63, 62, 5, 1, 0, 63, 62][place];
         state.channels[2].lengths[place] = [0, 1_025, 65_535, 300, 0, 0, 9][place];
     }
     assert!(is_sound(state));
@@ -435,6 +435,12 @@ fn places_that_hold_none() {
     // One that is held makes the same numbers count.
     state.channels[2].count = 2;
     assert!(!is_sound(state));
+    // A slot's number counts in every place.
+    for (slot, sound) in [(63, true), (64, false), (255, false)] {
+        let mut state = held();
+        state.channels[2].slots[3] = slot;
+        assert_eq!(is_sound(state), sound);
+    }
 }
 
 /// Heads, counts, slots, lengths, next; a number too wide is no state.

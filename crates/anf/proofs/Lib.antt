@@ -4,3 +4,4 @@ pub mod WritesLaws
 pub mod FileLaws
 pub mod CutFile
 pub mod WholeFile
+pub mod Refusals

@@ -74,7 +74,7 @@ front-frame p rest =
     (λ i. frame (take-append-seam p rest i) (drop-append-seam p rest i))
 
 -- frames one behind the other read back as what they hold
-frames-back : (ps : List (List ℕ)) → frames (framed ps) ≡ record { packets = ps; broken = false }
+pub frames-back : (ps : List (List ℕ)) → frames (framed ps) ≡ record { packets = ps; broken = false }
 frames-back [] = refl
 frames-back (p ∷ ps) = frames-next (frameOf p ++ framed ps) p (framed ps) (front-frame p (framed ps)) ∙ ap (more p) (frames-back ps)
 

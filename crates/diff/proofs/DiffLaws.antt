@@ -12,9 +12,10 @@ use lib.Seq.{ext-getD}
 use borrow.Author.Tests.{eq-eqb, ne-eqb, eqb-true, eqb-false}
 use Rattle.wire.specs.Anc.{Record}
 use Rattle.wire.specs.Cells.{headCells, cellsOf}
+use Rattle.wire.proofs.ListLaws.{map-append}
 use Rattle.anf.specs.File.{FieldContent, FileRead, readFile}
 use Rattle.diff.specs.Diff.{number, Line, tsLine, fLine, recordsLine, cellLine, Place, field, ended, refusal, unread, endNumber, placeIn, placeAt, upTo, differ, cellLines, cellsAt, recordLines, fieldLines, compareAt, linesAt, diff, differences, swap}
-use Rattle.diff.proofs.UpToLaws.{append-empty, map-append, upTo-empty, upTo-map}
+use Rattle.diff.proofs.UpToLaws.{append-empty, upTo-empty, upTo-map}
 
 -- equality of numbers does not depend on the side
 eqb-sym : (l r : ℕ) → eqb l r ≡ eqb r l

@@ -1,19 +1,16 @@
 -- Lines gathered position by position: a line is there where a position has it, and the empty list, an exchange and an order go through.
-use mathlib.Core.Path.{_≡_, refl, ap, ap₂, sym, _∙_, subst}
+use mathlib.Core.Path.{_≡_, refl, ap₂, sym, _∙_, subst}
 use mathlib.Core.Logic.{_↔_, _⊎_, inl, inr, ⊎-elim}
 use mathlib.Core.List.{List, [], _∷_, _++_, map, nil≢cons, append-nil, List·Memᴰ, List·Memᴰ·head, List·Memᴰ·tail, List·Memᴰ·not-nil, List·Memᴰ·append-cases, Memᴰ·append-left, Memᴰ·append-right}
 use Prim.Native.Nat.{ℕ, zero, suc, _+_, _<_, _≤_}
 use native.Mathlib.Omega.{arith}
+use Rattle.wire.proofs.ListLaws.{map-append}
 use Rattle.diff.specs.Diff.{Line, upTo}
 use Rattle.diff.specs.Order.{Before, Sorted}
 
 pub append-empty : {A : Type 0} (xs ys : List A) → xs ++ ys ≡ [] → (xs ≡ []) × (ys ≡ [])
 append-empty [] ys e = (refl, e)
 append-empty (x ∷ xs) ys e = absurd (nil≢cons (sym e))
-
-pub map-append : {A B : Type 0} (f : A → B) (xs ys : List A) → map f (xs ++ ys) ≡ map f xs ++ map f ys
-map-append f [] ys = refl
-map-append f (x ∷ xs) ys = ap (λ t. f x ∷ t) (map-append f xs ys)
 
 last-or-below : (m n : ℕ) → m < suc n → (m ≡ n) ⊎ (m < n)
 last-or-below m n h = ⊎-elim (λ l. inr l) (λ l. inl (omega arith)) (cases m n)

@@ -13,7 +13,7 @@ use Rattle.outlet.specs.declared.state.State.{State}
 use Rattle.egress_state.specs.declared.survey.Seen.{Seen}
 use Rattle.egress_state.specs.Survey.{SeenOf}
 use Rattle.outlet.specs.Step.{admits}
-use Rattle.outlet.specs.Places.{held, slotAt, entryFits, usedBelow, placeOk, allUpto, channelFits, channelOk, numbersOk, sound}
+use Rattle.outlet.specs.Places.{held, slotAt, lengthFits, usedBelow, placeOk, allUpto, channelFits, channelOk, numbersOk, sound}
 use mir.Val.{Fits}
 use mir.Syntax.{w64}
 use Rattle.outlet.proofs.Upto.{and-left, and-right, upto-at, upto-fails, upto-more}
@@ -31,13 +31,13 @@ pub no-marks : (st : State) → Marks st 0 (replicate 64 false)
 unfolding usedBelow
 no-marks st s h = none 64 s
 
-pub unfit : (st : State) (k : ℕ) → held st k ≡ true → entryFits (slotAt st k) (getD (st .lengths) k 0) ≡ false → placeOk st k ≡ false
+pub unfit : (st : State) (k : ℕ) → held st k ≡ true → lengthFits (getD (st .lengths) k 0) ≡ false → placeOk st k ≡ false
 unfit st k h e = rw (h, e)
 
 pub twice : (st : State) (k : ℕ) → held st k ≡ true → usedBelow st k (slotAt st k) ≡ true → placeOk st k ≡ false
-twice st k h e = rw (h, e) (and-false (entryFits (slotAt st k) (getD (st .lengths) k 0)))
+twice st k h e = rw (h, e) (and-false (lengthFits (getD (st .lengths) k 0)))
 
-pub fit : (st : State) (k : ℕ) → held st k ≡ true → entryFits (slotAt st k) (getD (st .lengths) k 0) ≡ true → usedBelow st k (slotAt st k) ≡ false → placeOk st k ≡ true
+pub fit : (st : State) (k : ℕ) → held st k ≡ true → lengthFits (getD (st .lengths) k 0) ≡ true → usedBelow st k (slotAt st k) ≡ false → placeOk st k ≡ true
 fit st k h e u = rw (h, e, u)
 
 pub free : (st : State) (k : ℕ) → held st k ≡ false → placeOk st k ≡ true
@@ -55,12 +55,8 @@ marks-held st k used n h m s l = rw (add-one k, h) (go (eqb s (slotAt st k)) ref
     go true e = rw (← eqb-true s (slotAt st k) e) (getD-set-same used s true false (omega arith))
     go false e = getD-set-other used (slotAt st k) s true false (eqb-false s (slotAt st k) e) ∙ m s l
 
--- the slot of a fit entry is one of the 64
 abbrev pub Fit : State → ℕ → Type 0
-Fit st k = entryFits (slotAt st k) (getD (st .lengths) k 0) ≡ true
-
-pub fit-slot : (st : State) (k : ℕ) → Fit st k → slotAt st k < 64
-fit-slot st k e = ltb-true (slotAt st k) 64 (and-left (ltb (slotAt st k) 64) (leb 1 (getD (st .lengths) k 0) && leb (getD (st .lengths) k 0) 1024) e)
+Fit st k = lengthFits (getD (st .lengths) k 0) ≡ true
 
 pub refuses-memory : (st : State) (n : ℕ) (used : List Bool) → (n ≡ 65536 → ⊥) → SeenOf st n (record { sound = false; used = used })
 refuses-memory st n used e = record { sound = rw (ne-eqb n 65536 e); used = λ z. absurd (true≢false (sym z)) }

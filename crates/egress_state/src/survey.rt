@@ -2,8 +2,9 @@
 ghost use mathlib.Core.Path.{_≡_};
 ghost use mathlib.Core.Bool.{false};
 ghost use Prim.Native.Nat.{_<_};
+ghost use lib.Dec.{ltb};
 ghost use lib.ListN.{getD};
-ghost use Rattle.outlet.specs.Places.{heldAt, channelFits, numbersOk, entryFits};
+ghost use Rattle.outlet.specs.Places.{allUpto, channelFits, heldAt, lengthFits, numbersOk, slotOk};
 ghost use Rattle.outlet.specs.Step.{seek};
 ghost use Rattle.egress_state.specs.Survey.{SeenOf};
 use outlet::state::CHANNELS;
@@ -27,11 +28,32 @@ fn is_held(k: usize, head: u8, count: u8) -> bool
     (k % HELD + HELD - (head as usize)) % HELD < (count as usize)
 }
 
-// A held packet's slot and length are in range.
-fn entry_fits(slot: u8, length: u16) -> bool
-    ensures { λ r. ⌜ r ≡ entryFits slot length ⌝ }
+// A held packet's length is in range.
+fn length_fits(length: u16) -> bool
+    ensures { λ r. ⌜ r ≡ lengthFits length ⌝ }
 {
-    ((slot as usize) < SLOTS) & ((1 <= length) & ((length as usize) <= SLOT))
+    (1 <= length) & ((length as usize) <= SLOT)
+}
+
+// A slot's number is in range.
+fn slot_fits(slot: u8) -> bool
+    ensures { λ r. ⌜ r ≡ ltb slot 64 ⌝ }
+{
+    (slot as usize) < SLOTS
+}
+
+// Every slot's number is in range, held or not.
+fn slots_fit(state: State) -> bool
+    ensures { λ r. ⌜ r ≡ allUpto (slotOk state) 64 ⌝ }
+{
+    let mut k: usize = 0;
+    while k < SLOTS {
+        if !slot_fits(state.slots[k]) {
+            return false;
+        }
+        k += 1;
+    }
+    true
 }
 
 // A channel's head and count are in range.
@@ -41,7 +63,7 @@ fn channel_fits(head: u8, count: u8) -> bool
     ((head as usize) <= HELD - 1) & ((count as usize) <= HELD)
 }
 
-// The heads, the counts and the next channel are in range.
+// The heads, the counts, the next channel and the slots are in range.
 fn numbers_fit(state: State) -> bool
     ensures { λ r. ⌜ r ≡ numbersOk state ⌝ }
 {
@@ -52,7 +74,10 @@ fn numbers_fit(state: State) -> bool
         }
         c += 1;
     }
-    (state.next as usize) < CHANNELS
+    if CHANNELS <= (state.next as usize) {
+        return false;
+    }
+    slots_fit(state)
 }
 
 pub fn survey(state: State, memory: usize) -> Seen
@@ -68,7 +93,7 @@ pub fn survey(state: State, memory: usize) -> Seen
     let mut k: usize = 0;
     while k < SLOTS {
         if is_held(k, state.heads[k / HELD], state.counts[k / HELD]) {
-            if !entry_fits(state.slots[k], state.lengths[k]) {
+            if !length_fits(state.lengths[k]) {
                 return Seen { sound: false, used };
             }
             let slot = state.slots[k] as usize;

@@ -5,7 +5,7 @@ use lib.ListN.{length}
 use Rattle.wire.specs.Bits.{overwrite}
 use Rattle.wire.specs.Result.{Result, refused, accepted}
 use Rattle.wire.specs.Cells.{listOf}
-use Rattle.anf.specs.File.{FieldContent}
+use Rattle.anf.specs.File.{FieldContent, readInto}
 use Rattle.fieldfile.specs.declared.field.Summary.{Summary}
 use Rattle.fieldfile.specs.declared.field.FieldRead.{FieldRead}
 use Rattle.fieldfile.specs.declared.field.FieldRead.the-variants as read
@@ -30,3 +30,10 @@ readOf (accepted q) = read.Field (summaryOf q)
 abbrev pub cellsAfter : Result (FieldContent × ℕ) → List ℕ → List ℕ
 cellsAfter (refused x) cells = cells
 cellsAfter (accepted q) cells = overwrite (listOf (q .0 .records)) cells
+
+-- what `read_field` returns for this file, offset and lent list, and what the list then holds
+abbrev pub readReturns : (file : List ℕ) (at : ℕ) (lent : List ℕ) → FieldRead
+readReturns file at lent = readOf (readInto file at (length lent))
+
+abbrev pub readLeaves : (file : List ℕ) (at : ℕ) (lent : List ℕ) → List ℕ
+readLeaves file at lent = cellsAfter (readInto file at (length lent)) lent

@@ -2,9 +2,7 @@
 //
 // `read_field` is the entry point, and `check::check` is `read_field` without the writing.
 ghost use mathlib.Core.Path.{_≡_};
-ghost use lib.ListN.{length};
-ghost use Rattle.fieldfile.specs.Answers.{cellsAfter, readOf};
-ghost use Rattle.anf.specs.File.{readInto};
+ghost use Rattle.fieldfile.specs.Answers.{readLeaves, readReturns};
 
 pub mod check;
 pub mod field;
@@ -24,8 +22,8 @@ use wire::refusal::Refusal;
 
 // Reads the field at an offset: its records into the first cells, and what stands beside them.
 pub fn read_field(file: &[u8], at: OctetCount, cells: &mut [u16]) -> FieldRead
-    ensures { λ r. ⌜ r ≡ readOf (readInto (now (file .entry)) (at .0) (length (now (cells .entry)))) ⌝ }
-    ensures { λ r. ⌜ now (cells .exit) ≡ cellsAfter (readInto (now (file .entry)) (at .0) (length (now (cells .entry)))) (now (cells .entry)) ⌝ }
+    ensures { λ r. ⌜ r ≡ readReturns (now (file .entry)) (at .0) (now (cells .entry)) ⌝ }
+    ensures { λ r. ⌜ now (cells .exit) ≡ readLeaves (now (file .entry)) (at .0) (now (cells .entry)) ⌝ }
 {
     let checked = check(file, at);
     let FieldRead::Field(summary) = checked else {

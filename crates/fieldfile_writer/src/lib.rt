@@ -2,9 +2,7 @@
 //
 // `begin` and `write_field` are the entry points. A refusal leaves the octets to write to as they were.
 ghost use mathlib.Core.Path.{_≡_};
-ghost use lib.ListN.{length};
-ghost use Rattle.wire.specs.Written.{octetsAfter, writtenOf};
-ghost use Rattle.anf.specs.File.{writeField, writeHead};
+ghost use Rattle.fieldfile_writer.specs.Entry.{beginLeaves, beginReturns, fieldLeaves, fieldReturns};
 
 pub mod writing;
 
@@ -26,8 +24,8 @@ const HEAD: [u8; HEAD_SIZE] = [0x41, 0x4E, 0x46, 0, 2];
 
 // Writes `ANF` and the version to the first octets of `out`.
 pub fn begin(out: &mut [u8]) -> Written
-    ensures { λ r. ⌜ r ≡ writtenOf (writeHead (length (now (out .entry)))) ⌝ }
-    ensures { λ r. ⌜ now (out .exit) ≡ octetsAfter (writeHead (length (now (out .entry)))) (now (out .entry)) ⌝ }
+    ensures { λ r. ⌜ r ≡ beginReturns (now (out .entry)) ⌝ }
+    ensures { λ r. ⌜ now (out .exit) ≡ beginLeaves (now (out .entry)) ⌝ }
 {
     if out.len() < HEAD_SIZE {
         return Written::Refused(Refusal {
@@ -41,8 +39,8 @@ pub fn begin(out: &mut [u8]) -> Written
 
 // Writes a field with the records of the cells into the first octets of `out`, for a file that `begin` began.
 pub fn write_field(timestamp: Timestamp, f: u8, cells: &[u16], out: &mut [u8]) -> Written
-    ensures { λ r. ⌜ r ≡ writtenOf (writeField (timestamp .0) f (now (cells .entry)) (length (now (out .entry)))) ⌝ }
-    ensures { λ r. ⌜ now (out .exit) ≡ octetsAfter (writeField (timestamp .0) f (now (cells .entry)) (length (now (out .entry)))) (now (out .entry)) ⌝ }
+    ensures { λ r. ⌜ r ≡ fieldReturns (timestamp .0) f (now (cells .entry)) (now (out .entry)) ⌝ }
+    ensures { λ r. ⌜ now (out .exit) ≡ fieldLeaves (timestamp .0) f (now (cells .entry)) (now (out .entry)) ⌝ }
 {
     let listed = measure(f, cells, out.len());
     let Listed::Records { count, octets } = listed else {

@@ -1,12 +1,10 @@
 -- Every field that is handed out is filed.
 -- What is gathered stands in the store from packet to packet (`StoreLaws`).
-use mathlib.Core.Path.{_≡_, refl}
 use mathlib.Core.Bool.{Bool, true, false}
 use mathlib.Core.List.{List, [], _∷_, _++_}
 use Prim.Native.Nat.{ℕ}
 use lib.Dec.{leb}
 use Rattle.wire.specs.Bits.{Below}
-use Rattle.wire.specs.Layout.{Layout}
 use Rattle.wire.specs.Result.{Result, refused, accepted, judge}
 use Rattle.wire.specs.Anc.{Each}
 use Rattle.wire.specs.Packet.{Content, readContent}
@@ -16,8 +14,8 @@ use Rattle.frames.specs.Frames.{frames}
 use Rattle.depacketizer.specs.declared.state.Opened.{Opened}
 use Rattle.depacketizer.specs.declared.state.Opened.the-variants as opened
 use Rattle.depacketizer.specs.Answers.{openedOf}
-use Rattle.stream.specs.declared.state.Field.{Field}
 use Rattle.stream.specs.Step.{gathered, openState}
+use Rattle.stream.specs.Stream.{Handed}
 use Rattle.listing.specs.declared.session.Session.{Session}
 use Rattle.listing.specs.declared.session.Session.the-variants as session
 use Rattle.listing.specs.Session.{entered, layoutIn, numberOf, turn, turnBy}
@@ -56,7 +54,7 @@ unfolding turn handed
 packet-filed s octets store below h =
     let k = readContent (layoutIn s) octets in turn-holds s (numberOf k) octets store below h (entered s k) (entered-holds s store k h)
 
-both-filed : (xs ys : List Field) (ks ls : List FieldContent) → EachFiled xs ks → EachFiled ys ls → EachFiled (xs ++ ys) (ks ++ ls)
+both-filed : (xs ys : List Handed) (ks ls : List FieldContent) → EachFiled xs ks → EachFiled ys ls → EachFiled (xs ++ ys) (ks ++ ls)
 both-filed [] ys [] ls a b = b
 both-filed [] ys (k ∷ ks) ls a b = absurd a
 both-filed (x ∷ xs) ys [] ls a b = absurd a

@@ -20,6 +20,7 @@ use Rattle.wire.proofs.ResultLaws.{and-true}
 use Rattle.wire.proofs.CellLaws.{list-iff, lists-length}
 use Rattle.wire.proofs.WritingLaws.{passes}
 use Rattle.wire.proofs.Demand2.{acceptance}
+use Rattle.wire.proofs.ListLaws.{each-append}
 use Rattle.anf.specs.File.{FieldContent, WellFormedField, fileFOk, timestampBits, withinLimits, writtenVersion}
 use Rattle.frames.specs.Frames.{Front, end, cut, frame, framed, front, framesIn, frames, onward}
 use Rattle.depacketizer.specs.declared.state.Opened.{Opened}
@@ -128,10 +129,6 @@ handed-formed s octets store below = go (entered s (readContent (layoutIn s) oct
     go (opened.Refused x) = tt
     go (opened.Open d) =
         answer-formed (step (d .state) (layoutIn s) octets store .answer) (step (d .state) (layoutIn s) octets store .store) (step-time (d .state) (layoutIn s) octets store below)
-
-each-append : {A : Type 0} (P : A → Type 0) (xs ys : List A) → Each P xs → Each P ys → Each P (xs ++ ys)
-each-append P [] ys e d = d
-each-append P (x ∷ xs) ys e d = (e .0, each-append P xs ys (e .1) d)
 
 pub fields-formed : (s : Session) (store : List ℕ) (ps : List (List ℕ)) → Each (Below 256) ps → Each (WellFormedField writtenVersion) (fieldsOf s store ps)
 fields-formed s store [] h = tt

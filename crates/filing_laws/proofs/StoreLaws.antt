@@ -3,21 +3,20 @@
 use mathlib.Core.Path.{_≡_, refl, ap, sym, subst, _∙_}
 use mathlib.Core.Bool.{Bool, true, false, cond, _&&_}
 use mathlib.Core.List.{List, [], _∷_, _++_}
-use Prim.Native.Nat.{ℕ, zero, suc, _+_, _^_, _<_, _≤_}
+use Prim.Native.Nat.{ℕ, zero, suc, _+_, _≤_}
 use native.Mathlib.Omega.{arith}
-use borrow.Author.Tests.{le-leb, leb-true, eq-eqb}
+use borrow.Author.Tests.{le-leb, leb-true}
 use lib.Dec.{eqb, leb}
 use lib.ListN.{length, take, length-append, length-take}
-use Rattle.wire.specs.declared.refusal.Refusal.{Refusal}
 use Rattle.wire.specs.Bits.{Below, Fit, row, splice}
-use Rattle.wire.specs.Layout.{Layout, rfc8331, fBits}
+use Rattle.wire.specs.Layout.{Layout, rfc8331}
 use Rattle.wire.specs.Result.{Result, refused, accepted}
 use Rattle.wire.specs.Anc.{Each, Record, WellFormed}
-use Rattle.wire.specs.Cells.{Lists, listIn, listOf, maxIndex}
+use Rattle.wire.specs.Cells.{Lists, listIn}
 use Rattle.wire.specs.Packet.{Content, Packet, WellFormedPacket, extensionFields, payloadFields, readContent, rtpFields}
 use Rattle.wire.specs.Writing.{maxFieldRecords, maxFieldCells, maxFieldPackets}
 use Rattle.wire.proofs.BitLaws.{fit-append}
-use Rattle.wire.proofs.ListLaws.{length-splice, take-splice}
+use Rattle.wire.proofs.ListLaws.{each-append, length-splice, take-splice}
 use Rattle.wire.proofs.ResultLaws.{and-both, and-true}
 use Rattle.wire.proofs.CellLaws.{list-iff, lists-append, lists-in, length-in}
 use Rattle.wire.proofs.LayoutLaws.{layout-iff}
@@ -25,14 +24,13 @@ use Rattle.wire.proofs.WritingLaws.{all-pass}
 use Rattle.wire.proofs.Demand2.{acceptance}
 use Rattle.anf.specs.File.{fileFOk, withinLimits}
 use Rattle.stream.specs.declared.state.State.{State}
-use Rattle.stream.specs.declared.state.Answer.{Answer}
 use Rattle.stream.specs.declared.state.Answer.the-variants as answer
-use Rattle.stream.specs.declared.state.Field.{Field}
-use Rattle.stream.specs.Step.{Carried, Class, Gather, Gathered, Step, admission, admittedStep, ahead, appended, carried, classStep, classify, distance, dropped, far, farOrRestart, fieldWith, filling, fits, follow, freshStep, gathered, gatheredCells, gatheredPackets, gatheredRecords, isRemembered, join, joinFits, joinIfFits, joinIfSame, late, lost, next, openState, packetStep, ready, step, taken, wholeIfMarked}
+use Rattle.stream.specs.Step.{Carried, Class, Gather, Gathered, Step, admission, admittedStep, ahead, appended, carried, classStep, classify, distance, far, farOrRestart, fieldWith, filling, follow, freshStep, gathered, gatheredCells, gatheredPackets, gatheredRecords, isRemembered, join, joinFits, joinIfFits, joinIfSame, late, lost, next, openState, packetStep, ready, step, taken}
 use Rattle.stream.proofs.FreshLaws.{gathered-after}
 use Rattle.stream.proofs.StepLaws.{passed}
 use Rattle.filing.specs.Filing.{recordsToFile}
-use Rattle.filing_laws.specs.Filed.{EachFiled, wholeBy}
+use Rattle.stream.specs.Stream as stream
+use Rattle.filing_laws.specs.Filed.{EachFiled}
 use Rattle.filing.specs.Filing.{handedBy}
 
 -- so many records in so many cells stand at the front of a store
@@ -50,7 +48,7 @@ pub nothing-stands : (store : List ℕ) → Stands store 0 0
 nothing-stands store = record { records = []; formed = tt; cells = refl; count = refl; inside = omega arith }
 
 -- WHAT A PACKET SAYS can stand there, and be filed
-payload-fit : (L : Layout) (k : Packet) → Fit (rtpFields k ++ (row 32 (k .sources) ++ (extensionFields k ++ (row 32 (k .extension) ++ payloadFields L k)))) → Fit (payloadFields L k)
+pub payload-fit : (L : Layout) (k : Packet) → Fit (rtpFields k ++ (row 32 (k .sources) ++ (extensionFields k ++ (row 32 (k .extension) ++ payloadFields L k)))) → Fit (payloadFields L k)
 payload-fit L k h =
     let a = fit-append (rtpFields k) (row 32 (k .sources) ++ (extensionFields k ++ (row 32 (k .extension) ++ payloadFields L k))) .0 h .1 in
     let b = fit-append (row 32 (k .sources)) (extensionFields k ++ (row 32 (k .extension) ++ payloadFields L k)) .0 a .1 in
@@ -78,10 +76,6 @@ read-files L s below k e =
     let a = acceptance L s below k .0 e in
     let p = packet-files L (a .0) (a .1) in
     subst Fileable (a .3) (record { formed = p .0; f = p .1 })
-
-each-append : {A : Type 0} (P : A → Type 0) (xs ys : List A) → Each P xs → Each P ys → Each P (xs ++ ys)
-each-append P [] ys e d = d
-each-append P (x ∷ xs) ys e d = (e .0, each-append P xs ys (e .1) d)
 
 -- A PACKET JOINS what stands there
 module _ (store : List ℕ) (r c n : ℕ) (h : Stands store r c) (k : Content) (w : Fileable k) where
@@ -118,7 +112,7 @@ module _ (store : List ℕ) (r c n : ℕ) (h : Stands store r c) (k : Content) (
         }
 
     -- and all of it can be filed
-    pub filed-whole : EachFiled (fieldWith p (r + p .records) (c + p .cells) (n + 1) ∷ []) (handedBy (answer.Whole (fieldWith p (r + p .records) (c + p .cells) (n + 1))) here)
+    pub filed-whole : EachFiled (stream.handedBy (answer.Whole (fieldWith p (r + p .records) (c + p .cells) (n + 1))) here) (handedBy (answer.Whole (fieldWith p (r + p .records) (c + p .cells) (n + 1))) here)
     filed-whole =
         let j = joined in
         let cells = take (c + p .cells) here in
@@ -128,12 +122,12 @@ module _ (store : List ℕ) (r c n : ℕ) (h : Stands store r c) (k : Content) (
         and-both (le-leb (length (j .records)) maxFieldRecords (omega (arith, j .count, within .0))) (le-leb (length cells) maxFieldCells (omega (arith, long, within .1))) in
         let e : recordsToFile (k .f) cells ≡ accepted (j .records) =
         all-pass ((fileFOk (k .f), 53) ∷ []) (λ (rs : List Record). (withinLimits (length rs) (length cells), 21) ∷ []) cells (w .f, tt) (j .records) reads (limits, tt) in
-        rw e ((refl, refl, j .count), tt)
+        rw e ((refl, refl, j .count, j .cells), tt)
 
 -- WHAT A FRESH PACKET LEAVES, where `g` stands in the store: what is then gathered stands there, and what it completes is filed
 record Leaves (z : Gather) (g : Gathered) (k : Content) (store : List ℕ) : Type 0 where
   pub holds : Holds (appended (z .append) g k store) (z .gathered)
-  pub filed : EachFiled (wholeBy (z .answer)) (handedBy (z .answer) (appended (z .append) g k store))
+  pub filed : EachFiled (stream.handedBy (z .answer) (appended (z .append) g k store)) (handedBy (z .answer) (appended (z .append) g k store))
 
 dropped-holds : (marker : Bool) (store : List ℕ) → Holds store (cond marker ready lost)
 dropped-holds true store = nothing-stands store
@@ -173,7 +167,7 @@ follow-leaves (filling t f r c n) k store h w = go (eqb t (k .timestamp) && eqb 
 
 -- EVERY STEP keeps it so
 abbrev StepLeaves : Step → Type 0
-StepLeaves z = Holds (z .store) (gathered (z .state)) × EachFiled (wholeBy (z .answer)) (handedBy (z .answer) (z .store))
+StepLeaves z = Holds (z .store) (gathered (z .state)) × EachFiled (stream.handedBy (z .answer) (z .store)) (handedBy (z .answer) (z .store))
 
 fresh-leaves : (from : State) (g : Gathered) (missing : ℕ) (k : Content) (store : List ℕ) → Holds store g → Fileable k → StepLeaves (freshStep from g missing k store)
 fresh-leaves from g missing k store h w =

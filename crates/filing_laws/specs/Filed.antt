@@ -5,16 +5,15 @@ use Prim.Native.Nat.{ℕ}
 use lib.ListN.{length, take}
 use Rattle.wire.specs.Bits.{Below}
 use Rattle.wire.specs.Layout.{Layout}
+use Rattle.wire.specs.Cells.{Lists}
 use Rattle.wire.specs.Packet.{readContent}
 use Rattle.anf.specs.File.{FieldContent, endOfFile, readFile, writtenVersion}
 use Rattle.anf.specs.Cut.{cutFile}
 use Rattle.frames.specs.Frames.{frames}
 use Rattle.depacketizer.specs.declared.state.Opened.{Opened}
 use Rattle.depacketizer.specs.declared.state.Opened.the-variants as opened
-use Rattle.stream.specs.declared.state.Answer.{Answer}
-use Rattle.stream.specs.declared.state.Answer.the-variants as answer
-use Rattle.stream.specs.declared.state.Field.{Field}
-use Rattle.stream.specs.Step.{step}
+use Rattle.stream.specs.Step.{Step, step}
+use Rattle.stream.specs.Stream.{Handed, handedBy}
 use Rattle.listing.specs.declared.session.Session.{Session}
 use Rattle.listing.specs.declared.session.Session.the-variants as session
 use Rattle.listing.specs.Session.{entered, layoutIn, turn}
@@ -30,29 +29,21 @@ abbrev pub CutReads : Type 0
 CutReads = (L : Layout) (store input : List ℕ) → Below 256 input → (n : ℕ)
     → readFile (take n (filing L store input)) ≡ cutFile writtenVersion n (fieldsIn L store input)
 
--- the fields that are handed out, as the answers tell them (01: "whole, .. with timestamp, F, records, cells used")
-abbrev pub wholeBy : Answer → List Field
-wholeBy answer.Skipped = []
-wholeBy answer.Held = []
-wholeBy answer.Mixed = []
-wholeBy answer.Overfull = []
-wholeBy (answer.Whole x) = x ∷ []
-wholeBy (answer.Refused x) = []
-
-abbrev pub wholeAt : Layout → List ℕ → List ℕ → Opened → List Field
+-- the fields that are handed out, as the answers tell them (01: "whole, .. with timestamp, F, records, cells used"), each with the cells that the store then begins with
+abbrev pub wholeAt : Layout → List ℕ → List ℕ → Opened → List Handed
 wholeAt L octets store (opened.Refused x) = []
-wholeAt L octets store (opened.Open d) = wholeBy (step (d .state) L octets store .answer)
+wholeAt L octets store (opened.Open d) = let x : Step = step (d .state) L octets store in handedBy (x .answer) (x .store)
 
-abbrev pub wholesOf : Session → List ℕ → List (List ℕ) → List Field
+abbrev pub wholesOf : Session → List ℕ → List (List ℕ) → List Handed
 wholesOf s store [] = []
 wholesOf s store (p ∷ ps) =
     wholeAt (layoutIn s) p store (entered s (readContent (layoutIn s) p)) ++ wholesOf (turn s p store .session) (turn s p store .store) ps
 
--- one is filed: its timestamp, its F, and as many records as it has
-abbrev pub Filed : Field → FieldContent → Type 0
-Filed x k = (k .timestamp ≡ x .timestamp .0) × (k .f ≡ x .f) × (length (k .records) ≡ x .records)
+-- one is filed: its timestamp, its F, as many records as it has, and they are the ones that stand in its cells. (These tell them: `FiledLaws.one-list`.)
+abbrev pub Filed : Handed → FieldContent → Type 0
+Filed x k = (k .timestamp ≡ x .timestamp) × (k .f ≡ x .f) × (length (k .records) ≡ x .records) × Lists (k .records) (x .content)
 
-abbrev pub EachFiled : List Field → List FieldContent → Type 0
+abbrev pub EachFiled : List Handed → List FieldContent → Type 0
 EachFiled [] [] = Unit {0}
 EachFiled [] (k ∷ ks) = ⊥
 EachFiled (x ∷ xs) [] = ⊥

@@ -4,11 +4,12 @@ use mathlib.Core.List.{List, [], _∷_}
 use Prim.Native.Nat.{ℕ, _/_, _≤_}
 use lib.Dec.{ltb}
 use lib.ListN.{length, drop}
+use Rattle.wire.specs.Bits.{overwrite}
 use Rattle.wire.specs.Result.{Result, refused, accepted}
 use Rattle.sdp.specs.declared.item.Item.{Item}
 use Rattle.sdp.specs.declared.parameters.Parameters.{Parameters}
 use Rattle.sdp.specs.Grammar.{Content, pairsOf}
-use Rattle.sdp.specs.Reading.{itemOf, front, next}
+use Rattle.sdp.specs.Reading.{itemOf, front, next, readInto}
 use Rattle.fmtp.specs.declared.Reading.{Reading}
 use Rattle.fmtp.specs.declared.Reading.the-variants as reading
 use Rattle.fmtp.specs.declared.Step.{Step}
@@ -27,6 +28,13 @@ contentReading (accepted k) = reading.Accepted (record { pairs = length (k .pair
 abbrev pub contentPairs : Result Content → List ℕ
 contentPairs (refused x) = []
 contentPairs (accepted k) = k .pairs
+
+-- what `read` returns for this text and these lent octets, and what they then hold
+abbrev pub readReturns : (text lent : List ℕ) → Reading
+readReturns text lent = contentReading (readInto text (length lent))
+
+abbrev pub readLeaves : (text lent : List ℕ) → List ℕ
+readLeaves text lent = overwrite (contentPairs (readInto text (length lent))) lent
 
 -- those of one item
 abbrev pub itemPairs : Item → List ℕ

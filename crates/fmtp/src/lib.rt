@@ -6,8 +6,8 @@ ghost use Prim.Native.Nat.{_+_, _≤_};
 ghost use lib.ListN.{drop, length};
 ghost use Rattle.wire.specs.Bits.{overwrite, splice};
 ghost use Rattle.sdp.specs.Grammar.{pairsOf};
-ghost use Rattle.sdp.specs.Reading.{add, addCode, addPair, front, gather, items, none, readInto, skipSpaces};
-ghost use Rattle.fmtp.specs.Answers.{Stepped, contentPairs, contentReading, itemPairs, readingOf};
+ghost use Rattle.sdp.specs.Reading.{add, addCode, addPair, front, gather, items, none, skipSpaces};
+ghost use Rattle.fmtp.specs.Answers.{Stepped, itemPairs, readLeaves, readReturns, readingOf};
 use sdp::item::Item;
 use sdp::parameters::Parameters;
 use sdp::parameters::Vpid;
@@ -189,8 +189,8 @@ fn store_pairs(text: &[u8], pairs: &mut [u8])
 
 // Reads the pairs of a text into the first octets of `pairs`, DID then SDID.
 pub fn read(text: &[u8], pairs: &mut [u8]) -> Reading
-    ensures { λ r. ⌜ r ≡ contentReading (readInto (now (text .entry)) (length (now (pairs .entry)))) ⌝ }
-    ensures { λ r. ⌜ now (pairs .exit) ≡ overwrite (contentPairs (readInto (now (text .entry)) (length (now (pairs .entry))))) (now (pairs .entry)) ⌝ }
+    ensures { λ r. ⌜ r ≡ readReturns (now (text .entry)) (now (pairs .entry)) ⌝ }
+    ensures { λ r. ⌜ now (pairs .exit) ≡ readLeaves (now (text .entry)) (now (pairs .entry)) ⌝ }
 {
     if Parameters::MAX_TEXT < text.len() {
         return Reading::refuse(Refusal::TEXT_TOO_LONG, 0);

@@ -7,8 +7,8 @@ ghost use lib.ListN.{length};
 ghost use Rattle.text.specs.Put.{Put};
 ghost use Rattle.text.specs.Text.{decimal};
 ghost use Rattle.sdp.specs.Text.{maxPairs};
-ghost use Rattle.sdp.specs.Writing.{codeText, codeTexts, joined, pairText, pairTexts, separated, textOf, writeText};
-ghost use Rattle.wire.specs.Written.{octetsAfter, writtenOf};
+ghost use Rattle.sdp.specs.Writing.{codeText, codeTexts, joined, pairText, pairTexts, separated, textOf};
+ghost use Rattle.fmtp_writer.specs.Entry.{writeLeaves, writeReturns};
 ghost use Rattle.fmtp_writer.specs.Parts.{following, separator};
 use sdp::parameters::Parameters;
 use sdp::parameters::Vpid;
@@ -129,8 +129,8 @@ fn text_size(pairs: &[u8], vpid: Vpid) -> usize
 
 // Writes pairs, DID then SDID, and a VPID code as a text to the first octets of `out`.
 pub fn write(pairs: &[u8], vpid: Vpid, out: &mut [u8]) -> Written
-    ensures { λ r. ⌜ r ≡ writtenOf (writeText (record { pairs = now (pairs .entry); vpid = vpid }) (length (now (out .entry)))) ⌝ }
-    ensures { λ r. ⌜ now (out .exit) ≡ octetsAfter (writeText (record { pairs = now (pairs .entry); vpid = vpid }) (length (now (out .entry)))) (now (out .entry)) ⌝ }
+    ensures { λ r. ⌜ r ≡ writeReturns (now (pairs .entry)) vpid (now (out .entry)) ⌝ }
+    ensures { λ r. ⌜ now (out .exit) ≡ writeLeaves (now (pairs .entry)) vpid (now (out .entry)) ⌝ }
 {
     if pairs.len() % 2 != 0 {
         return refuse(Refusal::ITEM_MALFORMED);

@@ -1,28 +1,26 @@
 -- A field handed out is sent on in the packets that it arrived in.
 -- Of its cells, those with a packet's index are the packet's records, and the writer only checks the index.
-use mathlib.Core.Path.{_≡_, refl, ap, ap₂, sym, _∙_, subst}
-use mathlib.Core.List.{List, [], _∷_, _++_}
+use mathlib.Core.Path.{_≡_, refl, ap, ap₂, sym, _∙_}
+use mathlib.Core.List.{List, [], _∷_}
 use Prim.Native.Nat.{ℕ, suc, _+_, _<_, _≤_}
 use native.Mathlib.Nat.{zero-add}
 use native.Mathlib.Omega.{arith}
 use lib.ListN.{length, take, drop, length-append}
 use lib.Seq.{take-append-seam, drop-append-seam, take-at}
-use Rattle.wire.specs.Layout.{Layout, rfc8331}
-use Rattle.wire.specs.Bits.{Below, overwrite}
+use Rattle.wire.specs.Layout.{rfc8331}
+use Rattle.wire.specs.Bits.{Below}
 use Rattle.wire.specs.Result.{Result, accepted}
 use Rattle.wire.specs.Anc.{Each, Record, InRange, WellFormed}
 use Rattle.wire.specs.Cells.{listIn, listOf, maxIndex}
-use Rattle.wire.specs.Packet.{Content, readContent}
+use Rattle.wire.specs.Packet.{Content}
 use Rattle.wire.specs.Writing.{maxCells, contentOctets, withRecords, writeContent}
 use Rattle.wire.specs.Written.{octetsAfter, writtenOf}
-use Rattle.wire.proofs.ResultLaws.{then-accepts, judge-accepts}
 use Rattle.wire.proofs.LayoutLaws.{layout-iff}
 use Rattle.wire.proofs.CellLaws.{lists-in, lists-own, length-in}
 use Rattle.wire.proofs.Demand2.{only-checked, plain-read, writes, rewritten-octets-iff, rewritten-formed, rewritten-shorter}
 use Rattle.rtp.specs.declared.packet.Head.{Head}
 use Rattle.packetizer.specs.Answers.{contentOf}
-use Rattle.stream.specs.Step.{openedChecks, admit}
-use Rattle.stream.specs.Stream.{Part, parts, cellsFrom, joinedCells, Sent, sent, Stream, contentAt, nth, Within, WellFormedStream}
+use Rattle.stream.specs.Stream.{Part, cellsFrom, joinedCells, Sent, sent, Stream, contentAt, nth, Within, WellFormedStream}
 use Rattle.stream.proofs.PlaceLaws.{PartOf, part-at, field-at, cells-append}
 use Rattle.forward.specs.Forward.{packetCells}
 use Rattle.forward.specs.SentOn.{indexOf, cellsOnward, itsCells, SentOn}
@@ -61,13 +59,6 @@ module _ (x : Sent) (of : PartOf x) (within : Within (x .field)) where
       let h = length-append (listIn k (x .part .records)) (cellsFrom (suc k) (x .behind)) in
       omega (arith, d, e, h, length-in k (x .part .records), within .1)
 
--- what is admitted was read
-admitted-reads : (L : Layout) (source type : ℕ) (o : List ℕ) (k : Content) → admit L source type o ≡ accepted k → readContent L o ≡ accepted k
-admitted-reads L source type o k e =
-    let a = then-accepts (readContent L o) _ k e in
-    let b = judge-accepts 0 (openedChecks source type (a .0 .source) (a .0 .type)) (accepted (a .0)) k (a .2) in
-    a .1 ∙ b .1
-
 -- A PACKET SENT ON, of a well-formed stream: its number and mark, its field's timestamp and F, and of the field's cells those with its index
 pub sent-on : (s : Stream) → WellFormedStream s → (i : ℕ) → i < length (sent (s .fields)) → Below 256 (nth s i .part .octets) → (h : Head)
     → contentOf h ≡ withRecords (contentAt s i (nth s i)) [] → (out : List ℕ) → length (nth s i .part .octets) ≤ length out
@@ -81,7 +72,7 @@ sent-on s w i b below h same out room =
     let rs = x .part .records in
     let of : PartOf x = part-at (s .fields) i b in
     let within : Within (x .field) = field-at Within (s .fields) i (w .within) b in
-    let reads = admitted-reads L (s .source) (s .type) o k (w .accepts i b) in
+    let reads = w .accepts i b in
     let formed = rewritten-formed L o below k reads in
     let records = layout-iff L (k .f) rs .1 (formed .records, omega (arith, formed .fit)) .0 in
     let shorter = rewritten-shorter L o below k reads in

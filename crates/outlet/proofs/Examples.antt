@@ -99,22 +99,22 @@ state h n s l next =
     record {
       heads = set (replicate 8 0) 0 h;
       counts = set (set (replicate 8 0) 0 n) 1 1;
-      slots = set (set (set (replicate 64 200) 0 9) 7 s) 8 63;
+      slots = set (set (set (replicate 64 0) 0 9) 7 s) 8 63;
       lengths = set (set (set (replicate 64 2000) 0 5) 7 l) 8 1024;
       next = next;
     }
 
--- only held places are looked at: those that hold none have slot 200 and 2,000 octets here
+-- only held lengths are looked at: places that hold none have 2,000 octets here, and two of them slot 0
 pub sound-state : sound (state 7 1 9 5 0) ≡ true
 unfolding allUpto usedBelow
 sound-state = refl
 
--- 64: each of 02's cases. The start of a ring, over eight held, a slot out of range, its length 0 and 1,025, the next channel, a slot held twice
+-- 64: each of 02's cases. The start of a ring, over eight held, a slot out of range, its length 0 and 1,025, the next channel, a slot held twice; a slot out of range that is not held
 pub unsound-states : (sound (state 8 1 9 5 0) ≡ false) × (sound (state 7 9 9 5 0) ≡ false) × (sound (state 7 1 64 5 0) ≡ false)
     × (sound (state 7 1 9 0 0) ≡ false) × (sound (state 7 1 9 1025 0) ≡ false) × (sound (state 7 1 9 5 8) ≡ false) × (sound (state 7 1 63 5 0) ≡ false)
-    × (sound (state 7 2 9 5 0) ≡ false)
+    × (sound (state 7 2 9 5 0) ≡ false) × (sound (state 0 0 64 5 0) ≡ false) × (sound (state 0 0 63 5 0) ≡ true)
 unfolding allUpto usedBelow
-unsound-states = (refl, refl, refl, refl, refl, refl, refl, refl)
+unsound-states = (refl, refl, refl, refl, refl, refl, refl, refl, refl, refl)
 
 -- 64 comes first, and before it nothing; the memory's size is 65,536 exactly
 pub order-64 : (offerOf (state 7 1 63 5 0) 8 0 65536 ≡ refuse 64 0) × (offerOf (state 7 1 9 5 0) 8 0 65535 ≡ refuse 64 0)

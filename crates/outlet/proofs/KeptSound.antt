@@ -10,10 +10,10 @@ use lib.Seq.{getD-set-same, getD-set-other}
 use borrow.Author.Tests.{eqb-true, eqb-false, eq-eqb, ne-eqb, ltb-true, ltb-false, lt-ltb, le-ltb, le-leb, leb-true}
 use Rattle.outlet.specs.declared.state.State.{State}
 use Rattle.outlet.specs.Queues.{behind}
-use Rattle.outlet.specs.Places.{heldAt, held, slotAt, entryFits, usedBelow, placeOk, allUpto, channelFits, channelOk, numbersOk, sound}
+use Rattle.outlet.specs.Places.{heldAt, held, slotAt, lengthFits, usedBelow, placeOk, allUpto, channelFits, channelOk, slotOk, numbersOk, sound}
 use Rattle.outlet.specs.Step.{seek, freeSlot, placeOf, packetAt, keptState, leftState}
 use Rattle.outlet.proofs.Upto.{and-left, and-right, upto-at, upto-all}
-use Rattle.outlet.proofs.PlaceLaws.{place-ok, place-channel, place-free}
+use Rattle.outlet.proofs.PlaceLaws.{place-ok, slots-fit, place-channel, place-free}
 use Rattle.outlet.proofs.FreeLaws.{unused, held-apart}
 
 -- the counts of a place: one more at `n` changes only the place `n` behind the head
@@ -96,11 +96,11 @@ module _ (st : State) (c l : ℕ) (s : sound st ≡ true) (lc : c < 8) (least : 
   pub kept-places : at < 64 → (k : ℕ) → k < 64 → placeOk next k ≡ true
   kept-places h k g = go (eqb k at) refl
     where
-      fits : entryFits (freeSlot st) l ≡ true
-      fits = rw (lt-ltb (freeSlot st) 64 free, le-leb 1 l least, le-leb l 1024 most)
+      fits : lengthFits l ≡ true
+      fits = rw (le-leb 1 l least, le-leb l 1024 most)
 
-      old : (b : Bool) → held st k ≡ b → (k ≡ at → ⊥) → not b || (entryFits (slotAt st k) (getD (st .lengths) k 0) && not (usedBelow st k (slotAt st k))) ≡ true
-          → not b || (entryFits (slotAt st k) (getD (st .lengths) k 0) && not (usedBelow next k (slotAt st k))) ≡ true
+      old : (b : Bool) → held st k ≡ b → (k ≡ at → ⊥) → not b || (lengthFits (getD (st .lengths) k 0) && not (usedBelow st k (slotAt st k))) ≡ true
+          → not b || (lengthFits (getD (st .lengths) k 0) && not (usedBelow next k (slotAt st k))) ≡ true
       old false b z i = refl
       old true b z i = rw (used-same h (slotAt st k) (held-apart st k free g b) k) i
 
@@ -116,11 +116,16 @@ module _ (st : State) (c l : ℕ) (s : sound st ≡ true) (lc : c < 8) (least : 
   kept-sound h =
       let numbers = and-left (numbersOk st) (allUpto (placeOk st) 64) s in
       rw (
-        upto-all (channelOk next) 8 (λ d g. one d g (eqb d c) refl (upto-at (channelOk st) 8 d (and-left (allUpto (channelOk st) 8) (ltb (st .next) 8) numbers) g)),
-        and-right (allUpto (channelOk st) 8) (ltb (st .next) 8) numbers,
+        upto-all (channelOk next) 8 (λ d g. one d g (eqb d c) refl (upto-at (channelOk st) 8 d (and-left (allUpto (channelOk st) 8) (ltb (st .next) 8 && allUpto (slotOk st) 64) numbers) g)),
+        and-left (ltb (st .next) 8) (allUpto (slotOk st) 64) (and-right (allUpto (channelOk st) 8) (ltb (st .next) 8 && allUpto (slotOk st) 64) numbers),
+        upto-all (slotOk next) 64 (λ k g. slot k g (eqb k at) refl (upto-at (slotOk st) 64 k (slots-fit st numbers) g)),
         upto-all (placeOk next) 64 (kept-places h),
       )
     where
+      slot : (k : ℕ) → k < 64 → (b : Bool) → eqb k at ≡ b → slotOk st k ≡ true → slotOk next k ≡ true
+      slot k g true e i = rw (eqb-true k at e, slot-new h) (lt-ltb (freeSlot st) 64 free)
+      slot k g false e i = rw (slot-same k (eqb-false k at e)) i
+
       one : (d : ℕ) → d < 8 → (b : Bool) → eqb d c ≡ b → channelOk st d ≡ true → channelOk next d ≡ true
       one d g true e i = let z = eqb-true d c e in
           rw (z, getD-set-same (st .counts) c (getD (st .counts) c 0 + 1) 0 (omega arith), le-leb (getD (st .heads) c 0) 7 (omega arith), le-leb (getD (st .counts) c 0 + 1) 8 (omega arith))

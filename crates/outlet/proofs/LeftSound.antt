@@ -10,11 +10,11 @@ use lib.Seq.{getD-set-same, getD-set-other}
 use borrow.Author.Tests.{eqb-true, eqb-false, ltb-true, ltb-false, lt-ltb, le-ltb, le-leb, leb-true}
 use Rattle.outlet.specs.declared.state.State.{State}
 use Rattle.outlet.specs.Queues.{behind}
-use Rattle.outlet.specs.Places.{heldAt, held, slotAt, entryFits, usedBelow, placeOk, allUpto, channelFits, channelOk, numbersOk, sound}
+use Rattle.outlet.specs.Places.{heldAt, held, slotAt, lengthFits, usedBelow, placeOk, allUpto, channelFits, channelOk, slotOk, numbersOk, sound}
 use Rattle.outlet.specs.Step.{leftState}
 use Rattle.outlet.proofs.Upto.{and-left, and-right, upto-at, upto-all}
 use Rattle.outlet.proofs.Circle.{behind-channel}
-use Rattle.outlet.proofs.PlaceLaws.{place-ok}
+use Rattle.outlet.proofs.PlaceLaws.{place-ok, slots-fit}
 
 -- without its head a channel holds no other place
 count-less : (k h n : ℕ) → h < 8 → 0 < n → n ≤ 8 → heldAt k (behind h) (n - 1) ≡ true → heldAt k h n ≡ true
@@ -70,17 +70,18 @@ module _ (st : State) (c : ℕ) (s : sound st ≡ true) (lc : c < 8) (hh : getD 
       inner true false u v z f h = h
       inner false e u v z f h = absurd (true≢false (sym z))
 
-      go : (b : Bool) → held next k ≡ b → not b || (entryFits (slotAt st k) (getD (st .lengths) k 0) && not (usedBelow next k (slotAt st k))) ≡ true
+      go : (b : Bool) → held next k ≡ b → not b || (lengthFits (getD (st .lengths) k 0) && not (usedBelow next k (slotAt st k))) ≡ true
       go false z = refl
-      go true z = inner (held st k) (entryFits (slotAt st k) (getD (st .lengths) k 0)) (usedBelow st k (slotAt st k)) (usedBelow next k (slotAt st k)) (held-less k z) (used-less (slotAt st k) k) p
+      go true z = inner (held st k) (lengthFits (getD (st .lengths) k 0)) (usedBelow st k (slotAt st k)) (usedBelow next k (slotAt st k)) (held-less k z) (used-less (slotAt st k) k) p
 
   pub left-sound : sound next ≡ true
   left-sound =
       let numbers = and-left (numbersOk st) (allUpto (placeOk st) 64) s in
       let b = behind-channel c in
       rw (
-        upto-all (channelOk next) 8 (λ d g. one d g (eqb d c) refl (upto-at (channelOk st) 8 d (and-left (allUpto (channelOk st) 8) (ltb (st .next) 8) numbers) g)),
+        upto-all (channelOk next) 8 (λ d g. one d g (eqb d c) refl (upto-at (channelOk st) 8 d (and-left (allUpto (channelOk st) 8) (ltb (st .next) 8 && allUpto (slotOk st) 64) numbers) g)),
         lt-ltb (behind c) 8 (omega arith),
+        slots-fit st numbers,
         upto-all (placeOk next) 64 (λ k g. left-place k (place-ok st k s g)),
       )
     where

@@ -1,23 +1,25 @@
 -- 02, K10, of the calls' answers from an outlet just opened, whatever its memory held.
-use mathlib.Core.Path.{_≡_, refl, sym, _∙_, ap}
+use mathlib.Core.Path.{_≡_, refl, sym, _∙_, ap, subst}
 use mathlib.Core.Bool.{Bool, true, false, cond, _&&_}
 use mathlib.Core.List.{List, [], _∷_, _++_}
 use Prim.Native.Nat.{ℕ, zero, suc, _+_, _-_, _*_, _%_, _≤_, _<_}
 use native.Mathlib.Omega.{arith}
 use lib.Dec.{eqb, leb, ltb}
-use lib.ListN.{length, getD}
-use borrow.Author.Tests.{leb-true, ltb-true}
+use lib.ListN.{length, getD, take, drop, length-drop}
+use lib.Seq.{length-take-le, take-at, drop-at}
+use borrow.Author.Tests.{eqb-true, leb-true, ltb-true}
 use Rattle.wire.specs.declared.refusal.Refusal.{Refusal}
-use Rattle.wire.specs.Bits.{splice}
+use Rattle.wire.specs.Bits.{overwrite, splice}
 use Rattle.wire.specs.Result.{Result, refused, accepted, refuse, _then_}
-use Rattle.wire.proofs.ResultLaws.{judge-accepts}
+use Rattle.wire.proofs.ResultLaws.{accepted-inj, judge-accepts}
 use Rattle.outlet.specs.declared.state.State.{State}
-use Rattle.outlet.specs.Queues.{Model, opened, channels, slotCount, slotSize, memorySize, offerChecks, Turn, turn, handOut, Call, offering, taking, Answer, copied, handed, no, afterTake, step, after, answers}
+use Rattle.outlet.specs.Queues.{Model, opened, channels, slotCount, slotSize, memorySize, offerChecks, Turn, turn, behind, handOut, Call, offering, taking, Answer, copied, handed, no, afterTake, step, after, answers}
 use Rattle.outlet.specs.Places.{held, slotAt, sound}
-use Rattle.outlet.specs.Step.{admits, keptState, offerOf, offeredOf, memoryAfter, takeOf, takenOf, outAfter, freeSlot}
+use Rattle.outlet.specs.Step.{admits, keptState, offerOf, offeredOf, memoryAfter, takeOf, takenOf, outAfter, freeSlot, turnOf, turnFor, headPlace, headLength, packetAt}
 use Rattle.outlet.specs.Calls.{offerHeard, takeHeard, Called, lentTo, call, answersOf, answersBehind}
 use Rattle.outlet.specs.Laws.{Handed, handedOut, Within, roomyTakes, waiting, own, holds, answerTo, servedLast, inCircle, InTurn, NothingWaits}
-use Rattle.outlet.proofs.Upto.{and-right}
+use Rattle.outlet.proofs.Upto.{and-left, and-right}
+use Rattle.outlet.proofs.PlaceLaws.{head-ready}
 use Rattle.outlet.proofs.FreeLaws.{free-one, held-apart}
 use Rattle.outlet.proofs.Circle.{from, from-all}
 use Rattle.outlet.proofs.Simulation.{answers-as-queues}
@@ -171,3 +173,48 @@ copied-in st m c p e = go (offerOf st c (length p) (length m)) refl e
         let l = leb-true c 7 (t .1 .0) in
         let low = free-one st c (and-right (eqb (length m) memorySize) (sound st) (t .0)) (omega arith) (ltb-true (getD (st .counts) c 0) 8 (t .1 .1 .1 .0)) in
         record { slot = freeSlot st; low = low; free = λ k g h. held-apart st k low g h; memory = rw z }
+
+-- whose turn it is holds a packet
+turn-holds : (n : ℕ) (counts : List ℕ) (c : ℕ) → turnOf n counts c ≤ 7 → 0 < getD counts (turnOf n counts c) 0
+unfolding turnOf
+turn-holds zero counts c h = absurd (omega arith)
+turn-holds (suc n) counts c h = go (ltb 0 (getD counts c 0)) refl h (turn-holds n counts (behind c))
+  where
+    go : (b : Bool) → ltb 0 (getD counts c 0) ≡ b → cond b c (turnOf n counts (behind c)) ≤ 7
+        → (turnOf n counts (behind c) ≤ 7 → 0 < getD counts (turnOf n counts (behind c)) 0) → 0 < getD counts (cond b c (turnOf n counts (behind c))) 0
+    go true e h ih = ltb-true 0 (getD counts c 0) e
+    go false e h ih = ih h
+
+-- "a take hands out one packet": to the first octets of what is lent, and the others stay; of any state and memory
+pub record HandedOut (st : State) (m out : List ℕ) (p : List ℕ) : Type 0 where
+  pub fits : length p ≤ length out
+  pub first : take (length p) (call st m (taking out) .lent) ≡ p
+  pub rest : drop (length p) (call st m (taking out) .lent) ≡ drop (length p) out
+
+pub handed-out : (st : State) (m out : List ℕ) (c : ℕ) (p : List ℕ) → call st m (taking out) .answer ≡ handed c p → HandedOut st m out p
+handed-out st m out c p e = go (takeOf st (length m) (length out)) refl e
+  where
+    go : (r : Result ℕ) → takeOf st (length m) (length out) ≡ r → takeHeard (takenOf st r .answer) (outAfter st m r out) ≡ handed c p → HandedOut st m out p
+    go (refused y) z f = absurd (let z : _≡_ {A = ℕ} 0 1 = cc in omega arith)
+    go (accepted d) z f =
+        let j = judge-accepts 0 ((admits st (length m), 64) ∷ (leb (turnFor st) 7, 63) ∷ (leb (headLength st (turnFor st)) (length out), 23) ∷ []) (accepted (turnFor st)) d z in
+        let same : turnFor st ≡ d = accepted-inj (j .1) in
+        let low = leb-true (turnFor st) 7 (j .0 .1 .0) in
+        let sized : length m ≡ memorySize = eqb-true (length m) memorySize (and-left (eqb (length m) memorySize) (sound st) (j .0 .0)) in
+        let r = head-ready st (turnFor st) (and-right (eqb (length m) memorySize) (sound st) (j .0 .0)) (omega arith) (turn-holds 8 (st .counts) (st .next) low) in
+        let packet = packetAt st m (headPlace st (turnFor st)) in
+        let n = headLength st (turnFor st) in
+        let long : length packet ≡ n = length-take-le n (drop (1024 * getD (st .slots) (headPlace st (turnFor st)) 0) m)
+        (rw (length-drop (1024 * getD (st .slots) (headPlace st (turnFor st)) 0) m) (room-in (getD (st .slots) (headPlace st (turnFor st)) 0) n (length m) (r .slot) (r .most) sized)) in
+        let left : call st m (taking out) .lent ≡ overwrite packet out = ap (λ (y : Result ℕ). outAfter st m y out) z ∙ ap (λ (y : ℕ). overwrite (packetAt st m (headPlace st y)) out) (sym same) in
+        let q : take (headLength st d) (outAfter st m (accepted d) out) ≡ p = cc in
+        let is : packet ≡ p =
+        sym (take-at packet (drop (length packet) out) n long) ∙ ap (λ (y : ℕ). take (headLength st y) (overwrite (packetAt st m (headPlace st y)) out)) same ∙ q in
+        record {
+          fits = subst (λ (l : List ℕ). length l ≤ length out) is (omega (arith, long, leb-true n (length out) (j .0 .1 .1 .0)));
+          first = subst (λ (l : List ℕ). take (length l) (call st m (taking out) .lent) ≡ l) is (ap (take (length packet)) left ∙ take-at packet (drop (length packet) out) (length packet) refl);
+          rest = subst (λ (l : List ℕ). drop (length l) (call st m (taking out) .lent) ≡ drop (length l) out) is (ap (drop (length packet)) left ∙ drop-at packet (drop (length packet) out) (length packet) refl);
+        }
+      where
+        room-in : (s l n : ℕ) → s < 64 → l ≤ 1024 → n ≡ 65536 → l ≤ n - 1024 * s
+        room-in s l n x y z = omega arith

@@ -8,7 +8,7 @@ use lib.Dec.{eqb, leb, ltb}
 use lib.ListN.{getD}
 use borrow.Author.Tests.{lt-ltb, le-ltb, ltb-true, leb-true}
 use Rattle.outlet.specs.declared.state.State.{State}
-use Rattle.outlet.specs.Places.{heldAt, held, slotAt, entryFits, usedBelow, placeOk, allUpto, channelOk, numbersOk, sound}
+use Rattle.outlet.specs.Places.{heldAt, held, slotAt, lengthFits, usedBelow, placeOk, allUpto, channelOk, slotOk, numbersOk, sound}
 use Rattle.outlet.specs.Step.{headPlace}
 use Rattle.outlet.proofs.Upto.{and-left, and-right, upto-at}
 
@@ -20,7 +20,7 @@ place-ok st k e h = upto-at (placeOk st) 64 k (and-right (numbersOk st) (allUpto
 
 -- a channel's head is one of its places, and it holds at most eight
 channel-fits : (st : State) (c : ℕ) → numbersOk st ≡ true → c < 8 → channelOk st c ≡ true
-channel-fits st c e h = upto-at (channelOk st) 8 c (and-left (allUpto (channelOk st) 8) (ltb (st .next) 8) e) h
+channel-fits st c e h = upto-at (channelOk st) 8 c (and-left (allUpto (channelOk st) 8) (ltb (st .next) 8 && allUpto (slotOk st) 64) e) h
 
 pub head-fits : (st : State) (c : ℕ) → numbersOk st ≡ true → c < 8 → getD (st .heads) c 0 < 8
 head-fits st c e h =
@@ -32,7 +32,14 @@ count-fits st c e h =
     leb-true (getD (st .counts) c 0) 8 (and-right (leb (getD (st .heads) c 0) 7) (leb (getD (st .counts) c 0) 8) (channel-fits st c e h))
 
 pub next-fits : (st : State) → sound st ≡ true → st .next < 8
-next-fits st e = ltb-true (st .next) 8 (and-right (allUpto (channelOk st) 8) (ltb (st .next) 8) (numbers st e))
+next-fits st e = ltb-true (st .next) 8 (and-left (ltb (st .next) 8) (allUpto (slotOk st) 64) (and-right (allUpto (channelOk st) 8) (ltb (st .next) 8 && allUpto (slotOk st) 64) (numbers st e)))
+
+-- every slot is one of the 64, held or not
+pub slots-fit : (st : State) → numbersOk st ≡ true → allUpto (slotOk st) 64 ≡ true
+slots-fit st e = and-right (ltb (st .next) 8) (allUpto (slotOk st) 64) (and-right (allUpto (channelOk st) 8) (ltb (st .next) 8 && allUpto (slotOk st) 64) e)
+
+pub slot-fits : (st : State) (k : ℕ) → numbersOk st ≡ true → k < 64 → slotAt st k < 64
+slot-fits st k e h = ltb-true (slotAt st k) 64 (upto-at (slotOk st) 64 k (slots-fit st e) h)
 
 -- a held place's slot and its length are in range
 pub record Ready (st : State) (k : ℕ) : Type 0 where
@@ -41,21 +48,19 @@ pub record Ready (st : State) (k : ℕ) : Type 0 where
   pub most : getD (st .lengths) k 0 ≤ 1024
   pub once : usedBelow st k (slotAt st k) ≡ false
 
-entry-fits : (s l : ℕ) → entryFits s l ≡ true → (s < 64) × (1 ≤ l) × (l ≤ 1024)
-entry-fits s l g =
-    let r = and-right (ltb s 64) (leb 1 l && leb l 1024) g in
-    (ltb-true s 64 (and-left (ltb s 64) (leb 1 l && leb l 1024) g), leb-true 1 l (and-left (leb 1 l) (leb l 1024) r), leb-true l 1024 (and-right (leb 1 l) (leb l 1024) r))
+length-fits : (l : ℕ) → lengthFits l ≡ true → (1 ≤ l) × (l ≤ 1024)
+length-fits l r = (leb-true 1 l (and-left (leb 1 l) (leb l 1024) r), leb-true l 1024 (and-right (leb 1 l) (leb l 1024) r))
 
 pub held-ready : (st : State) (k : ℕ) → sound st ≡ true → k < 64 → held st k ≡ true → Ready st k
 held-ready st k e l h =
-    let p : not (held st k) || (entryFits (slotAt st k) (getD (st .lengths) k 0) && not (usedBelow st k (slotAt st k))) ≡ true = place-ok st k e l in
+    let p : not (held st k) || (lengthFits (getD (st .lengths) k 0) && not (usedBelow st k (slotAt st k))) ≡ true = place-ok st k e l in
     let f = rw h at p in
-    let r = entry-fits (slotAt st k) (getD (st .lengths) k 0) (and-left (entryFits (slotAt st k) (getD (st .lengths) k 0)) (not (usedBelow st k (slotAt st k))) f) in
+    let r = length-fits (getD (st .lengths) k 0) (and-left (lengthFits (getD (st .lengths) k 0)) (not (usedBelow st k (slotAt st k))) f) in
     record {
-      slot = r .0;
-      least = r .1;
-      most = r .2;
-      once = negated (usedBelow st k (slotAt st k)) (and-right (entryFits (slotAt st k) (getD (st .lengths) k 0)) (not (usedBelow st k (slotAt st k))) f);
+      slot = slot-fits st k (numbers st e) l;
+      least = r .0;
+      most = r .1;
+      once = negated (usedBelow st k (slotAt st k)) (and-right (lengthFits (getD (st .lengths) k 0)) (not (usedBelow st k (slotAt st k))) f);
     }
   where
     negated : (b : Bool) → not b ≡ true → b ≡ false

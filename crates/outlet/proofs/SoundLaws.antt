@@ -7,10 +7,10 @@ use lib.Dec.{eqb, leb, ltb}
 use lib.ListN.{getD}
 use borrow.Author.Tests.{eqb-true, ltb-true, ltb-false, lt-ltb, le-leb}
 use Rattle.outlet.specs.declared.state.State.{State}
-use Rattle.outlet.specs.Places.{held, slotAt, entryFits, usedBelow, placeOk, allUpto, channelOk, numbersOk, sound}
+use Rattle.outlet.specs.Places.{held, slotAt, lengthFits, usedBelow, placeOk, allUpto, channelOk, slotOk, numbersOk, sound}
 use Rattle.outlet.specs.Laws.{SoundState}
 use Rattle.outlet.proofs.Upto.{and-left, and-right, upto-all}
-use Rattle.outlet.proofs.PlaceLaws.{numbers, head-fits, count-fits, next-fits, Ready, held-ready}
+use Rattle.outlet.proofs.PlaceLaws.{numbers, head-fits, count-fits, next-fits, slot-fits, Ready, held-ready}
 use Rattle.outlet.proofs.FreeLaws.{used-at}
 
 -- of two held places with one slot neither comes first
@@ -37,10 +37,10 @@ used-from st (suc n) s e = go (held st n) refl (eqb s (slotAt st n)) refl e (λ 
 pub sound-says : (st : State) → sound st ≡ true → SoundState st
 sound-says st s =
     record {
-      starts = λ c h. head-fits st c (numbers st s) h;
+      starts = λ c h. let g = head-fits st c (numbers st s) h in omega arith;
       counts = λ c h. count-fits st c (numbers st s) h;
-      next = next-fits st s;
-      slots = λ k l h. held-ready st k s l h .slot;
+      next = let g = next-fits st s in omega arith;
+      slots = λ k l. slot-fits st k (numbers st s) l;
       lengths = λ k l h. let r = held-ready st k s l h in (r .least, r .most);
       once = λ j k x y a b e. same j k (λ h. earlier st j k s y a b e h) (λ h. earlier st k j s x b a (sym e) h);
     }
@@ -58,7 +58,7 @@ sound-says st s =
 
 pub says-sound : (st : State) → SoundState st → sound st ≡ true
 says-sound st p =
-    rw (upto-all (channelOk st) 8 channel, lt-ltb (st .next) 8 (p .next), upto-all (placeOk st) 64 place)
+    rw (upto-all (channelOk st) 8 channel, lt-ltb (st .next) 8 (let g = p .next in omega arith), upto-all (slotOk st) 64 (λ k l. lt-ltb (slotAt st k) 64 (p .slots k l)), upto-all (placeOk st) 64 place)
   where
     channel : (c : ℕ) → c < 8 → channelOk st c ≡ true
     channel c h =
@@ -72,8 +72,8 @@ says-sound st p =
         unused h true z = let w = used-from st k (slotAt st k) z in let e = p .once (w .0) k (omega (arith, w .1)) l (w .2) h (sym (w .3)) in absurd (omega (arith, w .1, e))
         unused h false z = refl
 
-        go : (b : Bool) → held st k ≡ b → not b || (entryFits (slotAt st k) (getD (st .lengths) k 0) && not (usedBelow st k (slotAt st k))) ≡ true
+        go : (b : Bool) → held st k ≡ b → not b || (lengthFits (getD (st .lengths) k 0) && not (usedBelow st k (slotAt st k))) ≡ true
         go false z = refl
         go true z =
             let f = p .lengths k l z in
-            rw (lt-ltb (slotAt st k) 64 (p .slots k l z), le-leb 1 (getD (st .lengths) k 0) (f .0), le-leb (getD (st .lengths) k 0) 1024 (f .1), unused z (usedBelow st k (slotAt st k)) refl)
+            rw (le-leb 1 (getD (st .lengths) k 0) (f .0), le-leb (getD (st .lengths) k 0) 1024 (f .1), unused z (usedBelow st k (slotAt st k)) refl)

@@ -123,14 +123,14 @@ pub record InTurn (m : List ℕ) (before : List Call) (c : ℕ) (p : List ℕ) :
   pub rest : List (List ℕ)
   pub head : waiting c before (answersOf m before) ≡ p ∷ rest
 
--- 64's cases of a state, in other words than `sound`'s: "over eight held, a held length outside 1 to 1,024, a slot held twice or a number out of range"
+-- 64's cases of a state, in other words than `sound`'s; every slot is in range, held or not: "over eight held, a held length outside 1 to 1,024, a slot held twice or a number out of range"
 pub record SoundState (st : State) : Type 0 where
-  pub starts : (c : ℕ) → c < channels → getD (st .heads) c 0 < maxHeld
-  pub counts : (c : ℕ) → c < channels → getD (st .counts) c 0 ≤ maxHeld
-  pub next : st .next < channels
-  pub slots : (k : ℕ) → k < slotCount → held st k ≡ true → slotAt st k < slotCount
-  pub lengths : (k : ℕ) → k < slotCount → held st k ≡ true → (1 ≤ getD (st .lengths) k 0) × (getD (st .lengths) k 0 ≤ slotSize)
-  pub once : (j k : ℕ) → j < slotCount → k < slotCount → held st j ≡ true → held st k ≡ true → slotAt st j ≡ slotAt st k → j ≡ k
+  pub starts : (c : ℕ) → c < 8 → getD (st .heads) c 0 ≤ 7
+  pub counts : (c : ℕ) → c < 8 → getD (st .counts) c 0 ≤ 8
+  pub next : st .next ≤ 7
+  pub slots : (k : ℕ) → k < 64 → slotAt st k < 64
+  pub lengths : (k : ℕ) → k < 64 → held st k ≡ true → (1 ≤ getD (st .lengths) k 0) × (getD (st .lengths) k 0 ≤ 1024)
+  pub once : (j k : ℕ) → j < 64 → k < 64 → held st j ≡ true → held st k ≡ true → slotAt st j ≡ slotAt st k → j ≡ k
 
 -- "63 nothing waits": no channel has a packet left
 abbrev pub NothingWaits : (m : List ℕ) (before : List Call) → Type 0

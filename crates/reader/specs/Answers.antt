@@ -4,10 +4,9 @@ use Prim.Native.Nat.{ℕ, _+_}
 use Rattle.wire.specs.declared.refusal.Refusal.{Refusal}
 use Rattle.wire.specs.Bits.{overwrite}
 use Rattle.wire.specs.Layout.{Layout}
-use Rattle.wire.specs.Result.{Result, refused, accepted, noRefusal}
+use Rattle.wire.specs.Result.{Result, refused, accepted, noRefusal, Passed}
 use Rattle.wire.specs.Cells.{listOf}
 use Rattle.wire.specs.Packet.{headerSize, runAt, lengthField, ancCount, headerChecks, paddingChecks, payloadChecks}
-use Rattle.wire.proofs.ResultLaws.{Passed}
 use Rattle.tolerant.specs.Tolerant.{Tolerated}
 use Rattle.rtp.specs.Answers.{summaryOf}
 use Rattle.rtp.specs.declared.packet.Read.{Read}

@@ -13,17 +13,17 @@ use Rattle.wire.specs.declared.refusal.Refusal.{Refusal}
 use Rattle.wire.specs.declared.count.OctetCount.{OctetCount}
 use Rattle.wire.specs.declared.written.Written.the-variants as written
 use Rattle.wire.specs.Bits.{Below, overwrite}
-use Rattle.wire.specs.Layout.{Layout}
-use Rattle.wire.specs.Result.{Result, refused, accepted}
+use Rattle.wire.specs.Layout.{Layout, draft2015}
+use Rattle.wire.specs.Result.{Result, refused, accepted, Numbered}
 use Rattle.wire.specs.Anc.{Record}
 use Rattle.wire.specs.Cells.{listOf, Lists}
-use Rattle.wire.specs.Packet.{Packet, BareOctets, Content, content}
+use Rattle.wire.specs.Packet.{Packet, BareOctets, paddingFlag, hasExtension, sourceCount, Content, content}
 use Rattle.wire.specs.Writing.{withRecords}
-use Rattle.wire.proofs.ResultLaws.{Numbered, accepted-inj, judge-accepts, then-accepts}
+use Rattle.wire.proofs.ResultLaws.{accepted-inj, judge-accepts, then-accepts}
 use Rattle.wire.proofs.PacketLaws.{not-eqb}
-use Rattle.tolerant.specs.Tolerant.{Tolerated, tolerateContent, tolerateInto}
+use Rattle.wire.proofs.Demand2.{bare-draft}
+use Rattle.tolerant.specs.Tolerant.{isNot11, Tolerated, tolerateContent, tolerateInto}
 use Rattle.tolerant.specs.Received.{Received, throughOf, leftOutOf}
-use Rattle.tolerant.proofs.StrictLaws.{isNot11}
 use Rattle.tolerant.proofs.PacketLaws as laws
 use Rattle.tolerant.proofs.ThroughLaws.{comes-through}
 use Rattle.rtp.specs.Answers.{summaryOf, readOf}
@@ -42,15 +42,15 @@ use Rattle.reader_laws.specs.Through.{Through}
 
 module _ (L : Layout) (s lent : List ℕ) where
   -- a packet that was returned was read: what it says, how many were left out, and that its records fit
-  record Taken (m : Summary) (n : ℕ) : Type 0 where
-    all : Tolerated
-    into : tolerateInto L s (length lent) ≡ accepted all
-    reads : tolerateContent L s ≡ accepted all
-    summary : summaryOf (all .says) ≡ m
-    leftOut : all .leftOut ≡ n
-    fits : length (listOf (all .says .records)) ≤ length lent
+  pub record Taken (m : Summary) (n : ℕ) : Type 0 where
+    pub all : Tolerated
+    pub into : tolerateInto L s (length lent) ≡ accepted all
+    pub reads : tolerateContent L s ≡ accepted all
+    pub summary : summaryOf (all .says) ≡ m
+    pub leftOut : all .leftOut ≡ n
+    pub fits : length (listOf (all .says .records)) ≤ length lent
 
-  taken : (m : Summary) (n : ℕ) → tolerantReturns L s lent ≡ read.Packet m n → Taken m n
+  pub taken : (m : Summary) (n : ℕ) → tolerantReturns L s lent ≡ read.Packet m n → Taken m n
   unfolding tolerateInto
   taken m n e = go (tolerateInto L s (length lent)) refl e
     where
@@ -157,3 +157,13 @@ rewritten-iff L s below lent m e out n w =
     let same : tolerantLeaves L s lent ≡ readLeaves L s lent = none-leaves L s lent m r in
     let i = packetizer.rewritten-iff L s below lent m r out n (subst (λ (x : List ℕ). writeReturns L (m .head) (take (m .cells) x) out ≡ written.Octets n) same w) in
     subst (λ (x : List ℕ). (take (n .0) (writeLeaves L (m .head) (take (m .cells) x) out) ≡ s) ↔ BareOctets L s) (sym same) i
+
+-- "Demand 2 holds for each by itself, without reserved bits in the old one" (02, K3): the same in the drafts' layout
+pub rewritten-draft-iff : (s : List ℕ) → Below 256 s → (lent : List ℕ) (m : Summary) → tolerantReturns draft2015 s lent ≡ read.Packet m 0
+    → (out : List ℕ) (n : OctetCount) → writeReturns draft2015 (m .head) (take (m .cells) (tolerantLeaves draft2015 s lent)) out ≡ written.Octets n
+    → (take (n .0) (writeLeaves draft2015 (m .head) (take (m .cells) (tolerantLeaves draft2015 s lent)) out) ≡ s)
+    ↔ ((paddingFlag s ≡ 0) × (hasExtension s ≡ 0) × (sourceCount s ≡ 0))
+rewritten-draft-iff s below lent m e out n w =
+    let i = rewritten-iff draft2015 s below lent m e out n w in
+    let b = bare-draft s in
+    (λ x. b .0 (i .0 x), λ x. i .1 (b .1 x))

@@ -1,1 +1,1 @@
-// Demand 2 of the reader in the tolerant way (02, K9), of what its entry point takes and returns. In specs/ and proofs/: no code.
+// Of what the entry points of reader and writer take and return: demand 2 in the tolerant way (02, K9), refusals, lent memory. In specs/ and proofs/: no code.

@@ -36,6 +36,14 @@ bHeader =
       words = record { 0 = 2 };
     }
 
+-- "0x7FF no specific line, 0x7FE any line from the second after the switching line to the last before active video, 0x7FD too large for 11 bits.
+-- Offsets: 0xFFF none, 0xFFE in horizontal ancillary space, 0xFFD between SAV and EAV, 0xFFC too large for 12 bits. .. all other numbers are plain."
+pub places : (lineOf 0x7FF ≡ line.Unspecified) × (lineOf 0x7FE ≡ line.Vertical) × (lineOf 0x7FD ≡ line.TooLarge) × (lineOf 0x7FC ≡ line.Number 0x7FC)
+    × (lineOf 0 ≡ line.Number 0) × (offsetOf 0xFFF ≡ offset.Unspecified) × (offsetOf 0xFFE ≡ offset.Horizontal) × (offsetOf 0xFFD ≡ offset.SavToEav)
+    × (offsetOf 0xFFC ≡ offset.TooLarge) × (offsetOf 0xFFB ≡ offset.Number 0xFFB) × (offsetOf 0 ≡ offset.Number 0)
+unfolding lineOf offsetOf
+places = (refl, refl, refl, refl, refl, refl, refl, refl, refl, refl, refl)
+
 -- A starts at cell 0 and B at cell 9; none starts at 10, nor behind the last cell
 pub headers : (headerAt (listOf (a ∷ b ∷ [])) 0 ≡ accepted aHeader) × (headerAt (listOf (a ∷ b ∷ [])) 9 ≡ accepted bHeader)
     × (headerAt (listOf (a ∷ b ∷ [])) 10 ≡ refuse 20 0) × (headerAt (listOf (a ∷ b ∷ [])) 99 ≡ refuse 20 0)

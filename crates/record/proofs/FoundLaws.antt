@@ -18,17 +18,9 @@ use Rattle.record.specs.declared.header.Found.the-variants as found
 use Rattle.record.specs.declared.check.Front.{Front}
 use Rattle.record.specs.declared.check.Front.the-variants as front
 use Rattle.record.specs.Answers.{frontOf, foundOf}
-use Rattle.record.specs.Header.{headerOf, recordOf, headerCells, headerAt}
+use Rattle.record.specs.Header.{headerOf, recordOf, headerCells, headerAt, StandsAt}
 use Rattle.record.proofs.HeaderLaws.{header-record, header-cells}
 use Rattle.record.proofs.FrontLaws.{lies, taken, malformed}
-
--- the cells of the record `r`, whose numbers are in range, stand from the cell `at` on, with others behind them
-pub record StandsAt (l : List ℕ) (at : ℕ) (r : Record) : Type 0 where
-  pub formed : InRange rfc8331 r
-  pub index : ℕ
-  pub taken : index ≤ maxIndex
-  pub behind : List ℕ
-  pub cells : drop at l ≡ cellsIn index r ++ behind
 
 -- A HEADER is found exactly where such a record's cells stand, and is that record's
 pub header-at-iff : (l : List ℕ) (at : ℕ) (h : Header) → (headerAt l at ≡ accepted h) ↔ ((r : Record) × StandsAt l at r × (headerOf r ≡ h))

@@ -9,22 +9,7 @@ use Rattle.record.specs.declared.location.Line.{Line}
 use Rattle.record.specs.declared.location.Line.the-variants as line
 use Rattle.record.specs.declared.location.Offset.{Offset}
 use Rattle.record.specs.declared.location.Offset.the-variants as offset
-use Rattle.record.specs.Location.{lineOf, lineNumber, offsetOf, offsetNumber}
-
--- a line whose plain number is none of the special ones
-abbrev pub PlainLine : Line → Type 0
-PlainLine (line.Number x) = (x ≡ 0x7FF → ⊥) × (x ≡ 0x7FE → ⊥) × (x ≡ 0x7FD → ⊥)
-PlainLine line.Unspecified = Unit {0}
-PlainLine line.Vertical = Unit {0}
-PlainLine line.TooLarge = Unit {0}
-
--- an offset whose plain number is none of the special ones
-abbrev pub PlainOffset : Offset → Type 0
-PlainOffset (offset.Number x) = (x ≡ 0xFFF → ⊥) × (x ≡ 0xFFE → ⊥) × (x ≡ 0xFFD → ⊥) × (x ≡ 0xFFC → ⊥)
-PlainOffset offset.Unspecified = Unit {0}
-PlainOffset offset.Horizontal = Unit {0}
-PlainOffset offset.SavToEav = Unit {0}
-PlainOffset offset.TooLarge = Unit {0}
+use Rattle.record.specs.Location.{lineOf, lineNumber, PlainLine, offsetOf, offsetNumber, PlainOffset}
 
 -- one special number, whatever the others are
 special : {A : Type 0} (number : A → ℕ) (x n : ℕ) {a b : A} → number a ≡ n → number b ≡ x → number (cond (eqb x n) a b) ≡ x

@@ -1,6 +1,7 @@
 -- The header struct as what stands before a record's words, its record and its cells (01, "Records in a lent list").
-use mathlib.Core.List.{List, [], _∷_}
-use Prim.Native.Nat.{ℕ}
+use mathlib.Core.Path.{_≡_}
+use mathlib.Core.List.{List, [], _∷_, _++_}
+use Prim.Native.Nat.{ℕ, _≤_}
 use lib.Dec.{eqb}
 use lib.ListN.{length, drop}
 use Rattle.record.specs.declared.header.Header.{Header}
@@ -8,8 +9,8 @@ use Rattle.record.specs.Location.{lineOf, lineNumber, offsetOf, offsetNu
 use Rattle.wire.specs.Bits.{bit, Fields}
 use Rattle.wire.specs.Layout.{rfc8331}
 use Rattle.wire.specs.Result.{Result, accepted, judge}
-use Rattle.wire.specs.Anc.{Record, locationFields}
-use Rattle.wire.specs.Cells.{cellRecord, cellChecks}
+use Rattle.wire.specs.Anc.{Record, InRange, locationFields}
+use Rattle.wire.specs.Cells.{cellsIn, maxIndex, cellRecord, cellChecks}
 
 -- what a record says before its words
 abbrev pub headerOf : Record → Header
@@ -51,3 +52,11 @@ headerLocation h = locationFields rfc8331 (recordOf h [])
 -- the header of the record that starts at cell `at` of the list; 20: "list malformed: a cell too large for its field, a record cut"
 unfoldable pub headerAt : List ℕ → ℕ → Result Header
 headerAt l at = judge 0 (cellChecks (drop at l)) (accepted (headerOf (cellRecord (drop at l))))
+
+-- the cells of the record `r`, whose numbers are in range, stand from the cell `at` on, with others behind them
+pub record StandsAt (l : List ℕ) (at : ℕ) (r : Record) : Type 0 where
+  pub formed : InRange rfc8331 r
+  pub index : ℕ
+  pub taken : index ≤ maxIndex
+  pub behind : List ℕ
+  pub cells : drop at l ≡ cellsIn index r ++ behind

@@ -1,4 +1,5 @@
 -- A line or an offset, or the region that its special numbers stand for (RFC 8331, section 2.1; 01, "A record's place").
+use mathlib.Core.Path.{_≡_}
 use mathlib.Core.Bool.{cond}
 use Prim.Native.Nat.{ℕ}
 use lib.Dec.{eqb}
@@ -37,3 +38,18 @@ offsetOf x =
     (cond (eqb x (offsetNumber offset.Horizontal)) offset.Horizontal
     (cond (eqb x (offsetNumber offset.SavToEav)) offset.SavToEav
     (cond (eqb x (offsetNumber offset.TooLarge)) offset.TooLarge (offset.Number x))))
+
+-- a line whose plain number is none of the special ones
+abbrev pub PlainLine : Line → Type 0
+PlainLine (line.Number x) = (x ≡ 0x7FF → ⊥) × (x ≡ 0x7FE → ⊥) × (x ≡ 0x7FD → ⊥)
+PlainLine line.Unspecified = Unit {0}
+PlainLine line.Vertical = Unit {0}
+PlainLine line.TooLarge = Unit {0}
+
+-- an offset whose plain number is none of the special ones
+abbrev pub PlainOffset : Offset → Type 0
+PlainOffset (offset.Number x) = (x ≡ 0xFFF → ⊥) × (x ≡ 0xFFE → ⊥) × (x ≡ 0xFFD → ⊥) × (x ≡ 0xFFC → ⊥)
+PlainOffset offset.Unspecified = Unit {0}
+PlainOffset offset.Horizontal = Unit {0}
+PlainOffset offset.SavToEav = Unit {0}
+PlainOffset offset.TooLarge = Unit {0}

@@ -6,21 +6,23 @@ use mathlib.Core.List.{List, [], _∷_, map}
 use Prim.Native.Nat.{ℕ, _+_, _^_, _≤_}
 use native.Mathlib.Omega.{arith}
 use lib.ListN.{length, take, drop}
-use Rattle.wire.specs.Bits.{Below}
+use Rattle.wire.specs.Bits.{Below, splice}
+use Rattle.wire.specs.Layout.{rfc8331}
 use Rattle.wire.specs.Words.{wordBits}
 use Rattle.wire.specs.Result.{Result, refused, accepted}
-use Rattle.wire.specs.Anc.{Record}
-use Rattle.wire.specs.Cells.{listOf}
+use Rattle.wire.specs.Anc.{Each, Record, WellFormed}
+use Rattle.wire.specs.Cells.{listOf, Lists}
 use Rattle.wire.proofs.CellLaws.{list-iff, lists-length}
 use Rattle.wire.proofs.ResultLaws.{accepted-inj}
 use Rattle.sdi_line.specs.declared.position.Position.{Position}
 use Rattle.sdi_line.specs.declared.answer.ReadLine.{ReadLine}
 use Rattle.sdi_line.specs.declared.answer.ReadLine.the-variants as readLine
 use Rattle.sdi_line.specs.declared.answer.WrittenLine.the-variants as writtenLine
-use Rattle.sdi_line.specs.Packets.{Flagged, placed, stretch}
+use Rattle.sdi_line.specs.Packets.{Flagged, Unprotected, dataWords, placed, stretch}
 use Rattle.sdi_line.specs.Line.{lineAfter, positionOk, readLineInto, writeLine}
 use Rattle.sdi_line.specs.Answers.{ReadAgain, cellsAfter, readOf, writeLeaves, writeReturns, writtenOf}
-use Rattle.sdi_line.proofs.LineIff.{cells-placed, position-iff, stretch-placed, write-iff, written-read}
+use Rattle.sdi_line.proofs.LineIff.{cells-placed, outside-stays, position-iff, stretch-placed, write-iff, written-read}
+use Rattle.sdi_line.proofs.ProtectedLaws.{never-protected}
 
 length-map : (P : Position) (rs : List Record) → length (map (placed P) rs) ≡ length rs
 length-map P [] = refl
@@ -59,3 +61,33 @@ written-read-back line start cells end P lent e ends before behind fits room =
           ∙ (λ i. readLine.Records (length-map P rs i) ((cells-placed P rs ∙ sym (lists-length rs cells lists)) i) ((ap (λ (x : List ℕ). start + length x) (stretch-placed P rs) ∙ ap (λ (k : ℕ). start + k) long ∙ w .2) i));
       leaves = ap (λ (x : Result (List Record)). cellsAfter x lent) after;
     }
+
+-- "Prove that after K5 no word from DID to checksum is a protected one", of the line that `write` leaves: its stretch is the packets of the list's records, one touching
+-- the other, and none of their words from DID to checksum is protected
+pub record Clear (line : List ℕ) (start : ℕ) (cells : List ℕ) (end : ℕ) : Type 0 where
+  pub records : List Record
+  pub lists : Lists records cells
+  pub words : take (length (stretch records)) (drop start (writeLeaves line start cells)) ≡ stretch records
+  pub ends : end ≡ start + length (stretch records)
+  pub clear : Each (λ (r : Record). Each Unprotected (dataWords r)) records
+
+pub written-clear : (line : List ℕ) (start : ℕ) (cells : List ℕ) (end : ℕ) → writeReturns line start cells ≡ writtenLine.End end → Clear line start cells end
+written-clear line start cells end e =
+    let w = ended start end (writeLine line start cells) e in
+    let o = w .0 in
+    let p = write-iff line start cells o .0 (w .1) in
+    let rs = p .2 .0 in
+    let same = p .2 .3 in
+    let out = outside-stays line start o (p .1) in
+    let after : writeLeaves line start cells ≡ splice line start o = ap (λ (x : Result (List ℕ)). lineAfter x line start) (w .1) in
+    record {
+      records = rs;
+      lists = p .2 .2;
+      words = ap (λ (x : List ℕ). take (length (stretch rs)) (drop start x)) after ∙ ap (λ (x : List ℕ). take (length x) (drop start (splice line start o))) same ∙ out .stretch ∙ sym same;
+      ends = sym (w .2) ∙ ap (λ (x : List ℕ). start + length x) (sym same);
+      clear = all rs (p .2 .1);
+    }
+  where
+    all : (rs : List Record) → Each (WellFormed rfc8331) rs → Each (λ (r : Record). Each Unprotected (dataWords r)) rs
+    all [] f = tt
+    all (r ∷ rs) f = (never-protected rfc8331 r (f .0), all rs (f .1))

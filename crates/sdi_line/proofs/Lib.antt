@@ -6,3 +6,4 @@ pub mod EntryLaws
 pub mod CodeLaws
 pub mod WalkLaws
 pub mod Examples
+pub mod Refusals

@@ -2,3 +2,4 @@ pub mod Packets
 pub mod Line
 pub mod Answers
 pub mod Passes
+pub mod Refuses

@@ -20,7 +20,7 @@ use Rattle.sdp.proofs.GatherIff.{Adds, gather-adds, adds-gather}
 use Rattle.sdp.proofs.TextIff.{items-text, text-items, texts-formed}
 
 -- pairs have two octets each
-pairs-even : (xs : List Item) → length (pairsOf xs) % 2 ≡ 0
+pub pairs-even : (xs : List Item) → length (pairsOf xs) % 2 ≡ 0
 pairs-even [] = refl
 pairs-even (DidSdid did sdid ∷ xs) = let h = pairs-even xs in omega arith
 pairs-even (VpidCode code ∷ xs) = pairs-even xs

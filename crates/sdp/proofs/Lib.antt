@@ -6,4 +6,7 @@ pub mod ItemIff
 pub mod TextIff
 pub mod Acceptance
 pub mod RoundTrip
+pub mod CutTexts
+pub mod Refusals
+pub mod Classes
 pub mod Examples

@@ -50,7 +50,7 @@ spaces-of (a ∷ s) = go (spaces-of s) (eqb a space) refl
         }
     go r false e = record { count = 0; text = sym (ap (λ (t : Bool). cond t (skipSpaces s) (a ∷ s)) e) }
 
-cut-text : (s : List ℕ) → length (front s) < length s → (n : ℕ) × (s ≡ front s ++ (semicolon ∷ (replicate n space ++ next s)))
+pub cut-text : (s : List ℕ) → length (front s) < length s → (n : ℕ) × (s ≡ front s ++ (semicolon ∷ (replicate n space ++ next s)))
 unfolding next
 cut-text s h =
     let n = length (front s) in
@@ -62,7 +62,7 @@ cut-text s h =
     )
 
 -- READ, SO A TEXT
-last-text : (s : List ℕ) → length s ≤ length (front s) → front s ≡ s
+pub last-text : (s : List ℕ) → length s ≤ length (front s) → front s ≡ s
 last-text s h = sym (front-take s) ∙ take-all (length (front s)) s h
 
 left-text : (xs : List Item) (s : List ℕ) → left true s ≡ xs → Each Formed xs → ItemsText xs s
@@ -96,7 +96,7 @@ items-text (a ∷ s) xs e f = left-text xs (a ∷ s) e f
 
 -- A TEXT, SO READ
 -- octets that are no `;`
-abbrev Plain : List ℕ → Type 0
+abbrev pub Plain : List ℕ → Type 0
 Plain s = Each (λ (o : ℕ). eqb o semicolon ≡ false) s
 
 plain-each : (P : ℕ → Type 0) → (P semicolon → ⊥) → (s : List ℕ) → Each P s → Plain s
@@ -183,22 +183,22 @@ unfolding skipSpaces
 skip-spaces zero s h = skip-self s h
 skip-spaces (suc n) s h = skip-spaces n s h
 
-front-self : (s : List ℕ) → Plain s → front s ≡ s
+pub front-self : (s : List ℕ) → Plain s → front s ≡ s
 unfolding front
 front-self [] h = refl
 front-self (a ∷ s) h = rw (h .0) (ap (λ (x : List ℕ). a ∷ x) (front-self s (h .1)))
 
-fronts-self : (s : List ℕ) → Plain s → fronts s ≡ []
+pub fronts-self : (s : List ℕ) → Plain s → fronts s ≡ []
 unfolding fronts
 fronts-self [] h = refl
 fronts-self (a ∷ s) h = rw (h .0) (fronts-self s (h .1))
 
-front-cut : (s r : List ℕ) → Plain s → front (s ++ (semicolon ∷ r)) ≡ s
+pub front-cut : (s r : List ℕ) → Plain s → front (s ++ (semicolon ∷ r)) ≡ s
 unfolding front
 front-cut [] r h = refl
 front-cut (a ∷ s) r h = rw (h .0) (ap (λ (x : List ℕ). a ∷ x) (front-cut s r (h .1)))
 
-fronts-cut : (s r : List ℕ) → Plain s → fronts (s ++ (semicolon ∷ r)) ≡ front (skipSpaces r) ∷ fronts r
+pub fronts-cut : (s r : List ℕ) → Plain s → fronts (s ++ (semicolon ∷ r)) ≡ front (skipSpaces r) ∷ fronts r
 unfolding fronts
 fronts-cut [] r h = refl
 fronts-cut (a ∷ s) r h = rw (h .0) (fronts-cut s r (h .1))

@@ -9,13 +9,13 @@ use Rattle.wire.specs.Bits.{toBits, num, bits, octets, bitsAt, rowAt, fieldBits
 use Rattle.wire.specs.Words.{headerWord, checksumWord}
 use Rattle.wire.specs.Layout.{Layout, rfc8331, draft2015}
 use Rattle.wire.specs.Result.{accepted}
-use Rattle.wire.specs.Anc.{Record, Each, ancSize, ancRecord, headersOk, rOk, wordsOk, checksumOk, alignmentOk, ancChecks, readAnc, readRun}
+use Rattle.wire.specs.Anc.{Record, ancSize, ancRecord, headersOk, rOk, wordsOk, checksumOk, alignmentOk, ancChecks, readAnc, readRun}
 use Rattle.wire.specs.Packet.{Content, packetOctets, packetRead, headerChecks, paddingChecks, payloadChecks, readRecords, readPacket, readContent}
 use Rattle.wire.specs.Writing.{contentOctets}
 use Rattle.wire.proofs.Examples.{a}
 use Rattle.wire.proofs.DraftExamples.{plainB}
-use Rattle.stream.specs.Step.{admit, step}
-use Rattle.stream.specs.Stream.{Part, Stream, contentAt, nth, Fits, WellFormedStream, Handed, asSent}
+use Rattle.stream.specs.Step.{step}
+use Rattle.stream.specs.Stream.{Part, Stream, contentAt, nth, Handed}
 use Rattle.stream.specs.Delivery.{SameFields, Leads, Delivery, delivered, AllAlike}
 use Rattle.stream.proofs.DeliveryLaws.{delivered-whole, cut-alike}
 
@@ -41,12 +41,12 @@ three =
       fields = record { timestamp = 9; f = 0; first = part draft2015 (saying 2 100 0 0xFFFFFFFF (a ∷ [])); rest = part draft2015 (saying 2 100 0 0 []) ∷ part draft2015 (saying 2 100 1 1 (plainB ∷ [])) ∷ [] } ∷ [];
     }
 
-pub one-accepts : (i : ℕ) → i < 1 → admit rfc8331 1 112 (nth one i .part .octets) ≡ accepted (contentAt one i (nth one i))
+pub one-accepts : (i : ℕ) → i < 1 → readContent rfc8331 (nth one i .part .octets) ≡ accepted (contentAt one i (nth one i))
 unfolding toBits num bits octets fieldBits bitsAt rowAt headerWord checksumWord ancSize ancRecord headersOk rOk wordsOk checksumOk alignmentOk ancChecks readAnc readRun packetOctets packetRead headerChecks paddingChecks payloadChecks readRecords readPacket readContent
 one-accepts zero h = refl
 one-accepts (suc i) h = absurd (omega arith)
 
-pub three-accepts : (i : ℕ) → i < 3 → admit draft2015 2 100 (nth three i .part .octets) ≡ accepted (contentAt three i (nth three i))
+pub three-accepts : (i : ℕ) → i < 3 → readContent draft2015 (nth three i .part .octets) ≡ accepted (contentAt three i (nth three i))
 unfolding toBits num bits octets fieldBits bitsAt rowAt headerWord checksumWord ancSize ancRecord headersOk rOk wordsOk checksumOk alignmentOk ancChecks readAnc readRun packetOctets packetRead headerChecks paddingChecks payloadChecks readRecords readPacket readContent
 three-accepts zero h = refl
 three-accepts (suc zero) h = refl
@@ -56,11 +56,11 @@ three-accepts (suc (suc (suc i))) h = absurd (omega arith)
 -- the marked packets before them: an empty one, and one with a record
 pub one-leads : Leads one (contentOctets rfc8331 (saying 1 112 1 4 []))
 unfolding toBits num bits octets fieldBits bitsAt rowAt headerWord checksumWord ancSize ancRecord headersOk rOk wordsOk checksumOk alignmentOk ancChecks readAnc readRun packetOctets packetRead headerChecks paddingChecks payloadChecks readRecords readPacket readContent
-one-leads = record { says = saying 1 112 1 4 []; accepts = refl; marked = refl; number = refl }
+one-leads = record { says = saying 1 112 1 4 []; accepts = refl; source = refl; type = refl; marked = refl; number = refl }
 
 pub three-leads : Leads three (contentOctets draft2015 (saying 2 100 1 0xFFFFFFFE (a ∷ [])))
 unfolding toBits num bits octets fieldBits bitsAt rowAt headerWord checksumWord ancSize ancRecord headersOk rOk wordsOk checksumOk alignmentOk ancChecks readAnc readRun packetOctets packetRead headerChecks paddingChecks payloadChecks readRecords readPacket readContent
-three-leads = record { says = saying 2 100 1 0xFFFFFFFE (a ∷ []); accepts = refl; marked = refl; number = refl }
+three-leads = record { says = saying 2 100 1 0xFFFFFFFE (a ∷ []); accepts = refl; source = refl; type = refl; marked = refl; number = refl }
 
 -- stores of 20 cells, just enough, and of 22
 abbrev pub one-delivery : Delivery one

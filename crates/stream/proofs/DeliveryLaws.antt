@@ -1,26 +1,25 @@
 -- A stream delivered entirely, in order, is handed out entirely; so two that are cut differently hand out the same, apart from the index.
 -- By recursion on the packets delivered: each finds the parts before it gathered.
 use mathlib.Core.Path.{_≡_, refl, _∙_, ap, ap₂, sym, subst}
-use mathlib.Core.Bool.{Bool, true, false, cond, true≢false}
+use mathlib.Core.Bool.{Bool, true, false, true≢false}
 use mathlib.Core.List.{List, [], _∷_, _++_, append-assoc, append-nil}
 use Prim.Native.Nat.{ℕ, zero, suc, _+_, _-_, _^_, _%_, _≤_, _<_}
 use native.Mathlib.Omega.{arith}
 use native.Mathlib.Nat.{add-zero, zero-add, not-suc-le-zero}
 use native.Mathlib.Numerals.{add-one}
-use lib.Dec.{eqb, leb}
+use lib.Dec.{eqb}
 use lib.ListN.{length, drop, length-append}
 use borrow.Author.Tests.{le-leb}
-use Rattle.wire.specs.Result.{accepted}
 use Rattle.wire.specs.Anc.{Record, Each}
 use Rattle.wire.specs.Cells.{listIn, listOf, Lists}
 use Rattle.wire.specs.Packet.{Content}
 use Rattle.wire.specs.Writing.{maxFieldPackets}
 use Rattle.wire.proofs.CellLaws.{lists-in, lists-append, lists-length}
-use Rattle.stream.specs.declared.state.State.{State}
 use Rattle.stream.specs.declared.state.Answer.the-variants as answer
-use Rattle.stream.specs.Step.{Gathered, lost, ready, filling, gathered, gatheredRecords, gatheredCells, gatheredPackets, Gather, follow, carried, dropped, after, appended, Step, freshStep, packetStep, classStep, classify, distance, admit, admittedStep, sound, step, openState}
-use Rattle.stream.specs.Stream.{Part, Field, parts, recordCount, cellsFrom, joinedCells, Sent, isLast, sent, sentOf, Stream, contentAt, Within, Fits, WellFormedStream, other, packet, Call, Calls, none, _before_, Run, storeFor, done, callStep, run, octetsOf, Handed, asSent, onlyIf}
+use Rattle.stream.specs.Step.{Gathered, lost, ready, gathered, gatheredRecords, gatheredCells, gatheredPackets, Gather, follow, carried, dropped, after, appended, freshStep, packetStep, classStep, classify, distance, admit, admittedStep, sound, openState}
+use Rattle.stream.specs.Stream.{Part, Field, parts, recordCount, cellsFrom, joinedCells, Sent, isLast, sent, sentOf, Stream, contentAt, Within, Fits, WellFormedStream, other, packet, Call, none, _before_, Run, done, callStep, run, Handed, asSent, onlyIf}
 use Rattle.stream.specs.Delivery.{joined, SameFields, Leads, inOrder, Delivery, delivered, allAsSent, DeliveredWhole, Alike, AllAlike, CutAlike}
+use Rattle.stream.proofs.NumberLaws.{admit-own}
 use Rattle.stream.proofs.DistanceLaws.{distance-ahead}
 use Rattle.stream.proofs.WalkLaws.{packetAt, at-drop, length-sent}
 use Rattle.stream.proofs.PlaceLaws.{upTo, entering, leaving, Holds, part-at, field-at, followed-at, followed-holds}
@@ -119,7 +118,7 @@ module _ (s : Stream) (i : ℕ) (r : Run) (offered : List ℕ) (w : WellFormedSt
   steps =
       sound-step (r .state) (s .layout) (x .part .octets) store passes
       ∙ ap₂ (λ (source type : ℕ). admittedStep (r .state) (admit (s .layout) source type (x .part .octets)) store) (v .source) (v .type)
-      ∙ ap (λ (q : _). admittedStep (r .state) q store) (w .accepts i b)
+      ∙ ap (λ (q : _). admittedStep (r .state) q store) (admit-own (s .layout) (s .source) (s .type) _ _ (w .accepts i b) refl refl)
       ∙ follows
 
   joins : Joined (s .fields) x z (appended (z .append) (entering x) k store)
@@ -149,7 +148,7 @@ delivering-first s o offered h = rw steps (go (carried (h .says) .marked) (ap (�
     steps : callStep s (run s none) (record { arriving = other (s .layout) o; store = offered }) ≡ freshStep (openState (s .source) (s .type)) lost 0 (h .says) offered
     steps =
         sound-step (openState (s .source) (s .type)) (s .layout) o offered (rw (le-leb 0 (length offered) (omega arith)))
-        ∙ ap (λ (q : _). admittedStep (openState (s .source) (s .type)) q offered) (h .accepts)
+        ∙ ap (λ (q : _). admittedStep (openState (s .source) (s .type)) q offered) (admit-own (s .layout) (s .source) (s .type) o (h .says) (h .accepts) (h .source) (h .type))
 
     go : (b : Bool) → b ≡ true
         → Delivering s 0 (record { state = after (openState (s .source) (s .type)) (h .says .number) (dropped answer.Skipped b .gathered) 0; store = offered; handed = [] })
@@ -210,14 +209,14 @@ records-joined [] = refl
 records-joined (p ∷ ps) = rw (length-append (p .records) (joined ps), records-joined ps)
 
 -- the cells of parts are those of their records, apart from the index
-cells-joined : (k : ℕ) (ps : List Part) → k + length ps ≤ maxFieldPackets → Lists (joined ps) (cellsFrom k ps)
+pub cells-joined : (k : ℕ) (ps : List Part) → k + length ps ≤ maxFieldPackets → Lists (joined ps) (cellsFrom k ps)
 cells-joined k [] h = refl
 cells-joined k (p ∷ ps) h =
     lists-append (p .records) (joined ps) (listIn k (p .records)) (cellsFrom (suc k) ps) (lists-in k (omega arith) (p .records))
     (cells-joined (suc k) ps (omega arith))
 
 -- a field as sent is its joined records, apart from the index
-field-said : (x : Field) → Within x → Lists (joined (parts x)) (joinedCells (parts x))
+pub field-said : (x : Field) → Within x → Lists (joined (parts x)) (joinedCells (parts x))
 field-said x w = cells-joined 0 (parts x) (omega (arith, w .2))
 
 cells-said : (x : Field) → Within x → length (joinedCells (parts x)) ≡ length (listOf (joined (parts x)))

@@ -18,7 +18,7 @@ use Rattle.stream.specs.declared.state.Answer.the-variants as answer
 use Rattle.stream.specs.Step.{Step, packetStep, admit, admittedStep, openOf}
 use Rattle.stream.specs.Stream.{sent, Stream, contentAt, Fits, WellFormedStream, Arriving, other, packet, OfStream, Call, Calls, none, _before_, Proper, Handed, Run, octetsOf, layoutOf, done, callStep, runFrom, openRun, run, listed, arrived, listedFresh, fresh, span, NearLast, Near, Demand3After, Demand3}
 use Rattle.stream.proofs.WalkLaws.{packetAt, handedBefore, handed-idle, handed-all}
-use Rattle.stream.proofs.NumberLaws.{admit-numbered}
+use Rattle.stream.proofs.NumberLaws.{admit-numbered, admit-own, admit-foreign}
 use Rattle.stream.proofs.StepLaws.{sound-step, admitted-not-35}
 use Rattle.stream.proofs.RunInvariant.{top, Counted, Invariant, invariant-open, storeIn, invariant-refused, late-step, invariant-late, sound-run}
 use Rattle.stream.proofs.FreshLaws.{invariant-fresh}
@@ -56,8 +56,9 @@ invariant-admitted : {earlier : List Handed} (s : Stream) (js l : List ℕ) (r :
     → OfStream s a
     → Each (Fits offered) (s .fields) → Invariant s earlier js l r
     → Invariant s earlier (listed a js) (listedFresh a js l) (done r (admittedStep (r .state) (reading s a) (storeIn r offered)))
-invariant-admitted s js l r (other L o) offered near w h e v = rw (h .1) (invariant-refused s js l r offered (h .0) e v)
-invariant-admitted s js l r (packet i) offered near w h e v = rw (w .accepts i h) (invariant-packet s js l r i offered near w h e v)
+invariant-admitted s js l r (other L o) offered near w h e v =
+    let f = admit-foreign L (s .source) (s .type) o h in rw (f .1) (invariant-refused s js l r offered (f .0) e v)
+invariant-admitted s js l r (packet i) offered near w h e v = rw (admit-own (s .layout) (s .source) (s .type) _ _ (w .accepts i h) refl refl) (invariant-packet s js l r i offered near w h e v)
 
 -- one call more, from any run
 pub invariant-call : {earlier : List Handed} (s : Stream) (js l : List ℕ) (r : Run) (c : Call) → WellFormedStream s → OfStream s (c .arriving)
@@ -106,16 +107,20 @@ demand3-from s w store earlier cs p near =
 pub demand3 : Demand3
 demand3 s w cs p near = demand3-from s w [] [] cs p near
 
--- in a run no call is refused by 35
-pub never-35 : (s : Stream) → WellFormedStream s → (cs : Calls) (c : Call) → Proper s (cs before c) → Near cs → (x : Refusal)
-    → callStep s (run s cs) c .answer ≡ answer.Refused x → x .number ≡ 35 → ⊥
-never-35 s w cs c p near x e n =
-    let v = invariant-run s [] [] cs w (p .0) near in
-    let q = call-step s (arrived cs) (fresh cs) (run s cs) c w (p .2) v in
-    admitted-not-35 (run s cs .state) (reading s (c .arriving)) (storeIn (run s cs) (c .store)) x
+-- after a run that the invariant holds of no call is refused by 35
+pub never-35-after : (s : Stream) (cs : Calls) (c : Call) (earlier : List Handed) (r : Run) → WellFormedStream s → Each (Fits (c .store)) (s .fields)
+    → Invariant s earlier (arrived cs) (fresh cs) r → (x : Refusal) → callStep s r c .answer ≡ answer.Refused x → x .number ≡ 35 → ⊥
+never-35-after s cs c earlier r w fit v x e n =
+    let q = call-step s (arrived cs) (fresh cs) r c w fit v in
+    admitted-not-35 (r .state) (reading s (c .arriving)) (storeIn r (c .store)) x
     (admit-numbered (layoutOf s (c .arriving)) (s .source) (s .type) (octetsOf s (c .arriving)))
     (sym (ap (λ (z : Step). z .answer) q) ∙ e)
     n
+
+-- in a run no call is refused by 35
+pub never-35 : (s : Stream) → WellFormedStream s → (cs : Calls) (c : Call) → Proper s (cs before c) → Near cs → (x : Refusal)
+    → callStep s (run s cs) c .answer ≡ answer.Refused x → x .number ≡ 35 → ⊥
+never-35 s w cs c p near x e n = never-35-after s cs c [] (run s cs) w (p .2) (invariant-run s [] [] cs w (p .0) near) x e n
 
 -- a run starts with the state that opening gives
 pub opened-is : (s : Stream) → s .type ≤ maxType → openOf (s .source) (s .type) ≡ accepted (run s none .state)

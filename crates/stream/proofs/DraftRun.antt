@@ -2,6 +2,7 @@
 -- second is handed out, and demand 3 of the run. By computation.
 use mathlib.Core.Path.{_≡_, refl}
 use mathlib.Core.List.{List, [], _∷_}
+use mathlib.Core.Logic.{inl}
 use Prim.Native.Nat.{ℕ, zero, suc, _<_}
 use native.Mathlib.Omega.{arith}
 use Rattle.wire.specs.Bits.{toBits, num, bits, bitsAt, rowAt}
@@ -12,7 +13,7 @@ use Rattle.wire.specs.Anc.{ancSize, ancRecord, headersOk, rOk, wordsOk, checksu
 use Rattle.wire.specs.Packet.{packetRead, headerChecks, paddingChecks, payloadChecks, readRecords, readPacket, readContent}
 use Rattle.wire.proofs.Examples.{a}
 use Rattle.wire.proofs.DraftExamples.{aOctets}
-use Rattle.stream.specs.Step.{admit, step}
+use Rattle.stream.specs.Step.{step}
 use Rattle.stream.specs.Stream.{Field, Stream, contentAt, nth, WellFormedStream, other, packet, Calls, none, _before_, Proper, asSent, run, Demand3After}
 use Rattle.stream.proofs.Demand3.{demand3}
 
@@ -30,7 +31,7 @@ field number timestamp =
 abbrev stream : Stream
 stream = record { layout = draft2015; source = 1; type = 112; start = 7; fields = field 7 1 ∷ field 8 2 ∷ [] }
 
-accepts : (i : ℕ) → i < 2 → admit draft2015 1 112 (nth stream i .part .octets) ≡ accepted (contentAt stream i (nth stream i))
+accepts : (i : ℕ) → i < 2 → readContent draft2015 (nth stream i .part .octets) ≡ accepted (contentAt stream i (nth stream i))
 unfolding toBits num bits bitsAt rowAt headerWord checksumWord ancSize ancRecord headersOk rOk wordsOk checksumOk alignmentOk ancChecks readAnc readRun packetRead headerChecks paddingChecks payloadChecks readRecords readPacket readContent
 accepts zero h = refl
 accepts (suc zero) h = refl
@@ -43,7 +44,7 @@ abbrev store : List ℕ
 store = 1 ∷ 2 ∷ 3 ∷ 4 ∷ 5 ∷ 6 ∷ 7 ∷ 8 ∷ 9 ∷ []
 
 -- the octets of a sent packet are refused where the other layout is told
-refuses : admit rfc8331 1 112 (octets 7 1) ≡ refuse 7 0
+refuses : readContent rfc8331 (octets 7 1) ≡ refuse 7 0
 unfolding toBits num bits bitsAt headerChecks paddingChecks payloadChecks readPacket readContent
 refuses = refl
 
@@ -53,7 +54,7 @@ calls =
     before record { arriving = packet 1; store = store }
 
 proper : Proper stream calls
-proper = (((tt, omega arith, omega arith), (_, refuses), omega arith), omega arith, omega arith)
+proper = (((tt, omega arith, omega arith), inl (_, refuses), omega arith), omega arith, omega arith)
 
 pub handed : run stream calls .handed ≡ asSent (field 8 2) ∷ []
 unfolding toBits num bits bitsAt rowAt headerWord checksumWord ancSize ancRecord headersOk rOk wordsOk checksumOk alignmentOk ancChecks readAnc readRun packetRead headerChecks paddingChecks payloadChecks readRecords readPacket readContent step

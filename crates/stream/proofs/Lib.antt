@@ -14,6 +14,8 @@ pub mod RestartExamples
 pub mod RunExamples
 pub mod RunInvariant
 pub mod StepLaws
+pub mod TableLaws
+pub mod MemoryLaws
 pub mod StreamExamples
 pub mod WalkLaws
 pub mod DraftRun

@@ -1,23 +1,24 @@
 -- A restart is a first arrival, and demand 3 holds again from it on (02, K11).
 -- A restarting call leaves what it leaves in a state just opened, but for the store, which nothing reads then.
-use mathlib.Core.Path.{_≡_, refl, _∙_, ap, ap₂, sym, subst}
+use mathlib.Core.Path.{_≡_, _∙_, ap₂, sym, subst}
 use mathlib.Core.Bool.{Bool, true, false}
-use mathlib.Core.List.{List, [], _∷_}
+use mathlib.Core.List.{List, []}
 use Prim.Native.Nat.{ℕ}
 use native.Mathlib.Omega.{arith}
 use lib.ListN.{length}
 use borrow.Author.Tests.{le-leb}
+use Rattle.wire.specs.declared.refusal.Refusal.{Refusal}
 use Rattle.wire.specs.Layout.{Layout}
 use Rattle.wire.specs.Result.{accepted}
 use Rattle.wire.specs.Packet.{Content}
 use Rattle.stream.specs.declared.state.State.{State}
 use Rattle.stream.specs.declared.state.Answer.the-variants as answer
 use Rattle.stream.specs.Step.{Step, step, admit, openState, freshStep, lost, gathered, marked, dropped, after, sound}
-use Rattle.stream.specs.Stream.{Field, Stream, sent, WellFormedStream, Call, Calls, none, _before_, _andThen_, Proper, Near, Run, runFrom, openRun, done, callStep, storeFor, octetsOf, layoutOf, arrived, fresh, Handed, Restarts, RestartOpens, Demand3Again}
+use Rattle.stream.specs.Stream.{Field, Stream, sent, WellFormedStream, Call, Calls, none, _before_, _andThen_, Proper, Near, Run, runFrom, openRun, done, callStep, storeFor, octetsOf, layoutOf, arrived, fresh, Handed, Restarts, RestartsRun, RestartOpens, Demand3Again}
 use Rattle.stream.proofs.PlaceLaws.{Holds}
 use Rattle.stream.proofs.StepLaws.{sound-step}
 use Rattle.stream.proofs.RunInvariant.{Invariant, invariant-open, cellsAfter}
-use Rattle.stream.proofs.Demand3.{invariant-call, demand3-after}
+use Rattle.stream.proofs.Demand3.{invariant-call, demand3-after, never-35-after}
 
 -- a state just opened passes 35, whatever it is lent
 pub open-sound : (source type room : ℕ) → sound (openState source type) room ≡ true
@@ -107,14 +108,25 @@ module _ (s : Stream) (w : WellFormedStream s) (r : Run) (c : Call) (source : r 
       (first-holds (s .fields) (openState (s .source) (s .type)) (h .says) lent lent _)
       v′)
 
-  invariant-again : (cs : Calls) → Proper s (c andThen cs) → Near (c andThen cs)
+  invariant-on : (cs : Calls) → Proper s (c andThen cs) → Near (c andThen cs)
       → Invariant s (r .handed) (arrived (c andThen cs)) (fresh (c andThen cs)) (runFrom r s (c andThen cs))
-  invariant-again none p near = invariant-first p near
-  invariant-again (cs before d) p near =
+  invariant-on none p near = invariant-first p near
+  invariant-on (cs before d) p near =
       invariant-call s (arrived (c andThen cs)) (fresh (c andThen cs)) (runFrom r s (c andThen cs)) d w (p .1) (p .2) (near .1)
-      (invariant-again cs (p .0) (near .0))
+      (invariant-on cs (p .0) (near .0))
+
+pub invariant-again : (s : Stream) → WellFormedStream s → (r : Run) (c : Call) → RestartsRun s r c → (cs : Calls) → Proper s (c andThen cs)
+    → Near (c andThen cs)
+    → Invariant s (r .handed) (arrived (c andThen cs)) (fresh (c andThen cs)) (runFrom r s (c andThen cs))
+invariant-again s w r c h cs p near = invariant-on s w r c (h .source) (h .type) (h .restarts) cs p near
 
 -- demand 3, from the restarting packet on
 pub demand3-again : Demand3Again
 demand3-again s w r c cs source type h p near =
-    demand3-after s (c andThen cs) (runFrom r s (c andThen cs)) (invariant-again s w r c source type h cs p near)
+    demand3-after s (c andThen cs) (runFrom r s (c andThen cs)) (invariant-on s w r c source type h cs p near)
+
+-- in a run that goes on from a restart no call is refused by 35
+pub never-35-again : (s : Stream) → WellFormedStream s → (r : Run) (c : Call) (cs : Calls) (d : Call) → RestartsRun s r c → Proper s (c andThen (cs before d))
+    → Near (c andThen cs) → (x : Refusal) → callStep s (runFrom r s (c andThen cs)) d .answer ≡ answer.Refused x → x .number ≡ 35 → ⊥
+never-35-again s w r c cs d h p near x e n =
+    never-35-after s (c andThen cs) d (r .handed) (runFrom r s (c andThen cs)) w (p .2) (invariant-again s w r c h cs (p .0) near) x e n

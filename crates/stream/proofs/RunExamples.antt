@@ -3,6 +3,7 @@
 use mathlib.Core.Path.{_≡_, refl}
 use mathlib.Core.Bool.{true, false}
 use mathlib.Core.List.{List, [], _∷_, _++_}
+use mathlib.Core.Logic.{inl}
 use Prim.Native.Nat.{ℕ, zero, suc, _<_}
 use native.Mathlib.Omega.{arith}
 use lib.IntN.{pos, negsuc}
@@ -19,7 +20,7 @@ use Rattle.wire.proofs.PacketExamples.{frame, frame7, frame7Octets, frame8, fra
 use Rattle.stream.specs.declared.state.Phase.the-variants as phase
 use Rattle.stream.specs.declared.state.Answer.{Answer}
 use Rattle.stream.specs.declared.state.Answer.the-variants as answer
-use Rattle.stream.specs.Step.{distance, late, next, far, ahead, classify, admit, step}
+use Rattle.stream.specs.Step.{distance, late, next, far, ahead, classify, step}
 use Rattle.stream.specs.Stream.{Field, Stream, nth, contentAt, Fits, WellFormedStream, other, packet, Call, Calls, none, _before_, Proper, Near, callStep, run, Demand3After}
 use Rattle.stream.proofs.Demand3.{demand3}
 
@@ -58,17 +59,17 @@ stream =
     }
 
 -- each packet is admitted, and says what the stream says of it
-pub admits : (admit rfc8331 1 112 frame7Octets ≡ accepted frame7) × (admit rfc8331 1 112 frame8Octets ≡ accepted frame8)
-    × (admit rfc8331 1 112 frame9Octets ≡ accepted (frame 9 4002 2)) × (admit rfc8331 1 112 frame10Octets ≡ accepted frame10)
+pub admits : (readContent rfc8331 frame7Octets ≡ accepted frame7) × (readContent rfc8331 frame8Octets ≡ accepted frame8)
+    × (readContent rfc8331 frame9Octets ≡ accepted (frame 9 4002 2)) × (readContent rfc8331 frame10Octets ≡ accepted frame10)
 unfolding toBits num bits bitsAt rowAt headerWord checksumWord ancSize ancRecord headersOk rOk wordsOk checksumOk alignmentOk ancChecks readAnc readRun packetRead headerChecks paddingChecks payloadChecks readRecords readPacket readContent
 admits = (refl, refl, refl, refl)
 
 -- eleven octets are refused by 2
-pub refuses : admit rfc8331 1 112 (take 11 frame7Octets) ≡ refuse 2 0
+pub refuses : readContent rfc8331 (take 11 frame7Octets) ≡ refuse 2 0
 unfolding toBits num bits bitsAt headerChecks readPacket readContent
 refuses = refl
 
-accepts : (i : ℕ) → i < 4 → admit rfc8331 1 112 (nth stream i .part .octets) ≡ accepted (contentAt stream i (nth stream i))
+accepts : (i : ℕ) → i < 4 → readContent rfc8331 (nth stream i .part .octets) ≡ accepted (contentAt stream i (nth stream i))
 accepts zero h = admits .0
 accepts (suc zero) h = admits .1
 accepts (suc (suc zero)) h = admits .2
@@ -102,7 +103,7 @@ room = omega arith
 -- the calls are proper
 pub proper : Proper stream calls
 proper =
-    (((((tt, omega arith, room), (record { number = 2; index = 0 }, refuses), room), omega arith, room), omega arith, room), omega arith, room)
+    (((((tt, omega arith, room), inl (record { number = 2; index = 0 }, refuses), room), omega arith, room), omega arith, room), omega arith, room)
 
 -- none is far
 pub near : Near calls

@@ -5,7 +5,7 @@ use mathlib.Core.Path.{_≡_, refl, _∙_, ap, sym, subst}
 use mathlib.Core.Bool.{Bool, true, false, true≢false, cond, _&&_}
 use mathlib.Core.List.{List, [], _∷_}
 use mathlib.Core.Logic.{_⊎_, inl, inr}
-use Prim.Native.Nat.{ℕ, _+_}
+use Prim.Native.Nat.{ℕ, _+_, _^_, _<_}
 use native.Mathlib.Omega.{arith}
 use lib.Dec.{eqb}
 use lib.ListN.{length}
@@ -19,7 +19,7 @@ use Rattle.stream.specs.declared.state.Answer.{Answer}
 use Rattle.stream.specs.declared.state.Answer.the-variants as answer
 use Rattle.stream.specs.Step.{Gathered, lost, ready, filling, gathered, Carried, wholeIfMarked, fieldWith, joinFits, joinIfFits, join, joinIfSame, follow, carried, Class, late, next, far, ahead, classify, distance, Step, lateStep, freshStep, farStep, isRemembered, openState, farOrRestart, classStep, packetStep, openedChecks, admit, admission, admittedStep, sound, step}
 use Rattle.wire.proofs.ResultLaws.{Numbered, then-accepts, judge-accepts}
-use Rattle.stream.proofs.NumberLaws.{isAdmission, admit-numbered}
+use Rattle.stream.proofs.NumberLaws.{isAdmission, admit-numbered, number-small}
 
 abbrev pub isRefusal : Answer → Bool
 isRefusal answer.Skipped = false
@@ -205,3 +205,8 @@ module _ (st : State) (L : Layout) (octets store : List ℕ) (P : Step → Type 
   pub step-is : P (step st L octets store)
   unfolding step
   step-is = admitted-is (admission st L (length store) octets) refl
+
+-- the last fresh number stays one of 32 bits
+pub last-small : (st : State) (L : Layout) (octets store : List ℕ) → st .last .0 < 2 ^ 32 → step st L octets store .state .last .0 < 2 ^ 32
+last-small st L octets store h =
+    step-is st L octets store (λ (x : Step). x .state .last .0 < 2 ^ 32) (λ x. h) h (λ n. h) (λ from k e s g m. number-small L octets k e)

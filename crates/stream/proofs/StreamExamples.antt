@@ -14,7 +14,7 @@ use Rattle.wire.specs.Packet.{packetRead, headerChecks, paddingChecks, payloadC
 use Rattle.wire.specs.Cells.{listOf}
 use Rattle.wire.proofs.Examples.{a, aOctets}
 use Rattle.stream.specs.declared.state.Answer.the-variants as answer
-use Rattle.stream.specs.Step.{admit, step}
+use Rattle.stream.specs.Step.{step}
 use Rattle.stream.specs.Stream.{Part, Stream, nth, contentAt, Fits, WellFormedStream, Calls, Proper, Near, run, Demand3After}
 use Rattle.stream.proofs.Demand3.{demand3}
 use Rattle.stream.proofs.RunExamples.{store, lends, answers}
@@ -58,7 +58,7 @@ stream =
           ∷ [];
     }
 
-accepts : (i : ℕ) → i < 7 → admit rfc8331 1 112 (nth stream i .part .octets) ≡ accepted (contentAt stream i (nth stream i))
+accepts : (i : ℕ) → i < 7 → readContent rfc8331 (nth stream i .part .octets) ≡ accepted (contentAt stream i (nth stream i))
 unfolding toBits num bits bitsAt rowAt headerWord checksumWord ancSize ancRecord headersOk rOk wordsOk checksumOk alignmentOk ancChecks readAnc readRun packetRead headerChecks paddingChecks payloadChecks readRecords readPacket readContent
 accepts zero h = refl
 accepts (suc zero) h = refl

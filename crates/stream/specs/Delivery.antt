@@ -6,8 +6,7 @@ use lib.ListN.{length}
 use Rattle.wire.specs.Result.{accepted}
 use Rattle.wire.specs.Anc.{Record, Each}
 use Rattle.wire.specs.Cells.{Lists}
-use Rattle.wire.specs.Packet.{Content}
-use Rattle.stream.specs.Step.{admit}
+use Rattle.wire.specs.Packet.{Content, readContent}
 use Rattle.stream.specs.Stream.{Part, Field, parts, sent, Stream, WellFormedStream, Fits, other, packet, Calls, none, _before_, run, Handed, asSent}
 
 -- "joined records"
@@ -26,7 +25,9 @@ SameFields (x ∷ xs) (y ∷ ys) =
 -- "one accepted marked packet of the opened source and type, numbered just before it"
 pub record Leads (s : Stream) (octets : List ℕ) : Type 0 where
   pub says : Content
-  pub accepts : admit (s .layout) (s .source) (s .type) octets ≡ accepted says
+  pub accepts : readContent (s .layout) octets ≡ accepted says
+  pub source : says .source ≡ s .source
+  pub type : says .type ≡ s .type
   pub marked : says .marker ≡ 1
   pub number : says .number ≡ (s .start + (2 ^ 32 - 1)) % 2 ^ 32
 

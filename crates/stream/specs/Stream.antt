@@ -2,6 +2,7 @@
 use mathlib.Core.Path.{_≡_}
 use mathlib.Core.Bool.{Bool, true, false, cond, _&&_, _||_}
 use mathlib.Core.List.{List, [], _∷_, _++_}
+use mathlib.Core.Logic.{_⊎_}
 use Prim.Native.Nat.{ℕ, zero, suc, _+_, _-_, _^_, _%_, _≤_, _<_, min}
 use lib.Dec.{eqb}
 use lib.ListN.{length, take, getD}
@@ -10,7 +11,7 @@ use Rattle.wire.specs.Layout.{Layout}
 use Rattle.wire.specs.Result.{refused, accepted}
 use Rattle.wire.specs.Anc.{Record, Each}
 use Rattle.wire.specs.Cells.{listIn, allBelow}
-use Rattle.wire.specs.Packet.{Content}
+use Rattle.wire.specs.Packet.{Content, readContent}
 use Rattle.wire.specs.Writing.{maxFieldRecords, maxFieldCells, maxFieldPackets}
 use Rattle.stream.specs.declared.state.State.{State}
 use Rattle.stream.specs.declared.state.Answer.{Answer}
@@ -108,20 +109,27 @@ abbrev pub Within : Field → Type 0
 Within x =
     (recordCount (parts x) ≤ maxFieldRecords) × (length (joinedCells (parts x)) ≤ maxFieldCells) × (length (parts x) ≤ maxFieldPackets)
 
--- "A sender sends at most 2,147,483,648 packets, .., in well-formed fields": each is accepted, of the opened source and type
+-- "A sender sends at most 2,147,483,648 packets, .., in well-formed fields": "accepted packets of the opened source and type, numbered in
+-- sequence, one timestamp and F, only the last marked": what the reader says of each, without the depacketizer's own checks
 pub record WellFormedStream (s : Stream) : Type 0 where
   pub few : length (sent (s .fields)) ≤ 2 ^ 31
   pub within : Each Within (s .fields)
-  pub accepts : (i : ℕ) → i < length (sent (s .fields)) → admit (s .layout) (s .source) (s .type) (nth s i .part .octets) ≡ accepted (contentAt s i (nth s i))
+  pub accepts : (i : ℕ) → i < length (sent (s .fields)) → readContent (s .layout) (nth s i .part .octets) ≡ accepted (contentAt s i (nth s i))
 
 -- An arrival: packet `i` of the stream, or other octets, told any layout.
 pub data Arriving : Type 0 where
   other : Layout → List ℕ → Arriving
   packet : ℕ → Arriving
 
+-- octets that the reader refuses, or that say another source or type
+abbrev pub Foreign : (source type : ℕ) → Layout → List ℕ → Type 0
+Foreign source type L o =
+    ((x : Refusal) × (readContent L o ≡ refused x))
+    ⊎ ((k : Content) × (readContent L o ≡ accepted k) × ((k .source ≡ source → ⊥) ⊎ (k .type ≡ type → ⊥)))
+
 -- "the other octets among it are refused by 1 to 13, 30 or 31", and 15 and 16, "counted with 1 to 13" (02, K3 and K5)
 abbrev pub OfStream : Stream → Arriving → Type 0
-OfStream s (other L o) = (x : Refusal) × (admit L (s .source) (s .type) o ≡ refused x)
+OfStream s (other L o) = Foreign (s .source) (s .type) L o
 OfStream s (packet i) = i < length (sent (s .fields))
 
 -- a store that the fields fit
@@ -328,6 +336,12 @@ infixl 20 _andThen_
 abbrev pub _andThen_ : Call → Calls → Calls
 c andThen none = none before c
 c andThen (cs before d) = (c andThen cs) before d
+
+-- a call restarts a run of the opened source and type
+pub record RestartsRun (s : Stream) (r : Run) (c : Call) : Type 0 where
+  pub source : r .state .source ≡ s .source
+  pub type : r .state .«payload_type» ≡ s .type
+  pub restarts : Restarts (r .state) (layoutOf s (c .arriving)) (octetsOf s (c .arriving)) (storeFor (gathered (r .state)) (r .store) (c .store))
 
 -- "it holds again from the restarting packet on, as from a keeper just opened": whatever the run `r` was before, and so after each restart
 abbrev pub Demand3Again : Type 0

@@ -3,3 +3,4 @@ pub mod StrictLaws
 pub mod PacketLaws
 pub mod ThroughLaws
 pub mod Examples
+pub mod OrderLaws

@@ -18,15 +18,10 @@ use Rattle.wire.specs.Packet.{lengthField, ancCount, runAt, packetRead, headerC
 use Rattle.wire.specs.Writing.{maxCells, contentOctets, writeContent}
 use Rattle.wire.proofs.ResultLaws.{Passed, Numbered, numbers, and-true, judge-numbered, then-numbered, accepted-inj, judge-accepts, judge-passes, then-accepts}
 use Rattle.wire.proofs.PacketLaws.{not-eqb}
+use Rattle.wire.proofs.OrderLaws.{judge-behind}
 use Rattle.wire.proofs.Demand2.{rewritten-iff}
-use Rattle.tolerant.specs.Tolerant.{tolerantChecks, Taken, through, tolerateRun, Tolerated, tolerated, tolerateContent, tolerateInto}
-use Rattle.tolerant.proofs.StrictLaws.{isNot11, accepted≢refused, refused-inj, whole, run-agrees, run-never-11, run-none}
-
--- checks before a step, and the step behind
-judge-then : {A B : Type 0} (i : ℕ) (ts : Checks) (x : Result A) (f : A → Result B) → (judge i ts x then f) ≡ judge i ts (x then f)
-judge-then i [] x f = refl
-judge-then i ((true, n) ∷ ts) x f = judge-then i ts x f
-judge-then i ((false, n) ∷ ts) x f = refl
+use Rattle.tolerant.specs.Tolerant.{isNot11, tolerantChecks, Taken, through, tolerateRun, Tolerated, tolerated, tolerateContent, tolerateInto}
+use Rattle.tolerant.proofs.StrictLaws.{accepted≢refused, refused-inj, whole, run-agrees, run-never-11, run-none}
 
 -- what the same checks refuse, or what is refused behind them
 judge-agrees : {A B : Type 0} (i : ℕ) (ts : Checks) (y : Result A) (z : Result B) (x : Refusal) → judge i ts y ≡ refused x
@@ -64,9 +59,9 @@ module _ (L : Layout) (s : List ℕ) where
   strict-staged : readContent L s ≡ staged (readRun L 0 (ancCount s) region then strictly)
   unfolding readContent readPacket readRecords
   strict-staged =
-      judge-then 0 (headerChecks s) _ (λ k. accepted (content k))
-      ∙ ap (judge 0 (headerChecks s)) (judge-then 0 (paddingChecks L s) _ (λ k. accepted (content k))
-      ∙ ap (judge 0 (paddingChecks L s)) (judge-then 0 (payloadChecks L s) _ (λ k. accepted (content k))
+      judge-behind 0 (headerChecks s) _ (λ k. accepted (content k))
+      ∙ ap (judge 0 (headerChecks s)) (judge-behind 0 (paddingChecks L s) _ (λ k. accepted (content k))
+      ∙ ap (judge 0 (paddingChecks L s)) (judge-behind 0 (payloadChecks L s) _ (λ k. accepted (content k))
       ∙ ap (judge 0 (payloadChecks L s)) (go (readRun L 0 (ancCount s) region))))
     where
       one : (t : Bool) (q : List Record × List ℕ)

@@ -21,12 +21,8 @@ use Rattle.wire.proofs.ResultLaws.{Passed, Numbered, numbers, judge-numbered, t
 use Rattle.wire.proofs.PacketLaws.{not-eqb}
 use Rattle.wire.proofs.AncLaws.{Sound, sound-passed}
 use Rattle.wire.proofs.Demand2.{rewritten-iff}
-use Rattle.tolerant.specs.Tolerant.{tolerantChecks, Taken, through, tolerateRun, Tolerated, tolerated, tolerateContent, tolerateInto}
+use Rattle.tolerant.specs.Tolerant.{isNot11, tolerantChecks, Taken, through, tolerateRun, Tolerated, tolerated, tolerateContent, tolerateInto}
 use Rattle.tolerant.proofs.RunLaws.{passed-sound}
-
--- another number than 11
-abbrev pub isNot11 : ℕ → Bool
-isNot11 n = not (eqb n 11)
 
 -- an answer is no refusal
 pub accepted≢refused : {A : Type 0} {a : A} {x : Refusal} → accepted a ≡ refused x → ⊥

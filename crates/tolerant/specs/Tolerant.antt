@@ -1,7 +1,9 @@
 -- The tolerant way of reading (02, K9): "a record that fails only its checksum is left out and counted, the rest come through in order".
-use mathlib.Core.Bool.{Bool, true, false}
+use mathlib.Core.Path.{_≡_}
+use mathlib.Core.Bool.{Bool, true, false, not, cond}
+use mathlib.Core.Logic.{_⊎_}
 use mathlib.Core.List.{List, [], _∷_}
-use Prim.Native.Nat.{ℕ, zero, suc, _+_}
+use Prim.Native.Nat.{ℕ, zero, suc, _+_, _<_}
 use lib.Dec.{eqb, leb}
 use lib.ListN.{length, take, drop}
 use Rattle.wire.specs.Layout.{Layout, leastSize}
@@ -9,6 +11,11 @@ use Rattle.wire.specs.Result.{Result, accepted, Checks, judge, _then_}
 use Rattle.wire.specs.Anc.{Record, dataCount, ancSize, ancRecord, headersOk, rOk, wordsOk, checksumOk, alignmentOk, behind}
 use Rattle.wire.specs.Cells.{listOf}
 use Rattle.wire.specs.Packet.{lengthField, ancCount, runAt, packetRead, headerChecks, paddingChecks, payloadChecks, Content, content}
+use Rattle.wire.specs.Order.{Faults, Among, ancFaults, RefusedBy}
+
+-- another number than 11
+abbrev pub isNot11 : ℕ → Bool
+isNot11 n = not (eqb n 11)
 
 -- the checks of a packet but 11: "11 isn't given in the tolerant way, and 12 still is for every record"
 unfoldable pub tolerantChecks : Layout → List ℕ → Checks
@@ -62,3 +69,22 @@ tolerateContent L s =
 unfoldable pub tolerateInto : Layout → List ℕ → ℕ → Result Tolerated
 tolerateInto L s room =
     tolerateContent L s then λ t. judge 0 ((leb (length (listOf (t .says .records))) room, 14) ∷ []) (accepted t)
+
+-- 01's table and order without 11: "11 isn't given in the tolerant way, and 12 still is for every record"
+abbrev pub without : ℕ → Faults → Faults
+without n [] = []
+without n (f ∷ fs) = cond (eqb (f .0) n) (without n fs) (f ∷ without n fs)
+
+abbrev pub tolerantFaults : Layout → List ℕ → Faults
+tolerantFaults L s = without 11 (ancFaults L s)
+
+-- The octets `s` are refused in the tolerant way with the number `n` and the index `i`; 14 last, "by the records that come through".
+abbrev pub ToleratedNot : Layout → List ℕ → (room n i : ℕ) → Type 0
+ToleratedNot L s room n i =
+    RefusedBy tolerantFaults L s n i
+    ⊎ ((t : Tolerated) × (tolerateContent L s ≡ accepted t) × (room < length (listOf (t .says .records))) × (n ≡ 14) × (i ≡ 0))
+
+-- the index of a refusal: the ANC packet's for 9, 10, 12, 15 and 16, otherwise 0
+abbrev pub TolerantIndex : (count n i : ℕ) → Type 0
+TolerantIndex count n i =
+    (Among (9 ∷ 10 ∷ 12 ∷ 15 ∷ 16 ∷ []) n × (i < count)) ⊎ (Among (1 ∷ 2 ∷ 3 ∷ 4 ∷ 5 ∷ 6 ∷ 7 ∷ 8 ∷ 13 ∷ 14 ∷ []) n × (i ≡ 0))

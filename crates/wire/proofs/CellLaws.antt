@@ -130,7 +130,7 @@ records-iff (suc bound) i (x ∷ l) h (r ∷ rs) =
 abbrev pub Clear : Record → Type 0
 Clear r = allClear (r .words) ≡ true
 
-clear-iff : (i : ℕ) (rs qs : List Record) → (clearFrom i rs ≡ accepted qs) ↔ ((rs ≡ qs) × Each Clear qs)
+pub clear-iff : (i : ℕ) (rs qs : List Record) → (clearFrom i rs ≡ accepted qs) ↔ ((rs ≡ qs) × Each Clear qs)
 unfolding clearFrom
 clear-iff i [] [] = (λ e. (refl, tt), λ p. refl)
 clear-iff i [] (q ∷ qs) = (λ e. absurd (nil≢cons (accepted-inj e)), λ p. absurd (nil≢cons (p .0)))

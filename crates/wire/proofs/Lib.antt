@@ -13,10 +13,17 @@ pub mod AncLaws
 pub mod CellLaws
 pub mod RoundTrip
 pub mod Examples
+pub mod OrderLaws
+pub mod ReadingOrder
 pub mod PacketLaws
 pub mod PacketIff
 pub mod WritingLaws
 pub mod Demand2
+pub mod WritingOrder
+pub mod IndexLaws
+pub mod Numbers
+pub mod FieldPlaces
+pub mod WrittenLaws
 pub mod Never22
 pub mod PacketExamples
 pub mod DraftExamples

@@ -6,4 +6,5 @@ pub mod Anc
 pub mod Cells
 pub mod Packet
 pub mod Writing
+pub mod Order
 pub mod Written

@@ -78,7 +78,7 @@ fn outlet_channel(r: &mut Random, share: usize, slots: &[u8]) -> Channel {
     for (step, &slot) in slots.iter().enumerate() {
         let place = (ring.head as usize + step) % PLACES;
         let held = step < ring.count as usize;
-        ring.slots[place] = if held { slot } else { r.octet() };
+        ring.slots[place] = if held { slot } else { r.below(SLOTS) as u8 };
         ring.lengths[place] = match held {
             true => outlet_length(r) as u16,
             false => r.pick(&[0, 7, 1_025, u16::MAX]),

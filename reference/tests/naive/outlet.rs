@@ -15,6 +15,9 @@ fn naive_sound(row: &Row, memory: &[u8]) -> bool {
     if memory.len() != 65_536 || row[144] > 7 {
         return false;
     }
+    if row[16..80].iter().any(|&slot| slot > 63) {
+        return false;
+    }
     let mut held = Vec::new();
     for channel in 0..8 {
         if row[channel] > 7 || row[8 + channel] > 8 {

@@ -1,4 +1,4 @@
--- `numbers_fit` tells whether the heads, the counts and the next channel are in range.
+-- `numbers_fit` tells whether the heads, the counts, the next channel and the slots are in range.
 -- Invariant: those of the channels passed are.
 use borrow.Author.Needs.{needs}
 use mathlib.Core.Path.{_≡_, refl, sym, _∙_, ap}
@@ -6,7 +6,7 @@ use mathlib.Core.Bool.{Bool, true, false, not, _&&_}
 use Prim.Native.Nat.{ℕ, _≤_, _-_, _+_, _<_}
 use native.Mathlib.Omega.{arith}
 use lib.Dec.{ltb}
-use borrow.Author.Tests.{not-true, not-false}
+use borrow.Author.Tests.{lt-ltb, le-ltb, not-true, not-false}
 use Rattle.outlet.specs.Places.{allUpto, channelOk, numbersOk}
 use Rattle.outlet.proofs.Upto.{upto-fails, upto-more, upto-none}
 use Rattle.egress_state.proofs.survey.numbers_fit.Statement.{statement}
@@ -34,10 +34,20 @@ loop-again c =
 
 returns-2 : tie.Need-returns-2 Inv-loop μ-loop
 returns-2 c =
-    let e : c .before .loop .c ≡ 8 = omega arith in
-    rw (rw e at (c .before .loop .inv .1))
+    let st = c .before .before .before .args .t1 in
+    let l = c .before .before .loop in
+    let e : l .c ≡ 8 = omega arith in
+    rw (rw e at (l .inv .1), le-ltb (st .next) 8 (omega arith))
+
+returns-3 : tie.Need-returns-3 Inv-loop μ-loop
+returns-3 c =
+    let st = c .before .before .before .before .args .t1 in
+    let l = c .before .before .before .loop in
+    let e : l .c ≡ 8 = omega arith in
+    c .slots-fit .ensures ∙ sym (rw (rw e at (l .inv .1), lt-ltb (st .next) 8 (omega arith)))
 
 pub numbers-fit-spec : {M : Type 1} → statement M
 numbers-fit-spec =
     tie.close
-    (tie.spec Inv-loop μ-loop (λ c. (omega arith, upto-none _)) (λ c. search needs) (λ c. search needs) (λ c κs. search needs) returns (λ c. search needs) (λ c. search needs) loop-again (λ c. search needs) returns-2)
+    (tie.spec Inv-loop μ-loop (λ c. (omega arith, upto-none _)) (λ c. search needs) (λ c. search needs) (λ c κs. search needs) returns (λ c. search needs) (λ c. search needs) loop-again
+    (λ c. search needs) returns-2 (λ c κs. search needs) returns-3)

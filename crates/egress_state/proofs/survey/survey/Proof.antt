@@ -9,9 +9,9 @@ use native.Mathlib.Omega.{arith}
 use lib.Dec.{ltb}
 use lib.ListN.{length, length-set}
 use borrow.Author.Tests.{not-true, not-false}
-use Rattle.outlet.specs.Places.{allUpto, placeOk, numbersOk, held, slotAt, entryFits, usedBelow}
-use Rattle.egress_state.proofs.SurveyLaws.{Marks, no-marks, unfit, twice, fit, free, marks-free, marks-held, Fit, fit-slot, fits-below, refuses-memory, refuses-numbers, refuses-place, passes}
-use Rattle.outlet.proofs.PlaceLaws.{head-fits}
+use Rattle.outlet.specs.Places.{allUpto, placeOk, numbersOk, held, slotAt, lengthFits, usedBelow}
+use Rattle.egress_state.proofs.SurveyLaws.{Marks, no-marks, unfit, twice, fit, free, marks-free, marks-held, Fit, fits-below, refuses-memory, refuses-numbers, refuses-place, passes}
+use Rattle.outlet.proofs.PlaceLaws.{head-fits, slot-fits}
 use Rattle.outlet.proofs.Upto.{upto-more, upto-none}
 use Rattle.egress_state.proofs.survey.survey.Statement.{statement}
 use Rattle.egress_state.proofs.survey.survey.Tie as tie
@@ -38,32 +38,35 @@ is-held-requires c κs = let l = c .before .before .before .loop in (omega arith
 
 returns-3 : tie.Need-returns-3 Inv-loop μ-loop
 returns-3 c =
-    let l = c .before .before .before .before .before .before .before .before .before .loop in
-    let st = c .before .before .before .before .before .before .before .before .before .before .before .before .before .args .t1 in
-    let h : held st (l .k) ≡ true = sym (c .before .before .before .before .before .is-held .ensures) ∙ c .before .before .before .before .if3 .taken in
-    refuses-place st (c .before .before .before .before .before .before .before .before .before .before .before .before .before .args .memory) (l .used) (l .k) (omega arith) (unfit st (l .k) h (sym (c .before .entry-fits .ensures) ∙ not-true _ (c .if4 .taken)))
+    let l = c .before .before .before .before .before .before .before .before .loop in
+    let st = c .before .before .before .before .before .before .before .before .before .before .before .before .args .t1 in
+    let h : held st (l .k) ≡ true = sym (c .before .before .before .before .is-held .ensures) ∙ c .before .before .before .if3 .taken in
+    refuses-place st (c .before .before .before .before .before .before .before .before .before .before .before .before .args .memory) (l .used) (l .k) (omega arith) (unfit st (l .k) h (sym (c .before .length-fits .ensures) ∙ not-true _ (c .if4 .taken)))
 
 cast-slot : tie.Need-cast-slot Inv-loop μ-loop
 cast-slot c =
-    let st = c .before .before .before .before .before .before .before .before .before .before .before .before .before .before .args .t1 in
-    let k = c .before .before .before .before .before .before .before .before .before .before .loop .k in
-    let e : Fit st k = sym (c .before .before .entry-fits .ensures) ∙ not-false _ (c .before .if4 .left) in
-    let h : slotAt st k < 64 = fit-slot st k e in
+    let st = c .before .before .before .before .before .before .before .before .before .before .before .before .before .args .t1 in
+    let l = c .before .before .before .before .before .before .before .before .before .loop in
+    let h : slotAt st (l .k) < 64 = slot-fits st (l .k) (l .inv .2) (omega arith) in
     fits-below h
 
 array-read-if5 : tie.Need-array-read-if5 Inv-loop μ-loop
-array-read-if5 c = fit-slot (c .before .before .before .before .before .before .before .before .before .before .before .before .before .before .args .t1) (c .before .before .before .before .before .before .before .before .before .before .loop .k) (sym (c .before .before .entry-fits .ensures) ∙ not-false _ (c .before .if4 .left))
+array-read-if5 c =
+    let l = c .before .before .before .before .before .before .before .before .before .loop in
+    slot-fits (c .before .before .before .before .before .before .before .before .before .before .before .before .before .args .t1) (l .k) (l .inv .2) (omega arith)
 
 returns-4 : tie.Need-returns-4 Inv-loop μ-loop
 returns-4 c =
-    let l = c .before .before .before .before .before .before .before .before .before .before .before .loop in
-    let st = c .before .before .before .before .before .before .before .before .before .before .before .before .before .before .before .args .t1 in
-    let h : held st (l .k) ≡ true = sym (c .before .before .before .before .before .before .before .is-held .ensures) ∙ c .before .before .before .before .before .before .if3 .taken in
-    let f : slotAt st (l .k) < 64 = fit-slot st (l .k) (sym (c .before .before .before .entry-fits .ensures) ∙ not-false _ (c .before .before .if4 .left)) in
-    refuses-place st (c .before .before .before .before .before .before .before .before .before .before .before .before .before .before .before .args .memory) (l .used) (l .k) (omega arith) (twice st (l .k) h (sym (l .inv .4 (slotAt st (l .k)) f) ∙ c .if5 .taken))
+    let l = c .before .before .before .before .before .before .before .before .before .before .loop in
+    let st = c .before .before .before .before .before .before .before .before .before .before .before .before .before .before .args .t1 in
+    let h : held st (l .k) ≡ true = sym (c .before .before .before .before .before .before .is-held .ensures) ∙ c .before .before .before .before .before .if3 .taken in
+    let f : slotAt st (l .k) < 64 = slot-fits st (l .k) (l .inv .2) (omega arith) in
+    refuses-place st (c .before .before .before .before .before .before .before .before .before .before .before .before .before .before .args .memory) (l .used) (l .k) (omega arith) (twice st (l .k) h (sym (l .inv .4 (slotAt st (l .k)) f) ∙ c .if5 .taken))
 
 array-write-used : tie.Need-array-write-used Inv-loop μ-loop
-array-write-used c = fit-slot (c .before .before .before .before .before .before .before .before .before .before .before .before .before .before .before .args .t1) (c .before .before .before .before .before .before .before .before .before .before .before .loop .k) (sym (c .before .before .before .entry-fits .ensures) ∙ not-false _ (c .before .before .if4 .left))
+array-write-used c =
+    let l = c .before .before .before .before .before .before .before .before .before .before .loop in
+    slot-fits (c .before .before .before .before .before .before .before .before .before .before .before .before .before .before .args .t1) (l .k) (l .inv .2) (omega arith)
 
 loop-again : tie.Need-loop-again Inv-loop μ-loop
 loop-again c =
@@ -72,13 +75,13 @@ loop-again c =
     ⊎-elim
     (λ w.
     let h : held st (l .k) ≡ true = sym (c .before .is-held .ensures) ∙ w .0 .taken in
-    let e : Fit st (l .k) = sym (w .3 .ensures) ∙ not-false _ (w .4 .left) in
-    let u : usedBelow st (l .k) (slotAt st (l .k)) ≡ false = sym (l .inv .4 (slotAt st (l .k)) (fit-slot st (l .k) e)) ∙ w .6 .left in (
+    let e : Fit st (l .k) = sym (w .2 .ensures) ∙ not-false _ (w .3 .left) in
+    let u : usedBelow st (l .k) (slotAt st (l .k)) ≡ false = sym (l .inv .4 (slotAt st (l .k)) (slot-fits st (l .k) (l .inv .2) (omega arith))) ∙ w .5 .left in (
       omega arith,
-      rw (w .7) (simp length-set (l .inv .1)),
+      rw (w .6) (simp length-set (l .inv .1)),
       l .inv .2,
       upto-more (placeOk st) (l .k) (l .inv .3) (fit st (l .k) h e u),
-      rw (w .7) (marks-held st (l .k) (l .used) (l .inv .1) h (l .inv .4)),
+      rw (w .6) (marks-held st (l .k) (l .used) (l .inv .1) h (l .inv .4)),
       l .inv .5,
     ))
     (λ w.
@@ -101,5 +104,5 @@ pub survey-spec : {M : Type 1} → statement M
 survey-spec =
     tie.close
     (tie.spec Inv-loop μ-loop returns (λ c κs. search needs) returns-2 loop-holds (λ c. search needs) (λ c. search needs) is-held-requires
-    (λ c. search needs) (λ c. search needs) (λ c. search needs) (λ c κs. search needs) returns-3 (λ c. search needs) cast-slot array-read-if5 returns-4
+    (λ c. search needs) (λ c. search needs) (λ c κs. search needs) returns-3 (λ c. search needs) cast-slot array-read-if5 returns-4
     array-write-used (λ c. search needs) (λ c. search needs) loop-again returns-5)

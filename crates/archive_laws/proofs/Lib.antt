@@ -1,0 +1,13 @@
+pub mod SessionLaws
+pub mod SentLaws
+pub mod GatherLaws
+pub mod AnyLaws
+pub mod AnyArchiveLaws
+pub mod NoneLostLaws
+pub mod CaptureLaws
+pub mod WholeLaws
+pub mod ReplayLaws
+pub mod ExactLaws
+pub mod ExactArchiveLaws
+pub mod Examples
+pub mod ProgramLaws
