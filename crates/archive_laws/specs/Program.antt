@@ -11,7 +11,7 @@ use Rattle.wire.specs.Writing.{maxFieldCells}
 use Rattle.anf.specs.File.{endOfFile, readFile}
 use Rattle.frames.specs.Frames.{frames}
 use Rattle.stream.specs.Stream.{Stream, WellFormedStream, Arriving, octetsOf, fresh, Near}
-use Rattle.program.specs.Buffers.{writtenIn}
+use Rattle.run.specs.Buffers.{writtenIn}
 use Rattle.listing.specs.declared.session.Session.the-variants as session
 use Rattle.filing_turns.specs.Turns.{Ended}
 use Rattle.archive_laws.specs.Archive.{OpenedByStream, Recorded, archived, callsOf}
@@ -22,11 +22,11 @@ use Rattle.archive_laws.specs.Exact.{wholeFields, written}
 abbrev pub ProgramAsSent : Type 0
 ProgramAsSent = (s : Stream) → WellFormedStream s → (tape : List Arriving) → Each (Recorded s) tape → OpenedByStream s tape → Near (callsOf tape)
     → (store left out : List ℕ) → maxFieldCells ≤ length store → (e : Ended (s .layout) store left out true)
-    → Below 256 (e .1 .read) → frames (e .1 .read) .packets ≡ map (octetsOf s) tape
-    → readFile (e .1 .written ++ writtenIn (e .1 .closed .ready) (e .1 .after) out) ≡ record { fields = archived 0 (s .fields) (fresh (callsOf tape)); end = endOfFile }
+    → Below 256 (e .2 .read) → frames (e .2 .read) .packets ≡ map (octetsOf s) tape
+    → readFile (e .2 .written ++ writtenIn (e .2 .closed .ready) (e .2 .after) out) ≡ record { fields = archived 0 (s .fields) (fresh (callsOf tape)); end = endOfFile }
 
 -- and whatever was read, it is exactly what its fresh packets tell
 abbrev pub ProgramExact : Type 0
-ProgramExact = (L : Layout) (store left out : List ℕ) → maxFieldCells ≤ length store → (e : Ended L store left out true) → Below 256 (e .1 .read)
-    → readFile (e .1 .written ++ writtenIn (e .1 .closed .ready) (e .1 .after) out)
-    ≡ record { fields = map written (wholeFields [] [] (freshIn (session.Waiting L) store (frames (e .1 .read) .packets))); end = endOfFile }
+ProgramExact = (L : Layout) (store left out : List ℕ) → maxFieldCells ≤ length store → (e : Ended L store left out true) → Below 256 (e .2 .read)
+    → readFile (e .2 .written ++ writtenIn (e .2 .closed .ready) (e .2 .after) out)
+    ≡ record { fields = map written (wholeFields [] [] (freshIn (session.Waiting L) store (frames (e .2 .read) .packets))); end = endOfFile }

@@ -8,7 +8,9 @@ ghost use Rattle.wire.specs.Packet.{maxPacket};
 ghost use Rattle.frames.specs.Frames.{lengthSize, maxFrame};
 ghost use Rattle.capture.specs.Step as capture;
 ghost use Rattle.capture_walk.specs.Frames.{frameOf};
-ghost use Rattle.capture_walk.specs.Session.{CanCount, Countable, FoundFits, begun, counted, foundFront, isWhole, itemFront, lastOf, moved, outAfter, packetFront, refusedBy, replyOf, sessionFront};
+ghost use Rattle.capture_walk.specs.Session.{CanCount, Countable, FoundFits, begun, counted, foundFront, frameWalk, isWhole, itemFront, lastOf, moved, outAfter, packetFront, refusedBy, replyOf};
+ghost use Rattle.capture.specs.Numbers.{maxItem};
+ghost use Rattle.run.specs.Run.{Answers};
 
 pub mod told;
 
@@ -21,11 +23,13 @@ use capture_step::next_state;
 use capture_walk::session::Reply;
 use capture_walk::session::Session;
 use capture_walk::session::Standing;
-use capture_walk::session::Step;
 use datagram::answer::Found;
 use datagram::find;
 use datagram::link::is_link_taken;
+use frames::MAX_FRAME;
+use run::buffers::Step;
 use text::put;
+use wire::refusal::Refusal;
 
 // Before the first octet.
 pub fn begin() -> Session
@@ -178,12 +182,20 @@ fn take_open(port: u16, session: Session, octets: &[u8], out: &mut [u8]) -> Repl
     }
 }
 
-// The item at the front, unless the walk is over.
+// The item at the front, unless the walk is over, where there is room for any frame.
 pub fn take_item(port: u16, session: Session, octets: &[u8], out: &mut [u8]) -> Reply
-    requires { ⌜ Countable session × (maxFrame ≤ length (now out)) ⌝ }
-    ensures { λ r. ⌜ r ≡ replyOf session (sessionFront port session (now (octets .entry))) ⌝ }
-    ensures { λ r. ⌜ now (out .exit) ≡ outAfter (sessionFront port session (now (octets .entry))) (now (out .entry)) ⌝ }
+    requires { ⌜ Countable session ⌝ }
+    ensures { λ r. ⌜ Answers (frameWalk port) maxItem session (now (octets .entry)) (now (out .entry)) (r .step) (r .session) (now (out .exit)) ⌝ }
 {
+    if out.len() < MAX_FRAME {
+        return Reply {
+            session,
+            step: Step::Refused(Refusal {
+                number: Refusal::ROOM_TOO_SMALL,
+                index: 0,
+            }),
+        };
+    }
     let standing = session.standing;
     match standing {
         Standing::Refused(_) => Reply {

@@ -1,37 +1,49 @@
 -- The counts of a session are at most the turns that were made; and the whole run, said of the frames.
 -- Each item raises each of them by one at the most; the text of the walk is the frames.
-use mathlib.Core.Path.{_≡_, subst, _∙_}
+use mathlib.Core.Path.{_≡_, refl, sym, _∙_}
 use mathlib.Core.Bool.{Bool}
-use mathlib.Core.List.{List, _++_}
-use Prim.Native.Nat.{ℕ, _+_, _<_}
+use mathlib.Core.List.{List, append-nil}
+use Prim.Native.Nat.{ℕ, _+_, _<_, _≤_}
 use native.Mathlib.Omega.{arith}
-use Rattle.program.specs.declared.buffers.Buffers.{Buffers}
-use Rattle.program.specs.Run.{maxTurns}
-use Rattle.program.specs.Buffers.{Begins}
-use Rattle.walk.specs.Run as walk
-use Rattle.walk.specs.Run.{Passed, turnsOf}
-use Rattle.walk.proofs.RunLaws.{counts-turns}
+use lib.ListN.{length}
+use Rattle.run.specs.Buffers.{isDone}
+use Rattle.run.specs.Run.{At, Started, turning, unused}
+use Rattle.run.specs.Turns.{turnsOf}
+use Rattle.run.specs.Walk.{over, taken}
+use Rattle.run.proofs.RunLaws.{item-counts, run-ended}
+use Rattle.run.proofs.StepLaws.{closed-without}
+use Rattle.run.proofs.TurnLaws.{Sofar, counts-turns}
 use Rattle.capture_walk.specs.declared.session.Session.{Session}
-use Rattle.capture_walk.specs.Session.{Countable, begun, frameWalk}
+use Rattle.capture_walk.specs.Frames.{framesOf}
+use Rattle.capture_walk.specs.Session.{Countable, begun, frameWalk, lastOf}
 use Rattle.capture_walk.proofs.FrameLaws.{walk-text}
-use Rattle.capture_walk.proofs.SessionLaws.{over-counts, taken-seen}
-use Rattle.capture_turns.specs.Turns.{Ended, hasRoom}
+use Rattle.capture_walk.proofs.SessionLaws.{lawful, over-counts, taken-seen}
+use Rattle.capture_turns.specs.Turns.{Ended}
 
 -- while a turn is left, one packet more can be counted
-pub countable : {port : ℕ} {read written : List ℕ} {s : Session} {b : Buffers} {input out : List ℕ} → (p : Passed (frameWalk port) hasRoom begun read written s b input out)
-    → (turns : ℕ) → 0 < turns → turns + turnsOf (frameWalk port) hasRoom p ≡ maxTurns → Countable s
-countable {port} p turns h e =
+pub countable : {port : ℕ} {from here : At Session} {turns : ℕ} → from .state ≡ begun → Sofar (turning (frameWalk port)) from here turns → 0 < turns → Countable (here .state)
+countable {port} {from} {here} {turns} b f h =
+    let made = f .made (f .goes-on h) in
+    let zero : (g : Session → ℕ) → g (from .state) ≡ g begun = λ g i. g (b i) in
+    let most : (g : Session → ℕ) → ((s : Session) (o : List ℕ) (n : ℕ) (t : List ℕ) (z : Session) → frameWalk port .front s o ≡ taken n t z → g z ≤ g s + 1)
+    → ((s : Session) (o : List ℕ) (z : Session) → frameWalk port .front s o ≡ over z → g z ≤ g s + 1) → g (here .state) ≤ g (from .state) + turnsOf (turning (frameWalk port)) (f .passed) =
+    λ g x y. counts-turns (turning (frameWalk port)) (λ (a : At Session). g (a .state)) (item-counts (frameWalk port) g x y) (f .passed) in
     record {
-      packets = omega (arith, counts-turns (frameWalk port) hasRoom (λ s. s .packets) (λ s o n t z q. taken-seen port s o n t z q .packets) (λ s o z q. omega (arith, over-counts port s o z q .0)) p);
-      fragments = omega (arith, counts-turns (frameWalk port) hasRoom (λ s. s .fragments) (λ s o n t z q. taken-seen port s o n t z q .fragments) (λ s o z q. omega (arith, over-counts port s o z q .1)) p);
-      cut = omega (arith, counts-turns (frameWalk port) hasRoom (λ s. s .cut) (λ s o n t z q. taken-seen port s o n t z q .cut) (λ s o z q. omega (arith, over-counts port s o z q .2)) p);
+      packets = omega (arith, made, zero (λ s. s .packets), most (λ s. s .packets) (λ s o n t z q. taken-seen port s o n t z q .packets) (λ s o z q. omega (arith, over-counts port s o z q .0)));
+      fragments = omega (arith, made, zero (λ s. s .fragments), most (λ s. s .fragments) (λ s o n t z q. taken-seen port s o n t z q .fragments) (λ s o z q. omega (arith, over-counts port s o z q .1)));
+      cut = omega (arith, made, zero (λ s. s .cut), most (λ s. s .cut) (λ s o n t z q. taken-seen port s o n t z q .cut) (λ s o z q. omega (arith, over-counts port s o z q .2)));
     }
 
--- the whole run, said of the frames
-pub ended : {port : ℕ} {s : Session} {input out : List ℕ} {isWhole : Bool} → walk.Ended (frameWalk port) hasRoom begun s input out isWhole → Ended port s input out isWhole
-ended {port} e =
+-- the whole run, said of the frames; there is no last text
+pub ended : {port : ℕ} {from here : At Session} {turns : ℕ} → Started (frameWalk port) begun from → Sofar (turning (frameWalk port)) from here turns → turns ≤ 0
+    → {s : Session} → s ≡ lastOf (here .state) (length (unused here)) → {isWhole : Bool} → isWhole ≡ isDone (here .buffers) → Ended port s (here .input) (here .out) isWhole
+ended {port} {here = here} t f n last e =
+    let r = run-ended (frameWalk port) (lawful port) (framesOf port) (λ l. sym (walk-text port l)) t f n (closed-without (frameWalk port) {a = here} refl) e in
     record {
-      run = e;
-      begins = λ unread. subst (λ (t : List ℕ). Begins t (e .written)) (walk-text port (e .read ++ unread)) (e .begins unread);
-      complete = λ h. e .complete h ∙ walk-text port (e .read);
+      before = here;
+      run = r;
+      holds = (refl, refl);
+      at-last = last;
+      complete = λ h. sym (append-nil (r .written)) ∙ r .but-last (sym e ∙ h);
+      carries = λ h. last ∙ r .carries h;
     }

@@ -2,20 +2,16 @@
 // places lie within the buffers, and that these are large enough (`Enough`).
 ghost use mathlib.Core.Path.{_≡_};
 ghost use lib.ListN.{length};
-ghost use Rattle.program.specs.Buffers.{InBounds};
-ghost use Rattle.walk.specs.Run.{Turned};
+ghost use Rattle.run.specs.Buffers.{InBounds};
+ghost use Rattle.run.specs.Run.{Turned, at};
 ghost use Rattle.capture_walk.specs.Session.{Countable, frameWalk};
-ghost use Rattle.capture_turns.specs.Turns.{Enough, hasRoom, started};
+ghost use Rattle.capture_turns.specs.Turns.{Enough, started};
 use capture_frames::begin;
 use capture_frames::take_item;
 use capture_walk::session::Session;
-use capture_walk::session::Step;
-use frames::MAX_FRAME;
-use program::buffers::Buffers;
-use program::buffers::advance;
-use program::buffers::finish;
-use program::buffers::flush;
-use program::buffers::refill;
+use libc::STDOUT_FILENO;
+use program::buffers::after_step;
+use run::buffers::Buffers;
 
 // The session, and what it left in the buffers.
 pub struct Run {
@@ -37,34 +33,18 @@ pub fn start() -> Run
 pub fn turn(fd: i32, port: u16, run: Run, input: &mut [u8], out: &mut [u8]) -> Run
     requires { ⌜ InBounds (run .buffers) (length (now input)) (length (now out)) ⌝ }
     requires { ⌜ Enough (length (now input)) (length (now out)) × Countable (run .session) ⌝ }
-    ensures { λ r. ⌜ Turned (frameWalk port) hasRoom (run .session) (run .buffers) (now (input .entry)) (now (out .entry)) (r .session) (r .buffers) (now (input .exit)) (now (out .exit)) ⌝ }
+    ensures { λ r. ⌜ Turned (frameWalk port) (at (run .session) (run .buffers) (now (input .entry)) (now (out .entry))) (at (r .session) (r .buffers) (now (input .exit)) (now (out .exit))) ⌝ }
 {
     let session = run.session;
     let buffers = run.buffers;
     let at = buffers.at;
     let end = buffers.end;
     let filled = buffers.filled;
-    if out.len() - filled < MAX_FRAME {
-        return Run {
-            session,
-            buffers: flush(buffers, out),
-        };
-    }
     let reply = take_item(port, session, &input[at..end], &mut out[filled..]);
     let next = reply.session;
     let step = reply.step;
-    match step {
-        Step::Short => Run {
-            session: next,
-            buffers: refill(fd, buffers, input, out),
-        },
-        Step::Taken { used, length } => Run {
-            session: next,
-            buffers: advance(buffers, used, length),
-        },
-        Step::Over => Run {
-            session: next,
-            buffers: flush(finish(buffers, filled), out),
-        },
+    Run {
+        session: next,
+        buffers: after_step(fd, STDOUT_FILENO, buffers, step, input, out),
     }
 }

@@ -12,7 +12,7 @@ use Rattle.datagram.specs.Udp.{isForPort, udpIn}
 use Rattle.datagram.specs.Ip.{ipv4In, isIpv4Udp, isIpv4Whole}
 use Rattle.datagram.specs.Link.{linkIn, linkOf}
 use Rattle.text.specs.Text.{ascii, decimal, decimalIn}
-use Rattle.walk.specs.Walk.{walk, walkIn}
+use Rattle.run.specs.Walk.{walk, walkIn}
 use Rattle.capture_walk.specs.declared.session.Standing.the-variants as standing
 use Rattle.capture_walk.specs.Session.{begun, counted, frameWalk}
 use Rattle.capture_walk.specs.Told.{leftOutText, refusedText, toldText}

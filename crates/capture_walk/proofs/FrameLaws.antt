@@ -19,7 +19,7 @@ use Rattle.datagram.specs.declared.answer.Found.{Found}
 use Rattle.datagram.specs.declared.answer.Found.the-variants as found
 use Rattle.datagram.specs.Answer.{payloadOf}
 use Rattle.datagram.specs.Link.{datagramIn, isLinkTaken}
-use Rattle.walk.specs.Walk.{Front, over, onward, walkIn, walk}
+use Rattle.run.specs.Walk.{Front, over, onward, walkIn, walk}
 use Rattle.capture_walk.specs.declared.session.Session.{Session}
 use Rattle.capture_walk.specs.declared.session.Standing.the-variants as standing
 use Rattle.capture_walk.specs.Frames.{frameOf, framed, framesOf, foundThen, packetIn, payloadsIn, payloadsOf, payloadsOn}

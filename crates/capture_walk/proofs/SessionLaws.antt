@@ -6,7 +6,8 @@ use mathlib.Core.Bool.{Bool, true, false, cond}
 use mathlib.Core.List.{List, _++_}
 use Prim.Native.Nat.{ℕ, _+_, _-_, _<_, _≤_}
 use native.Mathlib.Omega.{arith}
-use lib.ListN.{length, take, drop, getD, length-drop}
+use borrow.Author.Tests.{le-leb}
+use lib.ListN.{length, take, drop, getD, length-append, length-drop}
 use lib.Seq.{drop-append-le, take-append-le}
 use Rattle.frames.specs.Frames.{maxFrame}
 use Rattle.capture.specs.declared.state.Item.{Item}
@@ -21,12 +22,16 @@ use Rattle.datagram.specs.declared.answer.Found.{Found}
 use Rattle.datagram.specs.declared.answer.Found.the-variants as found
 use Rattle.datagram.specs.Link.{datagramIn, isLinkTaken}
 use Rattle.datagram.proofs.PlaceLaws.{frame-inside}
-use Rattle.walk.specs.Walk.{Front, short, taken, over, Lawful, Stays}
+use Rattle.run.specs.declared.buffers.Step.the-variants as step
+use Rattle.run.specs.Walk.{Front, short, taken, over, Lawful, Stays}
+use Rattle.run.specs.Run.{Answers}
+use Rattle.run.proofs.StepLaws.{is-over, is-short, is-taken}
+use Rattle.capture_walk.specs.declared.session.Reply.{Reply}
 use Rattle.capture_walk.specs.declared.session.Session.{Session}
 use Rattle.capture_walk.specs.declared.session.Standing.{Standing}
 use Rattle.capture_walk.specs.declared.session.Standing.the-variants as standing
 use Rattle.capture_walk.specs.Frames.{packetIn}
-use Rattle.capture_walk.specs.Session.{FoundFits, foundFront, frameWalk, isWhole, itemFront, lastOf, moved, packetFront, refusedBy, sessionFront, standingFront, standingLast}
+use Rattle.capture_walk.specs.Session.{FoundFits, foundFront, frameWalk, isWhole, itemFront, lastOf, moved, outAfter, packetFront, refusedBy, replyOf, sessionFront, standingFront, standingLast}
 
 -- by where the walk stands
 pub front-open : (port : ℕ) (s : Session) (o : List ℕ) → s .standing ≡ standing.Open → sessionFront port s o ≡ itemFront port s o (stepOf (s .state) o)
@@ -91,7 +96,7 @@ item-seen port s o (item.Other n) f = moved-seen s o n _ (f .0) (f .1)
 
 -- a walk that is over stays so
 over-stays : (port : ℕ) (z : Session) (x : ℕ) → z .standing ≡ standing.Refused x → Stays (frameWalk port) z
-over-stays port z x e = record { front = λ o. front-refused port z o x e; last = λ o. last-refused z (length o) x e }
+over-stays port z x e = record { front = λ o. front-refused port z o x e; closing = λ o. refl; last = λ o. last-refused z (length o) x e }
 
 module _ (port : ℕ) (s : Session) (o : List ℕ) where
   abbrev here : Front Session
@@ -194,3 +199,15 @@ lawful port =
       stays = λ s o z e. over-seen port s o z e;
       over-longer = λ s o more z e. front-longer port s o more (λ q. let y : _≡_ {A = ℕ} 0 1 = cc in omega arith) ∙ e;
     }
+
+-- what is answered for the item at the front, where there is room for any frame
+pub answers : (port : ℕ) (s : Session) (o out : List ℕ) → maxFrame ≤ length out → (r : Reply) → r ≡ replyOf s (sessionFront port s o) → (out′ : List ℕ)
+    → out′ ≡ outAfter (sessionFront port s o) out → length out′ ≡ length out → Answers (frameWalk port) maxItem s o out (r .step) (r .session) out′
+answers port s o out h r e out′ q l =
+    subst (λ (y : Reply). Answers (frameWalk port) maxItem s o out (y .step) (y .session) out′) (sym e) (go (sessionFront port s o) refl q)
+  where
+    go : (f : Front Session) → sessionFront port s o ≡ f → out′ ≡ outAfter f out → Answers (frameWalk port) maxItem s o out (replyOf s f .step) (replyOf s f .session) out′
+    go short f q = subst (λ (y : List ℕ). Answers (frameWalk port) maxItem s o out step.Short s y) (sym q) (is-short (frameWalk port) (le-leb maxFrame (length out) h) f (short-seen port s o f))
+    go (over z) f q = subst (λ (y : List ℕ). Answers (frameWalk port) maxItem s o out step.Over z y) (sym q) (is-over (frameWalk port) (le-leb maxFrame (length out) h) f)
+    go (taken n t z) f q =
+        is-taken (frameWalk port) (le-leb maxFrame (length out) h) f refl refl refl q (taken-seen port s o n t z f .inside) (omega (arith, l, ap length q, length-append t (drop (length t) out)))

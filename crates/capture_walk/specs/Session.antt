@@ -2,11 +2,11 @@
 use mathlib.Core.Bool.{Bool, false, cond}
 use mathlib.Core.List.{List, []}
 use Prim.Native.Nat.{ℕ, _+_, _^_, _<_, _≤_}
-use lib.Dec.{eqb}
+use lib.Dec.{eqb, leb}
 use lib.ListN.{length}
 use Rattle.wire.specs.Bits.{overwrite}
 use Rattle.wire.specs.Packet.{maxPacket}
-use Rattle.frames.specs.Frames.{lengthSize}
+use Rattle.frames.specs.Frames.{lengthSize, maxFrame}
 use Rattle.capture.specs.declared.state.Container.{Container}
 use Rattle.capture.specs.declared.state.Container.the-variants as container
 use Rattle.capture.specs.declared.state.Item.{Item}
@@ -18,12 +18,12 @@ use Rattle.datagram.specs.declared.answer.Found.{Found}
 use Rattle.datagram.specs.declared.answer.Found.the-variants as found
 use Rattle.datagram.specs.Answer.{payloadOf}
 use Rattle.datagram.specs.Link.{datagramIn, isLinkTaken}
-use Rattle.walk.specs.Walk.{Front, short, taken, over, Walk}
+use Rattle.run.specs.Walk.{Front, short, taken, over, Program}
 use Rattle.capture_walk.specs.declared.session.Reply.{Reply}
 use Rattle.capture_walk.specs.declared.session.Session.{Session}
 use Rattle.capture_walk.specs.declared.session.Standing.{Standing}
 use Rattle.capture_walk.specs.declared.session.Standing.the-variants as standing
-use Rattle.capture_walk.specs.declared.session.Step.the-variants as step
+use Rattle.run.specs.declared.buffers.Step.the-variants as step
 use Rattle.capture_walk.specs.Frames.{frameOf, packetIn}
 
 -- before the first octet
@@ -82,8 +82,16 @@ abbrev pub lastOf : Session → (left : ℕ) → Session
 lastOf s left = standingLast (s .standing) s left
 
 -- A CAPTURE WALKED, item by item, for the datagrams to a port
-abbrev pub frameWalk : (port : ℕ) → Walk
-frameWalk port = record { State = Session; front = sessionFront port; last = λ s o. lastOf s (length o) }
+abbrev pub frameWalk : (port : ℕ) → Program
+frameWalk port =
+    record {
+      State = Session;
+      room = λ (s : Session) (n : ℕ). leb maxFrame n;
+      front = sessionFront port;
+      first = [];
+      closing = λ (s : Session) (o : List ℕ). [];
+      last = λ (s : Session) (o : List ℕ). lastOf s (length o);
+    }
 
 -- what the code answers of it
 abbrev pub replyOf : Session → Front Session → Reply

@@ -1,5 +1,6 @@
 // What is carried from item to item, and what an item gives.
 use capture::state::State;
+use run::buffers::Step;
 
 // The number of the refusal that ended the walk, if any did.
 pub enum Standing {
@@ -14,13 +15,6 @@ pub struct Session {
     pub packets: u64,
     pub fragments: u64,
     pub cut: u64,
-}
-
-// No whole item; an item of so many octets, and those of its frame; or nothing more is taken.
-pub enum Step {
-    Short,
-    Taken { used: usize, length: usize },
-    Over,
 }
 
 pub struct Reply {

@@ -15,13 +15,35 @@ use Rattle.diff.specs.Diff.{Line}
 use Rattle.diff.specs.Text.{diffText, comparison}
 use Rattle.side_by_side.specs.Rest.{starts}
 use Rattle.side_by_side.proofs.FromLaws.{from-0}
-use Rattle.program.specs.Buffers.{Begins}
-use Rattle.side.specs.Side.{MayCome, readIn, unscanned}
+use Rattle.run.specs.Buffers.{Begins}
+use Rattle.run.specs.Turns.{LastTurn, Passed, started as no-turn, turned, turnsOf}
+use Rattle.run.proofs.TurnLaws.{Prints, always, counts-turns, run-prints}
+use Rattle.side.specs.Side.{MayCome, opened, unscanned}
 use Rattle.comparison.specs.declared.Run.{Run}
 use Rattle.comparison.specs.declared.Phase.{Phase}
 use Rattle.comparison.specs.declared.Phase.the-variants as phase
 use Rattle.comparison.specs.Turns as turns
-use Rattle.comparison.specs.Turns.{Bounds, Closed, Closes, Ended, Now, Passed, RunFlushed, Stands, Step, WriteFailed, begins, isOver, isWhole, linesLeft, toPrint, turned, turnsOf, writtenIn}
+use Rattle.comparison.specs.Turns.{At, Bounds, Closed, Closes, Ended, Now, RunFlushed, Stands, Step, WriteFailed, isOver, isWhole, linesLeft, started, toPrint, turning, writtenIn}
+
+-- where the program stands at the start
+abbrev Starts : Bool → Bool → At → Type 0
+Starts lo ro a = a .run ≡ started (opened lo) (opened ro)
+
+-- IT PRINTS in turns, as any program does (`run` `TurnLaws`), the text of the list
+prints : (lo ro : Bool) (from : At) → Starts lo ro from → Prints turning from (λ (r : List ℕ × List ℕ). comparison (r .0) (r .1))
+prints lo ro from e =
+    let n : Now = record { left = starts; right = starts; leftRecords = []; rightRecords = [] } in
+    record {
+      Stands = λ (a : At). (n : Now) × Stands (a .run) (a .leftStore) (a .rightStore) n;
+      MayCome = λ (a : At) (u : List ℕ × List ℕ). MayCome (a .run .left) (u .0) × MayCome (a .run .right) (u .1);
+      toPrint = λ (a : At) (z : (n : Now) × Stands (a .run) (a .leftStore) (a .rightStore) n) (u : List ℕ × List ℕ). toPrint (a .run) (z .0) (a .leftInput) (a .rightInput) (a .out) (u .0) (u .1);
+      joins = λ x y z i. (append-assoc (x .0) (y .0) (z .0) i, append-assoc (x .1) (y .1) (z .1) i);
+      first = (n, subst (λ (v : Run). Stands v (from .leftStore) (from .rightStore) n) (sym e) (record { left = refl; right = refl; phase = tt }));
+      starts = λ u m. (λ i. toPrint (e i) n (from .leftInput) (from .rightInput) (from .out) (u .0) (u .1)) ∙ sym (ap diffText (from-0 (readFile (u .0)) (readFile (u .1))));
+      next = λ a b t z. let k = t .keeps (z .0) (z .1) in (k .to, k .stands);
+      comes = λ a b t z u m. let k = t .keeps (z .0) (z .1) in (k .leftComes (u .0) (m .0), k .rightComes (u .1) (m .1));
+      keeps = λ a b t z u m. t .keeps (z .0) (z .1) .same (u .0) (u .1) (m .0) (m .1);
+    }
 
 -- where a run stands
 pub record Stood (readLeft readRight written : List ℕ) (v : Run) (leftInput rightInput leftStore rightStore out : List ℕ) : Type 0 where
@@ -30,42 +52,25 @@ pub record Stood (readLeft readRight written : List ℕ) (v : Run) (leftInput ri
   pub prints : (s t : List ℕ) → MayCome (v .left) s → MayCome (v .right) t → written ++ toPrint v now leftInput rightInput out s t ≡ comparison (readLeft ++ s) (readRight ++ t)
 
 -- THE INVARIANT OF A RUN
-pub run-stands : {lo ro : Bool} {readLeft readRight written : List ℕ} {v : Run} {leftInput rightInput leftStore rightStore out : List ℕ}
-    → Passed lo ro readLeft readRight written v leftInput rightInput leftStore rightStore out → Stood readLeft readRight written v leftInput rightInput leftStore rightStore out
-run-stands begins =
-    record {
-      now = record { left = starts; right = starts; leftRecords = []; rightRecords = [] };
-      stands = record { left = refl; right = refl; phase = tt };
-      prints = λ s t m k. sym (ap diffText (from-0 (readFile s) (readFile t)));
-    }
-run-stands (turned {readLeft} {readRight} {written} {v} {leftInput} {rightInput} {leftStore} {rightStore} {out} {r} {leftInput′} {rightInput′} {leftStore′} {rightStore′} {out′} p o t) = go (run-stands p)
-  where
-    go : Stood readLeft readRight written v leftInput rightInput leftStore rightStore out
-        → Stood (readLeft ++ readIn (v .left) (r .left) leftInput′) (readRight ++ readIn (v .right) (r .right) rightInput′) (written ++ writtenIn v r out) r leftInput′ rightInput′ leftStore′ rightStore′ out′
-    go z =
-        let k = t .keeps (z .now) (z .stands) in
-        let g = readIn (v .left) (r .left) leftInput′ in
-        let h = readIn (v .right) (r .right) rightInput′ in
-        record {
-          now = k .to;
-          stands = k .stands;
-          prints =
-              λ s u m n. append-assoc written (writtenIn v r out) (toPrint r (k .to) leftInput′ rightInput′ out′ s u)
-              ∙ ap (λ (l : List ℕ). written ++ l) (sym (k .same s u m n))
-              ∙ z .prints (g ++ s) (h ++ u) (k .leftComes s m) (k .rightComes u n)
-              ∙ sym (ap₂ comparison (append-assoc readLeft g s) (append-assoc readRight h u));
-        }
+pub run-stands : {lo ro : Bool} {from : At} → Starts lo ro from → {read : List ℕ × List ℕ} {written : List ℕ} {a : At} → Passed turning from read written a
+    → Stood (read .0) (read .1) written (a .run) (a .leftInput) (a .rightInput) (a .leftStore) (a .rightStore) (a .out)
+unfolding prints
+run-stands {lo} {ro} {from} e p =
+    let z = run-prints (prints lo ro from e) p in
+    record { now = z .stands .0; stands = z .stands .1; prints = λ s t m k. z .prints (s, t) (m, k) }
 
-pub run-bounds : {lo ro : Bool} {readLeft readRight written : List ℕ} {v : Run} {leftInput rightInput leftStore rightStore out : List ℕ}
-    → Passed lo ro readLeft readRight written v leftInput rightInput leftStore rightStore out → Bounds v (length leftInput) (length rightInput) (length out)
-run-bounds begins = record { left = (omega arith, omega arith); right = (omega arith, omega arith); leftReach = tt; rightReach = tt; text = omega arith }
-run-bounds (turned p o t) = t .bounds
+pub run-bounds : {lo ro : Bool} {from : At} → Starts lo ro from → {read : List ℕ × List ℕ} {written : List ℕ} {a : At} → Passed turning from read written a
+    → Bounds (a .run) (length (a .leftInput)) (length (a .rightInput)) (length (a .out))
+run-bounds {from = from} e p =
+    always turning (λ (a : At). Bounds (a .run) (length (a .leftInput)) (length (a .rightInput)) (length (a .out)))
+    (subst (λ (v : Run). Bounds v (length (from .leftInput)) (length (from .rightInput)) (length (from .out))) (sym e)
+    (record { left = (omega arith, omega arith); right = (omega arith, omega arith); leftReach = tt; rightReach = tt; text = omega arith }))
+    (λ a b t. t .bounds) p
 
 -- the position is at most the turns that were made
-pub position-made : {lo ro : Bool} {readLeft readRight written : List ℕ} {v : Run} {leftInput rightInput leftStore rightStore out : List ℕ}
-    → (p : Passed lo ro readLeft readRight written v leftInput rightInput leftStore rightStore out) → v .position ≤ turnsOf p
-position-made begins = omega arith
-position-made (turned p o t) = omega (arith, position-made p, t .position)
+pub position-made : {lo ro : Bool} {from : At} → Starts lo ro from → {read : List ℕ × List ℕ} {written : List ℕ} {a : At} → (p : Passed turning from read written a)
+    → a .run .position ≤ turnsOf turning p
+position-made e p = omega (arith, counts-turns turning (λ (a : At). a .run .position) (λ a b t. t .position) p, ap (λ (v : Run). v .position) e)
 
 -- text that waited was written, and the run goes on, or it waits still
 flush-closes : (v r : Run) → v .«open» ≡ true → 0 < v .filled → RunFlushed v r → r .«open» ≡ false → Closes r
@@ -91,11 +96,11 @@ step-closes v a b c d r a′ b′ o (turns.places h is) e =
 step-closes v a b c d r a′ b′ o (turns.next q h ne is) e = absurd (true≢false (sym (ap (λ (x : Run). x .«open») is) ∙ e))
 step-closes v a b c d r a′ b′ o (turns.last q h n is) e = absurd (true≢false (sym (ap (λ (x : Run). x .«open») is) ∙ e))
 
-pub run-closes : {lo ro : Bool} {readLeft readRight written : List ℕ} {v : Run} {leftInput rightInput leftStore rightStore out : List ℕ}
-    → Passed lo ro readLeft readRight written v leftInput rightInput leftStore rightStore out → v .«open» ≡ false → Closes v
-run-closes begins e = absurd (true≢false e)
-run-closes (turned {v = v} {leftInput = leftInput} {rightInput = rightInput} {leftStore = leftStore} {rightStore = rightStore} {r = r} {leftInput′ = leftInput′} {rightInput′ = rightInput′} p o t) e =
-    step-closes v leftInput rightInput leftStore rightStore r leftInput′ rightInput′ o (t .step) e
+pub run-closes : {lo ro : Bool} {from : At} → Starts lo ro from → {read : List ℕ × List ℕ} {written : List ℕ} {a : At} → Passed turning from read written a
+    → a .run .«open» ≡ false → Closes (a .run)
+run-closes e no-turn q = absurd (true≢false (sym (ap (λ (v : Run). v .«open») e) ∙ q))
+run-closes e (turned {a = a} {b = b} p o t) q =
+    step-closes (a .run) (a .leftInput) (a .rightInput) (a .leftStore) (a .rightStore) (b .run) (b .leftInput) (b .rightInput) o (t .step) q
 
 -- while a run is open its list has not ended, and no read failed
 record Goes (v : Run) : Type 0 where
@@ -123,22 +128,22 @@ step-goes v a b c d r a′ b′ g (turns.places h is) o =
 step-goes v a b c d r a′ b′ g (turns.next q h ne is) o = subst Goes (sym is) (record { list = refl; left = g .left; right = g .right })
 step-goes v a b c d r a′ b′ g (turns.last q h n is) o = subst Goes (sym is) (record { list = refl; left = g .left; right = g .right })
 
-run-goes : {lo ro : Bool} {readLeft readRight written : List ℕ} {v : Run} {leftInput rightInput leftStore rightStore out : List ℕ}
-    → Passed lo ro readLeft readRight written v leftInput rightInput leftStore rightStore out → v .«open» ≡ true → Goes v
-run-goes begins e = record { list = refl; left = refl; right = refl }
-run-goes (turned {v = v} {leftInput = leftInput} {rightInput = rightInput} {leftStore = leftStore} {rightStore = rightStore} {r = r} {leftInput′ = leftInput′} {rightInput′ = rightInput′} p o t) e =
-    step-goes v leftInput rightInput leftStore rightStore r leftInput′ rightInput′ (run-goes p o) (t .step) e
+run-goes : {lo ro : Bool} {from : At} → Starts lo ro from → {read : List ℕ × List ℕ} {written : List ℕ} {a : At} → Passed turning from read written a
+    → a .run .«open» ≡ true → Goes (a .run)
+run-goes e no-turn q = subst Goes (sym e) (record { list = refl; left = refl; right = refl })
+run-goes e (turned {a = a} {b = b} p o t) q =
+    step-goes (a .run) (a .leftInput) (a .rightInput) (a .leftStore) (a .rightStore) (b .run) (b .leftInput) (b .rightInput) (run-goes e p o) (t .step) q
 
 -- behind a write that failed
-failed-goes : {lo ro : Bool} {readLeft readRight written : List ℕ} {v : Run} {leftInput rightInput leftStore rightStore out : List ℕ}
-    → (p : Passed lo ro readLeft readRight written v leftInput rightInput leftStore rightStore out) → WriteFailed p → Goes v × (v .«open» ≡ false)
-failed-goes begins w = absurd w
-failed-goes (turned {v = v} {r = r} p o t) (f, e) = (flushed-goes v r f (run-goes p o), e)
+failed-goes : {lo ro : Bool} {from : At} → Starts lo ro from → {read : List ℕ × List ℕ} {written : List ℕ} {a : At} → (p : Passed turning from read written a)
+    → LastTurn turning WriteFailed p → Goes (a .run) × (a .run .«open» ≡ false)
+failed-goes e no-turn w = absurd w
+failed-goes e (turned {a = a} {b = b} p o t) (f, q) = (flushed-goes (a .run) (b .run) f (run-goes e p o), q)
 
 -- A WRITE THAT FAILED IS NOT TRIED AGAIN: nothing more is written, and the run says that not all was
 pub run-stops : {lo ro whole : Bool} {leftInput rightInput leftStore rightStore out : List ℕ} (e : Ended lo ro leftInput rightInput leftStore rightStore out whole)
-    → WriteFailed (e .passed) → (e .after ≡ e .before) × (whole ≡ false)
-run-stops {whole = whole} e w = go (failed-goes (e .passed) w) (e .closed)
+    → LastTurn turning WriteFailed (e .passed) → (e .after ≡ e .before) × (whole ≡ false)
+run-stops {whole = whole} e w = go (failed-goes (e .starts) (e .passed) w) (e .closed)
   where
     go : Goes (e .before) × (e .before .«open» ≡ false) → Closed (e .before) (e .after) → (e .after ≡ e .before) × (whole ≡ false)
     go (g, o) (turns.stuck s is) = (is, e .answer ∙ ap isWhole is ∙ ap (λ (b : Bool). b && eqb (e .before .filled) 0) (g .list))

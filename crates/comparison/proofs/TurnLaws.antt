@@ -13,8 +13,8 @@ use Rattle.diff.specs.Text.{diffText}
 use Rattle.diff.proofs.TextLaws.{text-append}
 use Rattle.side_by_side.specs.Rest.{restOf, linesFrom, recordLinesFrom}
 use Rattle.diff_lines.specs.Places.{placeLines}
-use Rattle.program.specs.declared.buffers.Buffers.{Buffers}
-use Rattle.program.specs.Buffers.{Flushed, begun}
+use Rattle.run.specs.declared.buffers.Buffers.{Buffers}
+use Rattle.run.specs.Buffers.{Flushed, begun}
 use Rattle.anf.specs.File.{FileRead}
 use Rattle.side.specs.declared.Side.{Side}
 use Rattle.side.specs.declared.Standing.{Standing as Held}

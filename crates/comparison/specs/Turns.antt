@@ -4,7 +4,7 @@
 use mathlib.Core.Path.{_≡_}
 use mathlib.Core.Bool.{Bool, true, false, not, _&&_, _||_}
 use mathlib.Core.List.{List, [], _++_}
-use Prim.Native.Nat.{ℕ, _+_, _-_, _*_, _^_, _<_, _≤_, min}
+use Prim.Native.Nat.{ℕ, _+_, _-_, _*_, _<_, _≤_, min}
 use lib.Dec.{eqb}
 use lib.ListN.{length, take, drop}
 use Rattle.wire.specs.Anc.{Record, Each}
@@ -18,8 +18,9 @@ use Rattle.diff_lines.specs.Room.{lineRoom}
 use Rattle.diff_lines.specs.declared.place.Found.{Found}
 use Rattle.diff_lines.specs.declared.place.Place.{Place}
 use Rattle.diff_lines.specs.declared.place.Place.the-variants as place
-use Rattle.program.specs.declared.buffers.Buffers.{Buffers}
-use Rattle.program.specs.Buffers.{Begins, Flushed, begun}
+use Rattle.run.specs.declared.buffers.Buffers.{Buffers}
+use Rattle.run.specs.Buffers.{Begins, Flushed, begun}
+use Rattle.run.specs.Turns.{Passed, Turning, maxTurns, turnsOf}
 use Rattle.side.specs.declared.Side.{Side}
 use Rattle.side.specs.Side as side
 use Rattle.side.specs.Side.{HeldReachable, InSide, MayCome, Short, StandsAs, isReading, nextSide, opened, placeOf, readIn, unscanned, windowSize}
@@ -208,29 +209,38 @@ StillTurned v leftStore rightStore out r out′ =
     (leftInput rightInput : List ℕ) → Bounds v (length leftInput) (length rightInput) (length out)
     → Turned v leftInput rightInput leftStore rightStore out r leftInput rightInput leftStore rightStore out′
 
--- A RUN, turn by turn, with the pieces read of either file and the texts written so far, each joined
-pub data Passed (leftOpen rightOpen : Bool) : (readLeft readRight written : List ℕ) (v : Run) (leftInput rightInput leftStore rightStore out : List ℕ) → Type 0 where
-  begins : {leftInput rightInput leftStore rightStore out : List ℕ} → Passed leftOpen rightOpen [] [] [] (started (opened leftOpen) (opened rightOpen)) leftInput rightInput leftStore rightStore out
-  turned : {readLeft readRight written : List ℕ} {v : Run} {leftInput rightInput leftStore rightStore out : List ℕ} {r : Run} {leftInput′ rightInput′ leftStore′ rightStore′ out′ : List ℕ}
-      → Passed leftOpen rightOpen readLeft readRight written v leftInput rightInput leftStore rightStore out → v .«open» ≡ true
-      → Turned v leftInput rightInput leftStore rightStore out r leftInput′ rightInput′ leftStore′ rightStore′ out′
-      → Passed leftOpen rightOpen (readLeft ++ readIn (v .left) (r .left) leftInput′) (readRight ++ readIn (v .right) (r .right) rightInput′) (written ++ writtenIn v r out) r leftInput′ rightInput′ leftStore′ rightStore′ out′
+-- WHERE THE PROGRAM STANDS between two turns: what it carries, and what its buffers hold
+pub record At : Type 0 where
+  pub run : Run
+  pub leftInput : List ℕ
+  pub rightInput : List ℕ
+  pub leftStore : List ℕ
+  pub rightStore : List ℕ
+  pub out : List ℕ
 
--- the turns that were made
-abbrev pub turnsOf : {leftOpen rightOpen : Bool} {readLeft readRight written : List ℕ} {v : Run} {leftInput rightInput leftStore rightStore out : List ℕ}
-    → Passed leftOpen rightOpen readLeft readRight written v leftInput rightInput leftStore rightStore out → ℕ
-turnsOf begins = 0
-turnsOf (turned p o t) = turnsOf p + 1
+abbrev pub at : Run → (leftInput rightInput leftStore rightStore out : List ℕ) → At
+at v leftInput rightInput leftStore rightStore out =
+    record { run = v; leftInput = leftInput; rightInput = rightInput; leftStore = leftStore; rightStore = rightStore; out = out }
 
--- and the most that are: a proved loop ends, and nothing says that a file does
-abbrev pub maxTurns : ℕ
-maxTurns = 2 ^ 64 - 1
+-- A PROGRAM IN TURNS, which reads two files
+abbrev pub turning : Turning
+turning =
+    record {
+      Read = List ℕ × List ℕ;
+      none = ([], []);
+      join = λ (r g : List ℕ × List ℕ). (r .0 ++ g .0, r .1 ++ g .1);
+      At = At;
+      isOpen = λ (a : At). a .run .«open»;
+      Turn =
+          λ (a b : At). Turned (a .run) (a .leftInput) (a .rightInput) (a .leftStore) (a .rightStore) (a .out)
+          (b .run) (b .leftInput) (b .rightInput) (b .leftStore) (b .rightStore) (b .out);
+      readIn = λ (a b : At). (readIn (a .run .left) (b .run .left) (b .leftInput), readIn (a .run .right) (b .run .right) (b .rightInput));
+      writtenIn = λ (a b : At). writtenIn (a .run) (b .run) (a .out);
+    }
 
--- the last turn was a write that failed
-abbrev pub WriteFailed : {leftOpen rightOpen : Bool} {readLeft readRight written : List ℕ} {v : Run} {leftInput rightInput leftStore rightStore out : List ℕ}
-    → Passed leftOpen rightOpen readLeft readRight written v leftInput rightInput leftStore rightStore out → Type 0
-WriteFailed begins = ⊥
-WriteFailed (turned {v = v} {r = r} p o t) = RunFlushed v r × (r .«open» ≡ false)
+-- a write that failed
+abbrev pub WriteFailed : (before after : At) → Type 0
+WriteFailed a b = RunFlushed (a .run) (b .run) × (b .run .«open» ≡ false)
 
 -- the list has ended, and no text waits: none whose write failed
 abbrev pub isWhole : Run → Bool
@@ -255,15 +265,17 @@ pub data Closed (v r : Run) : Type 0 where
 -- THE WHOLE RUN, which leaves these octets, cells and texts in the buffers. It goes on until the list ends, a read or a write fails, or no turn is left.
 -- What was written is what the output for the two files begins with, whatever is still to come of them; and where all was written, it is the output
 pub record Ended (leftOpen rightOpen : Bool) (leftInput rightInput leftStore rightStore out : List ℕ) (whole : Bool) : Type 0 where
+  pub from : At
+  pub starts : from .run ≡ started (opened leftOpen) (opened rightOpen)
   pub readLeft : List ℕ
   pub readRight : List ℕ
   pub written : List ℕ
   pub before : Run
-  pub passed : Passed leftOpen rightOpen readLeft readRight written before leftInput rightInput leftStore rightStore out
+  pub passed : Passed turning from (readLeft, readRight) written (at before leftInput rightInput leftStore rightStore out)
   pub after : Run
   pub closed : Closed before after
   pub answer : whole ≡ isWhole after
-  pub ends : before .«open» ≡ true → turnsOf passed ≡ maxTurns
+  pub ends : before .«open» ≡ true → turnsOf turning passed ≡ maxTurns
   pub closes : before .«open» ≡ false → Closes before
   pub begins : (s t : List ℕ) → MayCome (before .left) s → MayCome (before .right) t
       → Begins (comparison (readLeft ++ s) (readRight ++ t)) (written ++ writtenIn before after out)

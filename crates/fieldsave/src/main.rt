@@ -13,9 +13,9 @@ use filing_turns::start;
 use filing_turns::turn;
 use frames::MAX_FRAME;
 use libc::STDERR_FILENO;
-use program::buffers::Buffers;
 use program::buffers::is_done;
 use program::buffers::silent_turns_left;
+use run::buffers::Buffers;
 use wire::layout::Layout;
 use wire::limit::MAX_FIELD_CELLS;
 

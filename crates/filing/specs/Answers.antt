@@ -1,17 +1,13 @@
 -- What the code answers for a frame, and what it leaves in the octets that it is lent.
-use mathlib.Core.Bool.{Bool, true, false}
-use mathlib.Core.List.{List}
-use Prim.Native.Nat.{ℕ, _+_}
+use mathlib.Core.Bool.{Bool}
+use mathlib.Core.List.{List, []}
+use Prim.Native.Nat.{ℕ}
 use lib.Dec.{leb}
-use lib.ListN.{length}
 use Rattle.wire.specs.declared.written.Written.{Written}
 use Rattle.wire.specs.declared.written.Written.the-variants as written
-use Rattle.wire.specs.Bits.{overwrite}
-use Rattle.frames.specs.Frames.{Front, end, cut, frame, lengthSize}
+use Rattle.anf.specs.File.{fileHead, writtenVersion}
+use Rattle.run.specs.Frames.{FrameProgram}
 use Rattle.listing.specs.declared.session.Session.{Session}
-use Rattle.listing.specs.declared.session.Listed.{Listed}
-use Rattle.listing.specs.declared.session.Listed.the-variants as listed
-use Rattle.listing.specs.Answers.{roomTooSmall}
 use Rattle.listing.specs.Session.{turn}
 use Rattle.filing.specs.Filing.{fieldRoom, filed}
 
@@ -19,20 +15,17 @@ use Rattle.filing.specs.Filing.{fieldRoom, filed}
 abbrev pub roomy : (out : ℕ) → Bool
 roomy out = leb fieldRoom out
 
--- one frame, where there is room
-abbrev pub filedOf : Bool → Session → Front → List ℕ → Listed
-filedOf false s f store = listed.Refused roomTooSmall
-filedOf true s end store = listed.NoFrame
-filedOf true s cut store = listed.NoFrame
-filedOf true s (frame p rest) store =
-    listed.Frame (record { session = turn s p store .session; used = lengthSize + length p; length = length (filed s p store) })
-
--- the lent octets then: those of the field that the packet completes are at their front
-abbrev pub outAfter : Bool → Session → Front → List ℕ → List ℕ → List ℕ
-outAfter false s f store out = out
-outAfter true s end store out = out
-outAfter true s cut store out = out
-outAfter true s (frame p rest) store out = overwrite (filed s p store) out
+-- `fieldsave` AS A PROGRAM over frames: what is carried from packet to packet is the session and the store; there is nothing to write at the end
+abbrev pub fieldsave : FrameProgram
+fieldsave =
+    record {
+      State = Session × List ℕ;
+      room = λ (s : Session × List ℕ) (n : ℕ). roomy n;
+      first = fileHead writtenVersion;
+      text = λ (s : Session × List ℕ) (p : List ℕ). filed (s .0) p (s .1);
+      next = λ (s : Session × List ℕ) (p : List ℕ). (turn (s .0) p (s .1) .session, turn (s .0) p (s .1) .store);
+      last = λ (broken : Bool) (s : Session × List ℕ). [];
+    }
 
 -- the octets that a writer wrote
 abbrev pub octetsIn : Written → ℕ

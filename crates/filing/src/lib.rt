@@ -4,12 +4,13 @@
 ghost use mathlib.Core.Path.{_≡_};
 ghost use Prim.Native.Nat.{_≤_, min};
 ghost use lib.ListN.{length};
-ghost use Rattle.frames.specs.Frames.{front};
+ghost use Rattle.frames.specs.Frames.{maxFrame};
 ghost use Rattle.text.specs.Put.{Put};
 ghost use Rattle.anf.specs.File.{fieldsOctets, writtenVersion};
-ghost use Rattle.listing.specs.Answers.{ListedFits, storeAfter};
 ghost use Rattle.listing.specs.Session.{turn};
-ghost use Rattle.filing.specs.Answers.{filedOf, octetsIn, outAfter, roomy};
+ghost use Rattle.filing.specs.Answers.{fieldsave, octetsIn};
+ghost use Rattle.run.specs.Frames.{overFrames};
+ghost use Rattle.run.specs.Run.{Answers};
 ghost use Rattle.filing.specs.Filing.{fieldIn, fieldRoom, filed, handedBy};
 use anf::format::HEADER_SIZE_2;
 use depacketizer::state::Opened;
@@ -20,10 +21,10 @@ use frames::frame_at;
 use listing::session::Listed;
 use listing::session::Reply;
 use listing::session::Session;
-use listing::session::Turn;
 use listing::session::enter;
 use listing::session::layout_of;
 use rtp::check::check;
+use run::buffers::Step;
 use stream::state::Answer;
 use stream::state::Field;
 use wire::limit::MAX_FIELD_CELLS;
@@ -98,30 +99,38 @@ fn file_packet(session: Session, octets: &[u8], store: &mut [u16], out: &mut [u8
 
 // The frame at the front of the octets: its packet arrives, and the field that it completes goes to the first octets of `out`.
 pub fn file_frame(session: Session, octets: &[u8], store: &mut [u16], out: &mut [u8]) -> Listed
-    ensures { λ r. ⌜ r ≡ filedOf (roomy (length (now (out .entry)))) session (front (now (octets .entry))) (now (store .entry)) ⌝ }
-    ensures { λ r. ⌜ now (store .exit) ≡ storeAfter (roomy (length (now (out .entry)))) session (front (now (octets .entry))) (now (store .entry)) ⌝ }
-    ensures { λ r. ⌜ now (out .exit) ≡ outAfter (roomy (length (now (out .entry)))) session (front (now (octets .entry))) (now (store .entry)) (now (out .entry)) ⌝ }
-    ensures { λ r. ⌜ ListedFits r (length (now (octets .entry))) (length (now (out .entry))) ⌝ }
+    ensures { λ r. ⌜ Answers (overFrames fieldsave) maxFrame (session, now (store .entry)) (now (octets .entry)) (now (out .entry)) (r .step) (r .session, now (store .exit)) (now (out .exit)) ⌝ }
 {
     if out.len() < FIELD_ROOM {
-        return Listed::Refused(Refusal {
-            number: Refusal::ROOM_TOO_SMALL,
-            index: 0,
-        });
+        return Listed {
+            session,
+            step: Step::Refused(Refusal {
+                number: Refusal::ROOM_TOO_SMALL,
+                index: 0,
+            }),
+        };
     }
     let front = frame_at(octets);
     match front {
-        Front::End => Listed::NoFrame,
-        Front::Cut => Listed::NoFrame,
+        Front::End => Listed {
+            session,
+            step: Step::Short,
+        },
+        Front::Cut => Listed {
+            session,
+            step: Step::Short,
+        },
         Front::Packet(size) => {
             let end = LENGTH_SIZE + size;
             let reply = file_packet(session, &octets[LENGTH_SIZE..end], store, out);
             let next = reply.session;
-            Listed::Frame(Turn {
+            Listed {
                 session: next,
-                used: end,
-                length: reply.length,
-            })
+                step: Step::Taken {
+                    used: end,
+                    length: reply.length,
+                },
+            }
         }
     }
 }

@@ -3,18 +3,15 @@
 ghost use Prim.Native.Nat.{_≤_};
 ghost use lib.ListN.{length};
 ghost use Rattle.filing.specs.Filing.{fieldRoom};
-ghost use Rattle.program.specs.Buffers.{InBounds};
-ghost use Rattle.program.specs.Run.{Turned};
-ghost use Rattle.filing_turns.specs.Turns.{Enough, Started, fieldsave};
+ghost use Rattle.run.specs.Buffers.{InBounds};
+ghost use Rattle.run.specs.Run.{Turned, at};
+ghost use Rattle.filing_turns.specs.Turns.{Enough, Started, program};
 use fieldfile_writer::begin;
 use filing::file_frame;
 use filing::octets_of;
-use listing::session::Listed;
 use listing::session::Session;
-use program::buffers::Buffers;
-use program::buffers::advance;
-use program::buffers::flush_to;
-use program::buffers::refill_to;
+use program::buffers::after_step;
+use run::buffers::Buffers;
 use wire::layout::Layout;
 
 // The session, and what it left in the buffers.
@@ -27,7 +24,7 @@ pub struct Run {
 pub fn turn(fd: i32, to: i32, run: Run, input: &mut [u8], store: &mut [u16], out: &mut [u8]) -> Run
     requires { ⌜ InBounds (run .buffers) (length (now input)) (length (now out)) ⌝ }
     requires { ⌜ Enough (length (now input)) (length (now store)) (length (now out)) ⌝ }
-    ensures { λ r. ⌜ Turned fieldsave (run .session, now (store .entry)) (run .buffers) (now (input .entry)) (now (out .entry)) (r .session, now (store .exit)) (r .buffers) (now (input .exit)) (now (out .exit)) ⌝ }
+    ensures { λ r. ⌜ Turned program (at (run .session, now (store .entry)) (run .buffers) (now (input .entry)) (now (out .entry))) (at (r .session, now (store .exit)) (r .buffers) (now (input .exit)) (now (out .exit))) ⌝ }
 {
     let session = run.session;
     let buffers = run.buffers;
@@ -35,22 +32,11 @@ pub fn turn(fd: i32, to: i32, run: Run, input: &mut [u8], store: &mut [u16], out
     let end = buffers.end;
     let filled = buffers.filled;
     let filed = file_frame(session, &input[at..end], store, &mut out[filled..]);
-    match filed {
-        Listed::Frame(turn) => {
-            let next = turn.session;
-            Run {
-                session: next,
-                buffers: advance(buffers, turn.used, turn.length),
-            }
-        }
-        Listed::NoFrame => Run {
-            session,
-            buffers: refill_to(fd, to, buffers, input, out),
-        },
-        Listed::Refused(_) => Run {
-            session,
-            buffers: flush_to(to, buffers, out),
-        },
+    let next = filed.session;
+    let step = filed.step;
+    Run {
+        session: next,
+        buffers: after_step(fd, to, buffers, step, input, out),
     }
 }
 

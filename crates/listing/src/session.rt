@@ -7,9 +7,11 @@ ghost use lib.ListN.{length};
 ghost use Rattle.wire.specs.Packet.{readContent};
 ghost use Rattle.rtp.specs.Answers.{checkedOf};
 ghost use Rattle.text.specs.Put.{Put};
-ghost use Rattle.listing.specs.Answers.{ListedFits, TextFits, listedOf, openedRefusal, outAfter, storeAfter, textAfter, textOf};
+ghost use Rattle.listing.specs.Answers.{TextFits, fieldlist, openedRefusal, textAfter, textOf};
+ghost use Rattle.run.specs.Frames.{overFrames};
+ghost use Rattle.run.specs.Run.{Answers};
 ghost use Rattle.frames.specs.Answers.{isCut};
-ghost use Rattle.frames.specs.Frames.{front, isBroken};
+ghost use Rattle.frames.specs.Frames.{front, isBroken, maxFrame};
 ghost use Rattle.lines.specs.Room.{countsRoom, lineRoom, roomy};
 ghost use Rattle.record_lines.specs.Records.{cellRoom};
 ghost use Rattle.listing.specs.Session as listing;
@@ -24,6 +26,7 @@ use lines::put_refused;
 use rtp::check::check;
 use rtp::check::summary_at;
 use rtp::packet::Checked;
+use run::buffers::Step;
 use text::put;
 use wire::layout::Layout;
 use wire::limit::MAX_FIELD_CELLS;
@@ -43,18 +46,10 @@ pub enum Session {
     Open(Layout, Depacketizer),
 }
 
-// What a frame gave: the session then, the octets of the frame and of the text.
-pub struct Turn {
+// What is answered for the frame at the front, and the session then.
+pub struct Listed {
     pub session: Session,
-    pub used: usize,
-    pub length: usize,
-}
-
-pub enum Listed {
-    Frame(Turn),
-    // No whole frame stands at the front.
-    NoFrame,
-    Refused(Refusal),
+    pub step: Step,
 }
 
 pub enum Text {
@@ -167,30 +162,38 @@ fn is_roomy(cells: usize, octets: usize) -> bool
 
 // The frame at the front of the octets: its packet arrives, and its text goes to the first octets of `out`.
 pub fn list_frame(session: Session, octets: &[u8], store: &mut [u16], out: &mut [u8]) -> Listed
-    ensures { λ r. ⌜ r ≡ listedOf (roomy (length (now (store .entry))) (length (now (out .entry)))) session (front (now (octets .entry))) (now (store .entry)) ⌝ }
-    ensures { λ r. ⌜ now (store .exit) ≡ storeAfter (roomy (length (now (store .entry))) (length (now (out .entry)))) session (front (now (octets .entry))) (now (store .entry)) ⌝ }
-    ensures { λ r. ⌜ now (out .exit) ≡ outAfter (roomy (length (now (store .entry))) (length (now (out .entry)))) session (front (now (octets .entry))) (now (store .entry)) (now (out .entry)) ⌝ }
-    ensures { λ r. ⌜ ListedFits r (length (now (octets .entry))) (length (now (out .entry))) ⌝ }
+    ensures { λ r. ⌜ Answers (overFrames fieldlist) maxFrame (session, now (store .entry)) (now (octets .entry)) (now (out .entry)) (r .step) (r .session, now (store .exit)) (now (out .exit)) ⌝ }
 {
     if !is_roomy(store.len(), out.len()) {
-        return Listed::Refused(Refusal {
-            number: Refusal::ROOM_TOO_SMALL,
-            index: 0,
-        });
+        return Listed {
+            session,
+            step: Step::Refused(Refusal {
+                number: Refusal::ROOM_TOO_SMALL,
+                index: 0,
+            }),
+        };
     }
     let front = frame_at(octets);
     match front {
-        Front::End => Listed::NoFrame,
-        Front::Cut => Listed::NoFrame,
+        Front::End => Listed {
+            session,
+            step: Step::Short,
+        },
+        Front::Cut => Listed {
+            session,
+            step: Step::Short,
+        },
         Front::Packet(size) => {
             let end = LENGTH_SIZE + size;
             let reply = list_packet(session, &octets[LENGTH_SIZE..end], store, out);
             let next = reply.session;
-            Listed::Frame(Turn {
+            Listed {
                 session: next,
-                used: end,
-                length: reply.length,
-            })
+                step: Step::Taken {
+                    used: end,
+                    length: reply.length,
+                },
+            }
         }
     }
 }

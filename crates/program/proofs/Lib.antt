@@ -1,3 +1,1 @@
-pub mod BufferLaws
-pub mod FrameLaws
-pub mod RunLaws
+pub mod ReadLaws

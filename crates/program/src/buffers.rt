@@ -1,30 +1,19 @@
-// What a program does between two frames: it writes the text that waits, and reads more behind what is left. Each function asks that places lie within
+// What a program does between two items: it writes the text that waits, and reads more behind what is left. Each function asks that places lie within
 // the buffers.
 ghost use Prim.Native.Nat.{_+_, _-_, _^_, _<_, _≤_};
 ghost use mathlib.Core.Bool.{cond};
 ghost use mathlib.Core.Path.{_≡_};
 ghost use lib.ListN.{length};
-ghost use Rattle.program.specs.Buffers.{Flushed, InBounds, Interrupted, ReadMore, Refilled, WrittenOf, advanced, begun, ended, isDone};
+ghost use Rattle.run.specs.Buffers.{Flushed, InBounds, Interrupted, ReadMore, Refilled, WrittenOf, advanced, begun, ended, isDone};
+ghost use Rattle.run.specs.Run.{CanStep, Stepped};
 use crate::progress::end;
 use crate::progress::show;
 use frames::move_to_front;
 use libc::EINTR;
 use libc::STDOUT_FILENO;
-
-// The octets from `at` to `end` of the input are still to be used, and the first `filled` of the text to be written.
-pub struct Buffers {
-    pub at: usize,
-    pub end: usize,
-    pub filled: usize,
-    // Whether there may be more.
-    pub open: bool,
-}
-
-// All of so many octets were written, or a write failed.
-pub enum Written {
-    All(usize),
-    Failed,
-}
+use run::buffers::Buffers;
+use run::buffers::Step;
+use run::buffers::Written;
 
 // Nothing is read; so much text is to be written.
 pub fn begin(filled: usize) -> Buffers
@@ -35,11 +24,12 @@ pub fn begin(filled: usize) -> Buffers
         end: 0,
         filled,
         open: true,
+        failed: false,
     }
 }
 
-// Behind a frame that was used, with its text.
-pub fn advance(buffers: Buffers, used: usize, length: usize) -> Buffers
+// Behind an item that was used, with its text.
+fn advance(buffers: Buffers, used: usize, length: usize) -> Buffers
     requires { ⌜ (buffers .at + used ≤ buffers .end) × (buffers .filled + length < 2 ^ 64) ⌝ }
     ensures { λ r. ⌜ r ≡ advanced buffers used length ⌝ }
 {
@@ -48,10 +38,11 @@ pub fn advance(buffers: Buffers, used: usize, length: usize) -> Buffers
         end: buffers.end,
         filled: buffers.filled + length,
         open: true,
+        failed: false,
     }
 }
 
-// The input has ended; so much text is to be written.
+// Nothing more is to come; so much text is to be written.
 pub fn finish(buffers: Buffers, filled: usize) -> Buffers
     ensures { λ r. ⌜ r ≡ ended buffers filled ⌝ }
 {
@@ -60,6 +51,7 @@ pub fn finish(buffers: Buffers, filled: usize) -> Buffers
         end: buffers.end,
         filled,
         open: false,
+        failed: buffers.failed,
     }
 }
 
@@ -89,12 +81,14 @@ pub fn flush_to(to: i32, buffers: Buffers, out: &[u8]) -> Buffers
             end,
             filled: filled - n,
             open: buffers.open,
+            failed: buffers.failed,
         },
         Written::Failed => Buffers {
             at,
             end,
             filled,
             open: false,
+            failed: true,
         },
     }
 }
@@ -139,11 +133,12 @@ fn read_more(fd: i32, buffers: Buffers, input: &mut [u8]) -> Buffers
         end: rest + n,
         filled: buffers.filled,
         open: (n > 0) | interrupted,
+        failed: (got < 0) & !interrupted,
     }
 }
 
 // Writes first, so that nothing waits for more input.
-pub fn refill_to(fd: i32, to: i32, buffers: Buffers, input: &mut [u8], out: &[u8]) -> Buffers
+fn refill_to(fd: i32, to: i32, buffers: Buffers, input: &mut [u8], out: &[u8]) -> Buffers
     requires { ⌜ InBounds buffers (length (now input)) (length (now out)) ⌝ }
     requires { ⌜ buffers .end - buffers .at < length (now input) ⌝ }
     ensures { λ r. ⌜ Refilled buffers (now (input .entry)) r (now (input .exit)) ⌝ }
@@ -156,20 +151,41 @@ pub fn refill_to(fd: i32, to: i32, buffers: Buffers, input: &mut [u8], out: &[u8
     read_more(fd, flushed, input)
 }
 
-pub fn refill(fd: i32, buffers: Buffers, input: &mut [u8], out: &[u8]) -> Buffers
+// What is done with an answer: an item's text waits, and the item is used; what waits is written, and more is read; or it is written, and the run goes on
+// where there was no room, or else ends.
+pub fn after_step(
+    fd: i32,
+    to: i32,
+    buffers: Buffers,
+    step: Step,
+    input: &mut [u8],
+    out: &[u8],
+) -> Buffers
     requires { ⌜ InBounds buffers (length (now input)) (length (now out)) ⌝ }
-    requires { ⌜ buffers .end - buffers .at < length (now input) ⌝ }
-    ensures { λ r. ⌜ Refilled buffers (now (input .entry)) r (now (input .exit)) ⌝ }
+    requires { ⌜ CanStep step buffers (length (now input)) (length (now out)) ⌝ }
+    ensures { λ r. ⌜ Stepped step buffers (now (input .entry)) r (now (input .exit)) ⌝ }
 {
-    refill_to(fd, STDOUT_FILENO, buffers, input, out)
+    match step {
+        Step::Short => refill_to(fd, to, buffers, input, out),
+        Step::Taken { used, length } => advance(buffers, used, length),
+        Step::Over => {
+            let filled = buffers.filled;
+            flush_to(to, finish(buffers, filled), out)
+        }
+        Step::Refused(_) => flush_to(to, buffers, out),
+    }
 }
 
-// Whether the input has ended and all text is written.
+// Whether the input has ended, nothing failed and all text is written.
 pub fn is_done(buffers: Buffers) -> bool
     ensures { λ r. ⌜ r ≡ isDone buffers ⌝ }
 {
     let open = buffers.open;
     if open {
+        return false;
+    }
+    let failed = buffers.failed;
+    if failed {
         return false;
     }
     buffers.filled == 0

@@ -1,11 +1,11 @@
 -- THE PROGRAM'S LOOP: what is printed for an input, frame by frame, whatever part of it has been read.
 -- `check_frame` and `finish` promise the texts on the right.
 use mathlib.Core.Path.{_≡_, ap, sym, _∙_}
-use mathlib.Core.Bool.{true}
+use mathlib.Core.Bool.{true, _&&_}
 use mathlib.Core.List.{List, _++_}
-use Prim.Native.Nat.{ℕ, suc, _+_, _≤_}
-use borrow.Author.Tests.{leb-true}
-use lib.Dec.{leb}
+use Prim.Native.Nat.{ℕ, suc, _+_, _-_, _^_, _<_, _≤_}
+use borrow.Author.Tests.{leb-true, ltb-true}
+use lib.Dec.{leb, ltb}
 use native.Mathlib.Numerals.{add-one}
 use Rattle.wire.specs.Packet.{maxPacket}
 use Rattle.wire.proofs.ResultLaws.{and-true}
@@ -32,9 +32,9 @@ pub last-line-is : (s : Session) (left : List ℕ) → ((p rest : List ℕ) → 
     → remaining s left ≡ cutText (isBroken (front left)) (s .index)
 last-line-is s left h = last-line (s .layout) (s .index) (s .checker) left h ∙ cut-text (isBroken (front left)) (s .index)
 
--- room for any packet's records and for its lines
-pub has-room : (cells out : ℕ) → roomy cells out ≡ true → (maxPacket ≤ cells) × (linesRoom ≤ out)
-unfolding roomy
-has-room cells out e =
-    let h = and-true (leb maxPacket cells) (leb linesRoom out) e in
-    (leb-true maxPacket cells (h .0), leb-true linesRoom out (h .1))
+-- room for any packet's records and for its lines, and the frame can be counted
+pub has-room : (cells out index : ℕ) → roomy (leb maxPacket cells) out index ≡ true → (maxPacket ≤ cells) × (linesRoom ≤ out) × (index < 2 ^ 64 - 1)
+has-room cells out index e =
+    let h = and-true (leb maxPacket cells) (leb linesRoom out && ltb index (2 ^ 64 - 1)) e in
+    let l = and-true (leb linesRoom out) (ltb index (2 ^ 64 - 1)) (h .1) in
+    (leb-true maxPacket cells (h .0), leb-true linesRoom out (l .0), ltb-true index (2 ^ 64 - 1) (l .1))

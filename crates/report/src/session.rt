@@ -1,5 +1,5 @@
 // A session: frames in order, what is carried from packet to packet, and the lines of each.
-ghost use Prim.Native.Nat.{_≤_};
+ghost use Prim.Native.Nat.{_+_, _^_, _<_, _≤_};
 ghost use mathlib.Core.Path.{_≡_};
 ghost use lib.Dec.{leb};
 ghost use lib.ListN.{length};
@@ -7,10 +7,12 @@ ghost use Rattle.wire.specs.Packet.{maxPacket, readContent};
 ghost use Rattle.rtp.specs.Answers.{cellsAfter};
 ghost use Rattle.text.specs.Put.{Put};
 ghost use Rattle.frames.specs.Answers.{isCut};
-ghost use Rattle.frames.specs.Frames.{front, isBroken};
+ghost use Rattle.frames.specs.Frames.{front, isBroken, maxFrame};
 ghost use Rattle.conformance.specs.Code.{turn};
 ghost use Rattle.report_lines.specs.Lines.{cutText, linesRoom};
-ghost use Rattle.report.specs.Answers.{ReportedFits, TextFits, begun, cellsThen, outThen, packetText, reportedOf, roomy, textAfter, textOf};
+ghost use Rattle.report.specs.Answers.{TextFits, begun, cellsThen, counted, packetText, roomy, streamcheck, textAfter, textOf};
+ghost use Rattle.run.specs.Frames.{overFrames};
+ghost use Rattle.run.specs.Run.{Answers};
 use checker::packet::check_packet;
 use checker::step::open;
 use conformance::checker::Checker;
@@ -19,6 +21,7 @@ use frames::LENGTH_SIZE;
 use frames::frame_at;
 use report_lines::put_if;
 use report_lines::put_outcome;
+use run::buffers::Step;
 use wire::layout::Layout;
 use wire::limit::MAX_PACKET;
 use wire::refusal::Refusal;
@@ -33,18 +36,10 @@ pub struct Session {
     pub checker: Checker,
 }
 
-// What a frame gave: the state behind its packet, the octets of the frame and of its lines.
-pub struct Turn {
-    pub checker: Checker,
-    pub used: usize,
-    pub length: usize,
-}
-
-pub enum Reported {
-    Frame(Turn),
-    // No whole frame stands at the front.
-    NoFrame,
-    Refused(Refusal),
+// What is answered for the frame at the front, and the session then.
+pub struct Reported {
+    pub session: Session,
+    pub step: Step,
 }
 
 pub enum Text {
@@ -69,10 +64,11 @@ pub fn begin(layout: Layout) -> Session
     }
 }
 
-fn is_roomy(cells: usize, octets: usize) -> bool
-    ensures { λ r. ⌜ r ≡ roomy cells octets ⌝ }
+// Whether there is room for any packet's records and its lines, and the frame can be counted.
+fn is_roomy(cells: usize, octets: usize, index: u64) -> bool
+    ensures { λ r. ⌜ r ≡ roomy (leb maxPacket cells) octets index ⌝ }
 {
-    (MAX_PACKET <= cells) & (LINES_ROOM <= octets)
+    (MAX_PACKET <= cells) & ((LINES_ROOM <= octets) & (index < u64::MAX))
 }
 
 fn report_packet(session: Session, octets: &[u8], cells: &mut [u16], out: &mut [u8]) -> Reply
@@ -93,32 +89,54 @@ fn report_packet(session: Session, octets: &[u8], cells: &mut [u16], out: &mut [
     }
 }
 
+// Behind a frame.
+fn count(session: Session, checker: Checker) -> Session
+    requires { ⌜ session .index + 1 < 2 ^ 64 ⌝ }
+    ensures { λ r. ⌜ r ≡ counted session checker ⌝ }
+{
+    let layout = session.layout;
+    Session {
+        layout,
+        index: session.index + 1,
+        checker,
+    }
+}
+
 // The frame at the front of the octets: its packet is checked, and its lines go to the first octets of `out`.
 pub fn check_frame(session: Session, octets: &[u8], cells: &mut [u16], out: &mut [u8]) -> Reported
-    ensures { λ r. ⌜ r ≡ reportedOf (roomy (length (now (cells .entry))) (length (now (out .entry)))) session (front (now (octets .entry))) ⌝ }
-    ensures { λ r. ⌜ now (cells .exit) ≡ cellsThen (roomy (length (now (cells .entry))) (length (now (out .entry)))) session (front (now (octets .entry))) (now (cells .entry)) ⌝ }
-    ensures { λ r. ⌜ now (out .exit) ≡ outThen (roomy (length (now (cells .entry))) (length (now (out .entry)))) session (front (now (octets .entry))) (now (out .entry)) ⌝ }
-    ensures { λ r. ⌜ ReportedFits r (length (now (octets .entry))) (length (now (out .entry))) ⌝ }
+    ensures { λ r. ⌜ Answers (overFrames (streamcheck (leb maxPacket (length (now (cells .entry)))))) maxFrame session (now (octets .entry)) (now (out .entry)) (r .step) (r .session) (now (out .exit)) ⌝ }
+    ensures { λ r. ⌜ now (cells .exit) ≡ cellsThen (roomy (leb maxPacket (length (now (cells .entry)))) (length (now (out .entry))) (session .index)) session (front (now (octets .entry))) (now (cells .entry)) ⌝ }
 {
-    if !is_roomy(cells.len(), out.len()) {
-        return Reported::Refused(Refusal {
-            number: Refusal::ROOM_TOO_SMALL,
-            index: 0,
-        });
+    if !is_roomy(cells.len(), out.len(), session.index) {
+        return Reported {
+            session,
+            step: Step::Refused(Refusal {
+                number: Refusal::ROOM_TOO_SMALL,
+                index: 0,
+            }),
+        };
     }
     let front = frame_at(octets);
     match front {
-        Front::End => Reported::NoFrame,
-        Front::Cut => Reported::NoFrame,
+        Front::End => Reported {
+            session,
+            step: Step::Short,
+        },
+        Front::Cut => Reported {
+            session,
+            step: Step::Short,
+        },
         Front::Packet(size) => {
             let end = LENGTH_SIZE + size;
             let reply = report_packet(session, &octets[LENGTH_SIZE..end], cells, out);
             let next = reply.checker;
-            Reported::Frame(Turn {
-                checker: next,
-                used: end,
-                length: reply.length,
-            })
+            Reported {
+                session: count(session, next),
+                step: Step::Taken {
+                    used: end,
+                    length: reply.length,
+                },
+            }
         }
     }
 }

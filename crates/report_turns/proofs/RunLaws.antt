@@ -1,31 +1,33 @@
 -- THE WHOLE OUTPUT of `streamcheck` is the report on what was read.
--- It prints frame by frame, as any program over frames does (`program` `RunLaws`).
-use mathlib.Core.Path.{_≡_}
-use mathlib.Core.Bool.{Bool}
-use mathlib.Core.List.{List, []}
+-- It prints frame by frame, as any program over frames does (`run` `FrameLaws`, `RunLaws`).
+use mathlib.Core.Path.{_≡_, _∙_}
+use mathlib.Core.Bool.{Bool, true}
+use mathlib.Core.List.{List}
 use Prim.Native.Nat.{ℕ, _+_, _≤_}
 use native.Mathlib.Omega.{arith}
 use Rattle.wire.specs.Layout.{Layout}
-use Rattle.program.specs.declared.buffers.Buffers.{Buffers}
-use Rattle.program.specs.Buffers.{isDone}
-use Rattle.program.specs.Run as run
-use Rattle.program.specs.Run.{Closed, Passed, turnsOf}
-use Rattle.program.proofs.RunLaws.{Prints, Sofar, counts-turns, run-ended}
+use Rattle.run.specs.declared.buffers.Buffers.{Buffers}
+use Rattle.run.specs.Buffers.{isDone}
+use Rattle.run.specs.Run.{At, Closed, Ended, Started, turning}
+use Rattle.run.specs.Turns.{Passed, turnsOf}
+use Rattle.run.proofs.FrameLaws.{Prints, frame-counts, lawful, walk-is}
+use Rattle.run.proofs.RunLaws.{run-ended}
+use Rattle.run.proofs.TurnLaws.{Sofar, counts-turns}
 use Rattle.conformance.specs.Text.{streamText}
 use Rattle.conformance.proofs.StreamLaws.{whole-input}
 use Rattle.report.specs.declared.session.Session.{Session}
-use Rattle.report.specs.Answers.{begun, remaining}
+use Rattle.report.specs.Answers.{begun, remaining, streamcheck}
 use Rattle.report.proofs.SessionLaws.{next-lines, last-line-is}
-use Rattle.report_turns.specs.Turns.{streamcheck}
+use Rattle.report_turns.specs.Turns.{program}
 
-prints : Prints streamcheck remaining
+prints : Prints (streamcheck true) remaining
 prints = record { next = next-lines; last = last-line-is }
 
 -- the index is at most the turns that were made, and the index at the start
-pub index-made : {s₀ s : Session} {read written : List ℕ} {b : Buffers} {input out : List ℕ} (p : Passed streamcheck [] s₀ read written s b input out)
-    → s .index ≤ s₀ .index + turnsOf streamcheck p
-index-made p = counts-turns streamcheck (λ (v : Session). v .index) (λ v q. omega arith) p
+pub index-made : {from here : At Session} {read written : List ℕ} (p : Passed (turning program) from read written here)
+    → here .state .index ≤ from .state .index + turnsOf (turning program) p
+index-made p = counts-turns (turning program) (λ (a : At Session). a .state .index) (frame-counts (streamcheck true) (λ (v : Session). v .index) (λ v q. omega arith)) p
 
-pub ended : (L : Layout) {s : Session} {b : Buffers} {input out : List ℕ} {turns : ℕ} → Sofar streamcheck [] (begun L) s b input out turns → turns ≤ 0
-    → {r : Buffers} {out′ : List ℕ} → Closed streamcheck s b input out r out′ → {isWhole : Bool} → isWhole ≡ isDone r → run.Ended streamcheck (streamText L) [] (begun L) s out′ isWhole
-ended L = run-ended streamcheck remaining prints (streamText L) (whole-input L)
+pub ended : (L : Layout) {from here : At Session} {turns : ℕ} → Started program (begun L) from → Sofar (turning program) from here turns → turns ≤ 0
+    → {r : Buffers} {out′ : List ℕ} → Closed program here r out′ → {isWhole : Bool} → isWhole ≡ isDone r → Ended program (streamText L) (begun L) here out′ isWhole
+ended L = run-ended program (lawful (streamcheck true)) (streamText L) (λ l. whole-input L l ∙ walk-is (streamcheck true) remaining prints (begun L) l)

@@ -3,22 +3,20 @@
 ghost use Prim.Native.Nat.{_+_, _^_, _<_, _≤_};
 ghost use mathlib.Core.Path.{_≡_};
 ghost use lib.ListN.{length};
-ghost use Rattle.program.specs.Buffers.{InBounds};
-ghost use Rattle.program.specs.Run.{Closed, Turned};
+ghost use Rattle.run.specs.Buffers.{InBounds};
+ghost use Rattle.run.specs.Run.{Closed, Turned, at};
 ghost use Rattle.report_lines.specs.Lines.{linesRoom};
-ghost use Rattle.report_turns.specs.Turns.{Enough, counted, octetsOf, started, streamcheck};
-use conformance::checker::Checker;
-use program::buffers::Buffers;
-use program::buffers::advance;
+ghost use Rattle.report_turns.specs.Turns.{Enough, octetsOf, program, started};
+use libc::STDOUT_FILENO;
+use program::buffers::after_step;
 use program::buffers::flush;
 use program::buffers::is_done;
-use program::buffers::refill;
-use report::session::Reported;
 use report::session::Session;
 use report::session::Text;
 use report::session::begin;
 use report::session::check_frame;
 use report::session::finish;
+use run::buffers::Buffers;
 use wire::layout::Layout;
 
 // The session, and what it left in the buffers.
@@ -37,25 +35,12 @@ pub fn start(layout: Layout) -> Run
     }
 }
 
-// Behind a frame.
-fn count(session: Session, checker: Checker) -> Session
-    requires { ⌜ session .index + 1 < 2 ^ 64 ⌝ }
-    ensures { λ r. ⌜ r ≡ counted session checker ⌝ }
-{
-    let layout = session.layout;
-    Session {
-        layout,
-        index: session.index + 1,
-        checker,
-    }
-}
-
 // One frame, or what must be done before the next.
 pub fn turn(fd: i32, run: Run, input: &mut [u8], cells: &mut [u16], out: &mut [u8]) -> Run
     requires { ⌜ InBounds (run .buffers) (length (now input)) (length (now out)) ⌝ }
     requires { ⌜ Enough (length (now input)) (length (now cells)) (length (now out)) ⌝ }
     requires { ⌜ run .session .index + 1 < 2 ^ 64 ⌝ }
-    ensures { λ r. ⌜ Turned streamcheck (run .session) (run .buffers) (now (input .entry)) (now (out .entry)) (r .session) (r .buffers) (now (input .exit)) (now (out .exit)) ⌝ }
+    ensures { λ r. ⌜ Turned program (at (run .session) (run .buffers) (now (input .entry)) (now (out .entry))) (at (r .session) (r .buffers) (now (input .exit)) (now (out .exit))) ⌝ }
 {
     let session = run.session;
     let buffers = run.buffers;
@@ -63,22 +48,11 @@ pub fn turn(fd: i32, run: Run, input: &mut [u8], cells: &mut [u16], out: &mut [u
     let end = buffers.end;
     let filled = buffers.filled;
     let reported = check_frame(session, &input[at..end], cells, &mut out[filled..]);
-    match reported {
-        Reported::Frame(turn) => {
-            let checker = turn.checker;
-            Run {
-                session: count(session, checker),
-                buffers: advance(buffers, turn.used, turn.length),
-            }
-        }
-        Reported::NoFrame => Run {
-            session,
-            buffers: refill(fd, buffers, input, out),
-        },
-        Reported::Refused(_) => Run {
-            session,
-            buffers: flush(buffers, out),
-        },
+    let next = reported.session;
+    let step = reported.step;
+    Run {
+        session: next,
+        buffers: after_step(fd, STDOUT_FILENO, buffers, step, input, out),
     }
 }
 
@@ -95,7 +69,7 @@ fn octets_of(text: Text) -> usize
 pub fn close(run: Run, input: &[u8], out: &mut [u8]) -> Buffers
     requires { ⌜ InBounds (run .buffers) (length (now input)) (run .buffers .filled) ⌝ }
     requires { ⌜ linesRoom ≤ length (now out) ⌝ }
-    ensures { λ r. ⌜ Closed streamcheck (run .session) (run .buffers) (now (input .entry)) (now (out .entry)) r (now (out .exit)) ⌝ }
+    ensures { λ r. ⌜ Closed program (at (run .session) (run .buffers) (now (input .entry)) (now (out .entry))) r (now (out .exit)) ⌝ }
 {
     let session = run.session;
     let buffers = run.buffers;

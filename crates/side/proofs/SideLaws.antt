@@ -19,7 +19,7 @@ use Rattle.side_by_side.specs.Rest.{Standing, restOf}
 use Rattle.field_scan.specs.declared.state.State.{State}
 use Rattle.field_scan.specs.declared.state.State.the-variants as state
 use Rattle.field_scan.specs.Scan.{Reachable, scan, storeThen}
-use Rattle.program.proofs.BufferLaws.{length-here, part-behind}
+use Rattle.run.proofs.BufferLaws.{length-here, part-behind}
 use Rattle.side.specs.declared.Side.{Side}
 use Rattle.side.specs.declared.Standing.{Standing as Held}
 use Rattle.side.specs.declared.Standing.the-variants as held

@@ -25,7 +25,7 @@ use Rattle.field_scan.specs.declared.state.State.the-variants as state
 use Rattle.field_scan.specs.declared.state.Scanned.{Scanned}
 use Rattle.field_scan.specs.declared.state.Scanned.the-variants as scanned
 use Rattle.field_scan.specs.Scan.{Reachable, scan}
-use Rattle.program.specs.Buffers.{Begins, Count, Interrupted}
+use Rattle.run.specs.Buffers.{Begins, Count, Interrupted}
 use Rattle.side.specs.declared.Side.{Side}
 use Rattle.side.specs.declared.Standing.{Standing as Held}
 use Rattle.side.specs.declared.Standing.the-variants as held

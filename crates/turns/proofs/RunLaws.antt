@@ -1,20 +1,22 @@
 -- THE WHOLE OUTPUT of `fieldlist` is the listing of what was read.
--- It prints frame by frame, as any program over frames does (`program` `RunLaws`).
-use mathlib.Core.Path.{_≡_, refl}
+-- It prints frame by frame, as any program over frames does (`run` `FrameLaws`, `RunLaws`).
+use mathlib.Core.Path.{_≡_, ap}
 use mathlib.Core.Bool.{Bool}
-use mathlib.Core.List.{List}
+use mathlib.Core.List.{List, _++_}
 use Prim.Native.Nat.{ℕ, _≤_}
 use Rattle.wire.specs.Layout.{Layout}
-use Rattle.program.specs.declared.buffers.Buffers.{Buffers}
-use Rattle.program.specs.Buffers.{isDone}
-use Rattle.program.specs.Run as run
-use Rattle.program.specs.Run.{Closed}
-use Rattle.program.proofs.RunLaws.{Prints, Sofar, run-ended}
+use Rattle.run.specs.declared.buffers.Buffers.{Buffers}
+use Rattle.run.specs.Buffers.{isDone}
+use Rattle.run.specs.Run.{At, Closed, Ended, Started, turning}
+use Rattle.run.proofs.FrameLaws.{Prints, lawful, walk-is}
+use Rattle.run.proofs.RunLaws.{run-ended}
+use Rattle.run.proofs.TurnLaws.{Sofar}
 use Rattle.listing.specs.declared.session.Session.{Session}
 use Rattle.listing.specs.declared.session.Session.the-variants as session
+use Rattle.listing.specs.Answers.{fieldlist}
 use Rattle.listing.specs.Session.{title, remaining, listing}
 use Rattle.listing.proofs.StreamLaws.{next-frame, last-lines}
-use Rattle.turns.specs.Turns.{fieldlist}
+use Rattle.turns.specs.Turns.{program}
 
 -- what is printed for the rest of an input
 abbrev rest : Session × List ℕ → List ℕ → List ℕ
@@ -23,8 +25,9 @@ rest s input = remaining (s .0) (s .1) input
 prints : Prints fieldlist rest
 prints = record { next = λ s. next-frame (s .0) (s .1); last = λ s. last-lines (s .0) (s .1) }
 
-pub ended : (L : Layout) (store : List ℕ) {s : Session × List ℕ} {b : Buffers} {input out : List ℕ} {turns : ℕ} → Sofar fieldlist title (session.Waiting L, store) s b input out turns
-    → turns ≤ 0 → {r : Buffers} {out′ : List ℕ} → Closed fieldlist s b input out r out′ → {isWhole : Bool} → isWhole ≡ isDone r
-    → run.Ended fieldlist (listing L store) title (session.Waiting L, store) s out′ isWhole
+pub ended : (L : Layout) (store : List ℕ) {from here : At (Session × List ℕ)} {turns : ℕ} → Started program (session.Waiting L, store) from → Sofar (turning program) from here turns
+    → turns ≤ 0 → {r : Buffers} {out′ : List ℕ} → Closed program here r out′ → {isWhole : Bool} → isWhole ≡ isDone r
+    → Ended program (listing L store) (session.Waiting L, store) here out′ isWhole
 unfolding listing
-ended L store = run-ended fieldlist rest prints (listing L store) (λ l. refl)
+ended L store =
+    run-ended program (lawful fieldlist) (listing L store) (λ l. ap (λ (t : List ℕ). title ++ t) (walk-is fieldlist rest prints (session.Waiting L, store) l))

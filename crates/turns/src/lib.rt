@@ -4,20 +4,19 @@ ghost use Prim.Native.Nat.{_≤_};
 ghost use mathlib.Core.Path.{_≡_};
 ghost use lib.ListN.{length};
 ghost use Rattle.lines.specs.Room.{lineRoom};
-ghost use Rattle.program.specs.Buffers.{InBounds};
-ghost use Rattle.program.specs.Run.{Turned};
-ghost use Rattle.turns.specs.Turns.{Closes, Enough, Started, fieldlist, octetsOf};
-use listing::session::Listed;
+ghost use Rattle.run.specs.Buffers.{InBounds};
+ghost use Rattle.run.specs.Run.{Turned, at};
+ghost use Rattle.turns.specs.Turns.{Closes, Enough, Started, octetsOf, program};
+use libc::STDOUT_FILENO;
 use listing::session::Session;
 use listing::session::Text;
 use listing::session::begin;
 use listing::session::finish;
 use listing::session::list_frame;
-use program::buffers::Buffers;
-use program::buffers::advance;
+use program::buffers::after_step;
 use program::buffers::flush;
 use program::buffers::is_done;
-use program::buffers::refill;
+use run::buffers::Buffers;
 use wire::layout::Layout;
 
 // The session, and what it left in the buffers.
@@ -30,7 +29,7 @@ pub struct Run {
 pub fn turn(fd: i32, run: Run, input: &mut [u8], store: &mut [u16], out: &mut [u8]) -> Run
     requires { ⌜ InBounds (run .buffers) (length (now input)) (length (now out)) ⌝ }
     requires { ⌜ Enough (length (now input)) (length (now store)) (length (now out)) ⌝ }
-    ensures { λ r. ⌜ Turned fieldlist (run .session, now (store .entry)) (run .buffers) (now (input .entry)) (now (out .entry)) (r .session, now (store .exit)) (r .buffers) (now (input .exit)) (now (out .exit)) ⌝ }
+    ensures { λ r. ⌜ Turned program (at (run .session, now (store .entry)) (run .buffers) (now (input .entry)) (now (out .entry))) (at (r .session, now (store .exit)) (r .buffers) (now (input .exit)) (now (out .exit))) ⌝ }
 {
     let session = run.session;
     let buffers = run.buffers;
@@ -38,22 +37,11 @@ pub fn turn(fd: i32, run: Run, input: &mut [u8], store: &mut [u16], out: &mut [u
     let end = buffers.end;
     let filled = buffers.filled;
     let listed = list_frame(session, &input[at..end], store, &mut out[filled..]);
-    match listed {
-        Listed::Frame(turn) => {
-            let next = turn.session;
-            Run {
-                session: next,
-                buffers: advance(buffers, turn.used, turn.length),
-            }
-        }
-        Listed::NoFrame => Run {
-            session,
-            buffers: refill(fd, buffers, input, out),
-        },
-        Listed::Refused(_) => Run {
-            session,
-            buffers: flush(buffers, out),
-        },
+    let next = listed.session;
+    let step = listed.step;
+    Run {
+        session: next,
+        buffers: after_step(fd, STDOUT_FILENO, buffers, step, input, out),
     }
 }
 

@@ -1,7 +1,7 @@
 -- `pass` goes behind an item that is no packet.
 -- As it stands.
 use borrow.Author.Needs.{needs}
-use Rattle.capture_walk.specs.declared.session.Step.the-variants as step
+use Rattle.run.specs.declared.buffers.Step.the-variants as step
 use Rattle.capture_walk.specs.Session.{moved}
 use Rattle.capture_frames.proofs.pass.Statement.{statement}
 use Rattle.capture_frames.proofs.pass.Tie as tie

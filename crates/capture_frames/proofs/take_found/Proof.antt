@@ -9,7 +9,7 @@ use lib.ListN.{length, take, drop, length-drop}
 use lib.Seq.{length-take-le}
 use Rattle.datagram.specs.declared.answer.Found.{Found}
 use Rattle.datagram.specs.declared.answer.Found.the-variants as found
-use Rattle.capture_walk.specs.declared.session.Step.the-variants as step
+use Rattle.run.specs.declared.buffers.Step.the-variants as step
 use Rattle.capture_walk.specs.Session.{FoundFits, foundFront, outAfter, replyOf}
 use Rattle.capture_frames.proofs.take_found.Statement.{statement}
 use Rattle.capture_frames.proofs.take_found.Tie as tie

@@ -1,27 +1,38 @@
--- `take_item` takes the item at the front, unless the walk is over.
--- By where it stands.
+-- `take_item` takes the item at the front, unless the walk is over, where there is room for any frame.
+-- By the room, and by where it stands.
 use borrow.Author.Needs.{needs}
-use mathlib.Core.Path.{ap, sym, _∙_}
-use Rattle.walk.specs.Walk.{Front}
+use borrow.Author.Tests.{lt-leb}
+use mathlib.Core.Path.{refl, ap, sym, _∙_}
+use lib.ListN.{length}
+use Rattle.frames.specs.Frames.{maxFrame}
+use Rattle.run.specs.Walk.{Front}
+use Rattle.run.proofs.StepLaws.{no-room}
 use Rattle.capture_walk.specs.declared.session.Session.{Session}
-use Rattle.capture_walk.specs.Session.{outAfter, replyOf}
-use Rattle.capture_walk.proofs.SessionLaws.{front-open, front-refused}
+use Rattle.capture_walk.specs.Session.{frameWalk, outAfter, replyOf}
+use Rattle.capture_walk.proofs.SessionLaws.{answers, front-open, front-refused}
 use Rattle.capture_frames.proofs.take_item.Statement.{statement}
 use Rattle.capture_frames.proofs.take_item.Tie as tie
 
 returns : tie.Need-returns
-returns c =
-    let a = c .before .before .before .before .args in
-    let q = sym (front-refused (a .port) (a .session) (a .octets .now) _ (c .enum-told .given .1)) in
-    (ap (replyOf (a .session)) q, ap (λ (f : Front Session). outAfter f (a .out .now)) q)
+returns c = no-room (frameWalk (c .before .before .before .args .port)) (lt-leb maxFrame (length (c .before .before .before .args .out .now)) (c .if1 .taken))
+
+take-open-requires : tie.Need-take-open-requires
+take-open-requires c κs = (c .before .before .before .before .before .before .pre, c .before .before .before .if1 .left)
 
 returns-2 : tie.Need-returns-2
 returns-2 c =
-    let a = c .before .before .before .before .before .before .before .before .args in
+    let a = c .before .before .before .before .before .args in
+    let q = sym (front-refused (a .port) (a .session) (a .octets .now) _ (c .enum-told .given .1)) in
+    answers (a .port) (a .session) (a .octets .now) (a .out .now) (c .before .before .if1 .left) _ (ap (replyOf (a .session)) q) (a .out .now) (ap (λ (f : Front Session). outAfter f (a .out .now)) q) refl
+
+returns-3 : tie.Need-returns-3
+returns-3 c =
+    let a = c .before .before .before .before .before .before .before .before .before .args in
     let q = sym (front-open (a .port) (a .session) (a .octets .now) (c .before .before .before .before .enum-told2 .given .1)) in
-    (c .before .before .take-open .ensures .0 ∙ ap (replyOf (a .session)) q, c .before .before .take-open .ensures .1 ∙ ap (λ (f : Front Session). outAfter f (a .out .now)) q)
+    let y = c .before .before .take-open in
+    answers (a .port) (a .session) (a .octets .now) (a .out .now) (c .before .before .before .before .before .before .if1 .left) (y .result) (y .ensures .0 ∙ ap (replyOf (a .session)) q) (y .last .1 .1 .1 .0) (y .ensures .1 ∙ ap (λ (f : Front Session). outAfter f (a .out .now)) q) (c .before .out .given)
 
 pub take-item-spec : {M : Type 1} → statement M
 take-item-spec =
     tie.close
-    (tie.spec (λ c. search needs) (λ c. search needs) (λ c κs. search needs) returns (λ c. search needs) returns-2)
+    (tie.spec returns (λ c. search needs) (λ c. search needs) take-open-requires returns-2 (λ c. search needs) returns-3)

@@ -10,10 +10,10 @@ use lib.ListN.{length, take, drop}
 use Rattle.capture.specs.declared.state.Item.{Item}
 use Rattle.capture.specs.declared.state.Item.the-variants as item
 use Rattle.capture.specs.Step.{Fits}
-use Rattle.walk.specs.Walk.{Front}
+use Rattle.run.specs.Walk.{Front}
 use Rattle.capture_walk.specs.declared.session.Reply.{Reply}
 use Rattle.capture_walk.specs.declared.session.Session.{Session}
-use Rattle.capture_walk.specs.declared.session.Step.the-variants as step
+use Rattle.run.specs.declared.buffers.Step.the-variants as step
 use Rattle.capture_walk.specs.Session.{itemFront, outAfter, packetFront, replyOf}
 use Rattle.capture_frames.proofs.take_open.Statement.{statement}
 use Rattle.capture_frames.proofs.take_open.Tie as tie

@@ -6,9 +6,9 @@ use mathlib.Core.Bool.{Bool, cond}
 use borrow.Author.Tests.{not-true, not-false}
 use lib.ListN.{length}
 use Rattle.datagram.specs.Link.{datagramIn}
-use Rattle.walk.specs.Walk.{Front, over}
+use Rattle.run.specs.Walk.{Front, over}
 use Rattle.capture_walk.specs.declared.session.Session.{Session}
-use Rattle.capture_walk.specs.declared.session.Step.the-variants as step
+use Rattle.run.specs.declared.buffers.Step.the-variants as step
 use Rattle.capture_walk.specs.Session.{foundFront, outAfter, packetFront, refusedBy, replyOf}
 use Rattle.capture_walk.proofs.SessionLaws.{found-fits}
 use Rattle.capture_frames.proofs.take_packet.Statement.{statement}

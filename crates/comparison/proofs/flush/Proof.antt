@@ -3,8 +3,8 @@
 use borrow.Author.Needs.{needs}
 use mathlib.Core.Path.{refl, ap, subst}
 use native.Mathlib.Omega.{arith}
-use Rattle.program.specs.declared.buffers.Buffers.{Buffers}
-use Rattle.program.specs.Buffers.{Flushed}
+use Rattle.run.specs.declared.buffers.Buffers.{Buffers}
+use Rattle.run.specs.Buffers.{Flushed}
 use Rattle.comparison.proofs.flush.Statement.{statement}
 use Rattle.comparison.proofs.flush.Tie as tie
 

@@ -1,32 +1,21 @@
 -- `compare_within` makes turn after turn, and then closes the run.
--- Invariant: the turns so far are a run; the buffers keep their sizes; turns are left only while the run is open, and
--- with those that were made they are as many as at the start.
+-- Invariant: the turns so far are a run, with as many left as there must be (`run` `TurnLaws`); the buffers keep their sizes.
 use borrow.Author.Needs.{needs}
-use mathlib.Core.Path.{_≡_, refl, ap, ap₂, sym, subst, _∙_}
-use mathlib.Core.Bool.{Bool, true}
-use mathlib.Core.List.{List, []}
+use mathlib.Core.Path.{_≡_, refl, ap, ap₂, sym, _∙_}
 use native.Mathlib.Omega.{arith}
-use Prim.Native.Nat.{ℕ, _+_, _<_}
+use Prim.Native.Nat.{ℕ}
 use lib.ListN.{length}
-use Rattle.program.proofs.BufferLaws.{fewer, one-more, still-open}
+use Rattle.run.proofs.TurnLaws.{Sofar, fewer, first-turn, next-turn}
 use Rattle.comparison.specs.declared.Run.{Run}
-use Rattle.comparison.specs.Turns.{Enough, Passed, begins, maxTurns, started, turned, turnsOf}
+use Rattle.comparison.specs.Turns.{Enough, at, started, turning}
 use Rattle.comparison.proofs.RunLaws.{position-made, run-begins, run-bounds, run-closes, run-stands, run-whole}
 use Rattle.comparison_run.proofs.compare_within.Statement.{statement}
 use Rattle.comparison_run.proofs.compare_within.Tie as tie
 
-record Sofar (lo ro : Bool) (v : Run) (lread rread lstore rstore out : List ℕ) (turns : ℕ) : Type 0 where
-  pub readLeft : List ℕ
-  pub readRight : List ℕ
-  pub written : List ℕ
-  pub passed : Passed lo ro readLeft readRight written v lread rread lstore rstore out
-  pub made : v .«open» ≡ true → turns + turnsOf passed ≡ maxTurns
-
 abbrev Inv-loop : tie.InvT-loop
 Inv-loop left-fd right-fd lopen ropen lread₀ rread₀ lstore₀ rstore₀ out₀ run₀ turns₀ lread rread lstore rstore out run turns =
-    Sofar lopen ropen run lread rread lstore rstore out turns
-    × ((length lread ≡ length lread₀) × (length rread ≡ length rread₀) × (length lstore ≡ length lstore₀) × (length rstore ≡ length rstore₀) × (length out ≡ length out₀))
-    × (0 < turns → run .«open» ≡ true)
+    Sofar turning (at run₀ lread₀ rread₀ lstore₀ rstore₀ out₀) (at run lread rread lstore rstore out) turns
+    × (length lread ≡ length lread₀) × (length rread ≡ length rread₀) × (length lstore ≡ length lstore₀) × (length rstore ≡ length rstore₀) × (length out ≡ length out₀)
 
 abbrev μ-loop : tie.MeasureT-loop
 μ-loop left-fd right-fd lopen ropen lread₀ rread₀ lstore₀ rstore₀ out₀ run₀ turns₀ lread rread lstore rstore out run turns = turns
@@ -37,24 +26,21 @@ still-enough a′ b′ c′ d′ e′ p q r s t n =
 
 loop-holds : tie.Need-loop-holds Inv-loop μ-loop
 loop-holds c =
-    let a = c .before .before .before .before .before .before .before .before .args in
-    let e = c .start3 .ensures ∙ ap₂ started (c .before .before .start .ensures) (c .before .start2 .ensures) in (
-      subst (λ (v : Run). Sofar (a .lopen) (a .ropen) v (a .lread .now) (a .rread .now) (a .lstore .now) (a .rstore .now) (a .out .now) maxTurns) (sym e)
-          (record { readLeft = []; readRight = []; written = []; passed = begins; made = λ o. refl }),
-      (refl, refl, refl, refl, refl),
-      λ h. ap (λ (v : Run). v .«open») e,
-    )
+    let e = c .start3 .ensures ∙ ap₂ started (c .before .before .start .ensures) (c .before .start2 .ensures) in
+    (first-turn (ap (λ (v : Run). v .«open») e), refl, refl, refl, refl, refl)
 
 turn-requires : tie.Need-turn-requires Inv-loop μ-loop
 turn-requires c κs =
     let l = c .before .before .before .before .before .before .loop in
+    let e = c .before .before .before .before .before .before .before .start3 .ensures ∙ ap₂ started (c .before .before .before .before .before .before .before .before .before .start .ensures) (c .before .before .before .before .before .before .before .before .start2 .ensures) in
     let t = c .before .before .before .before .before .loop-test .taken in
-    let s = l .inv .1 in
-    let z = run-stands (l .inv .0 .passed) in (
-      run-bounds (l .inv .0 .passed),
+    let s = l .inv in
+    let f = s .0 in
+    let z = run-stands e (f .passed) in (
+      run-bounds e (f .passed),
       (
-        still-enough (length (l .lread)) (length (l .rread)) (length (l .lstore)) (length (l .rstore)) (length (l .out)) (s .0) (s .1) (s .2) (s .3) (s .4) (c .before .before .before .before .before .before .before .before .before .before .before .before .before .before .before .pre),
-        (omega (arith, position-made (l .inv .0 .passed), l .inv .0 .made (l .inv .2 t), t), (z .now, z .stands)),
+        still-enough (length (l .lread)) (length (l .rread)) (length (l .lstore)) (length (l .rstore)) (length (l .out)) (s .1) (s .2) (s .3) (s .4) (s .5) (c .before .before .before .before .before .before .before .before .before .before .before .before .before .before .before .pre),
+        (omega (arith, position-made e (f .passed), f .made (f .goes-on t), t), (z .now, z .stands)),
       ),
     )
 
@@ -68,42 +54,40 @@ loop-less c =
 
 loop-again : tie.Need-loop-again Inv-loop μ-loop
 loop-again c =
-    let t = c .before .before .before .before .before .before .before .before .before .before .before .turn in
     let l = c .before .before .before .before .before .before .before .before .before .before .before .before .before .before .before .before .before .before .loop in
-    let h = c .before .before .before .before .before .before .before .before .before .before .before .before .before .before .before .before .before .loop-test .taken in
-    let s = l .inv .0 in
-    let made = one-more (t .result .«open») (l .turns) (c .turns-left .result) (turnsOf (s .passed)) maxTurns (c .turns-left .ensures) h (s .made (l .inv .2 h)) in (
-      record { readLeft = _; readRight = _; written = _; passed = turned (s .passed) (l .inv .2 h) (t .ensures); made = made },
-      (c .before .before .before .before .before .before .before .before .before .before .lread .given ∙ l .inv .1 .0, c .before .before .before .before .before .before .before .before .rread .given ∙ l .inv .1 .1, c .before .before .before .before .before .before .lstore .given ∙ l .inv .1 .2, c .before .before .before .before .rstore .given ∙ l .inv .1 .3, c .before .before .out .given ∙ l .inv .1 .4),
-      still-open (t .result .«open») (l .turns) (c .turns-left .result) (c .turns-left .ensures),
-    )
+    (next-turn (l .inv .0) (c .before .before .before .before .before .before .before .before .before .before .before .before .before .before .before .before .before .loop-test .taken) (c .before .before .before .before .before .before .before .before .before .before .before .turn .ensures) (c .turns-left .ensures), c .before .before .before .before .before .before .before .before .before .before .lread .given ∙ l .inv .1, c .before .before .before .before .before .before .before .before .rread .given ∙ l .inv .2, c .before .before .before .before .before .before .lstore .given ∙ l .inv .3, c .before .before .before .before .rstore .given ∙ l .inv .4, c .before .before .out .given ∙ l .inv .5)
 
 close-requires : tie.Need-close-requires Inv-loop μ-loop
-close-requires c κs = run-bounds (c .before .before .loop .inv .0 .passed) .text
+close-requires c κs =
+    let e = c .before .before .before .start3 .ensures ∙ ap₂ started (c .before .before .before .before .before .start .ensures) (c .before .before .before .before .start2 .ensures) in
+    run-bounds e (c .before .before .loop .inv .0 .passed) .text
 
 same-length : tie.Need-same-length Inv-loop μ-loop
-same-length c = c .before .before .before .before .loop .inv .1 .0
+same-length c = c .before .before .before .before .loop .inv .1
 
 same-length-2 : tie.Need-same-length-2 Inv-loop μ-loop
-same-length-2 c = c .before .before .before .before .loop .inv .1 .1
+same-length-2 c = c .before .before .before .before .loop .inv .2
 
 same-length-3 : tie.Need-same-length-3 Inv-loop μ-loop
-same-length-3 c = c .before .before .before .before .loop .inv .1 .2
+same-length-3 c = c .before .before .before .before .loop .inv .3
 
 same-length-4 : tie.Need-same-length-4 Inv-loop μ-loop
-same-length-4 c = c .before .before .before .before .loop .inv .1 .3
+same-length-4 c = c .before .before .before .before .loop .inv .4
 
 same-length-5 : tie.Need-same-length-5 Inv-loop μ-loop
-same-length-5 c = c .before .before .before .before .loop .inv .1 .4
+same-length-5 c = c .before .before .before .before .loop .inv .5
 
 returns : tie.Need-returns Inv-loop μ-loop
 returns c =
     let l = c .before .before .before .before .loop in
+    let e = c .before .before .before .before .before .start3 .ensures ∙ ap₂ started (c .before .before .before .before .before .before .before .start .ensures) (c .before .before .before .before .before .before .start2 .ensures) in
     let s = l .inv .0 in
     let t = c .before .close in
     record {
-      readLeft = s .readLeft;
-      readRight = s .readRight;
+      from = _;
+      starts = e;
+      readLeft = s .read .0;
+      readRight = s .read .1;
       written = s .written;
       before = l .run;
       passed = s .passed;
@@ -111,9 +95,9 @@ returns c =
       closed = t .ensures;
       answer = c .is-whole .ensures;
       ends = λ o. omega (arith, c .before .before .before .loop-test .left, s .made o);
-      closes = run-closes (s .passed);
-      begins = run-begins (run-stands (s .passed)) (t .result);
-      complete = λ h. run-whole (run-stands (s .passed)) (t .result) (t .ensures) (sym (c .is-whole .ensures) ∙ h);
+      closes = run-closes e (s .passed);
+      begins = run-begins (run-stands e (s .passed)) (t .result);
+      complete = λ h. run-whole (run-stands e (s .passed)) (t .result) (t .ensures) (sym (c .is-whole .ensures) ∙ h);
     }
 
 pub compare-within-spec : {M : Type 1} → statement M

@@ -1,16 +1,16 @@
 -- `list` makes turn after turn, and then writes the last lines.
--- Invariant: the turns so far are a run, with as many left as there must be (`program` `RunLaws`); the buffers keep their sizes.
+-- Invariant: the turns so far are a run, with as many left as there must be (`run` `TurnLaws`); the buffers keep their sizes.
 use borrow.Author.Needs.{needs}
 use mathlib.Core.Path.{_≡_, refl, sym, subst, _∙_}
+use mathlib.Core.List.{[]}
 use native.Mathlib.Nat.{le-refl}
 use Prim.Native.Nat.{ℕ, _≤_}
 use lib.ListN.{length}
-use Rattle.program.proofs.BufferLaws.{fewer}
-use Rattle.program.proofs.RunLaws.{Sofar, bounds, first-turn, next-turn, still-enough}
+use Rattle.run.specs.Run.{at, turning}
+use Rattle.run.proofs.RunLaws.{bounds, still-enough}
+use Rattle.run.proofs.TurnLaws.{Sofar, fewer, first-turn, next-turn}
 use Rattle.lines.specs.Room.{lineRoom}
-use Rattle.listing.specs.declared.session.Session.{Session}
-use Rattle.listing.specs.Session.{title}
-use Rattle.turns.specs.Turns.{Enough, fieldlist}
+use Rattle.turns.specs.Turns.{Enough, program}
 use Rattle.turns.proofs.RunLaws.{ended}
 use Rattle.turns.proofs.TurnLaws.{room-for-line}
 use Rattle.fieldlist.proofs.list.Statement.{statement}
@@ -18,7 +18,7 @@ use Rattle.fieldlist.proofs.list.Tie as tie
 
 abbrev Inv-loop : tie.InvT-loop
 Inv-loop fd input₀ store₀ out₀ run₀ turns₀ input store out run turns =
-    Sofar fieldlist title (run₀ .session, store₀) (run .session, store) (run .buffers) input out turns
+    Sofar (turning program) (at (run₀ .session, store₀) (run₀ .buffers) input₀ out₀) (at (run .session, store) (run .buffers) input out) turns
     × (length input ≡ length input₀) × (length store ≡ length store₀) × (length out ≡ length out₀)
 
 abbrev μ-loop : tie.MeasureT-loop
@@ -28,12 +28,12 @@ start-requires : tie.Need-start-requires Inv-loop μ-loop
 start-requires c κs = room-for-line (c .before .before .before .before .pre)
 
 loop-holds : tie.Need-loop-holds Inv-loop μ-loop
-loop-holds c = (first-turn (c .before .before .start .ensures .waits), refl, refl, refl)
+loop-holds c = (first-turn (c .before .before .start .ensures .waits [] [] .goes-on), refl, refl, refl)
 
 turn-requires : tie.Need-turn-requires Inv-loop μ-loop
 turn-requires c κs =
     let i = c .before .before .before .before .loop .inv in
-    (bounds fieldlist (i .0 .passed), still-enough Enough (i .1) (i .2) (i .3 ∙ c .before .before .before .before .before .before .out .given) (c .before .before .before .before .before .before .before .before .before .before .before .before .pre))
+    (bounds (c .before .before .before .before .before .before .before .start .ensures .waits _ _) (i .0), still-enough Enough (i .1) (i .2) (i .3 ∙ c .before .before .before .before .before .before .out .given) (c .before .before .before .before .before .before .before .before .before .before .before .before .pre))
 
 turns-left-requires : tie.Need-turns-left-requires Inv-loop μ-loop
 turns-left-requires c κs = c .before .before .before .before .before .before .before .before .before .before .before .loop-test .taken
@@ -49,7 +49,7 @@ loop-again c =
 close-requires : tie.Need-close-requires Inv-loop μ-loop
 close-requires c κs =
     let l = c .before .before .before .loop in
-    let b = bounds fieldlist (l .inv .0 .passed) in
+    let b = bounds (c .before .before .before .before .before .before .start .ensures .waits _ _) (l .inv .0) in
     ((b .0, b .1, le-refl (l .run .buffers .filled)), subst (λ (n : ℕ). lineRoom ≤ n) (sym (l .inv .3 ∙ c .before .before .before .before .before .out .given)) (room-for-line (c .before .before .before .before .before .before .before .before .before .before .before .pre)))
 
 same-length-3 : tie.Need-same-length-3 Inv-loop μ-loop
@@ -59,8 +59,8 @@ returns : tie.Need-returns Inv-loop μ-loop
 returns c =
     let l = c .before .before .before .before .before .before .before .loop in
     let a = c .before .before .before .before .before .before .before .before .before .before .before .before .before .before .before .args in
-    let f = subst (λ (z : Session). Sofar fieldlist title (z, a .store .now) (l .run .session, l .store) (l .run .buffers) (l .input) (l .out) (l .turns)) (c .before .before .before .before .before .before .before .before .before .before .start .ensures .session) (l .inv .0) in
-    (l .run .session, ended (a .layout) (a .store .now) f (c .before .before .before .before .before .before .loop-test .left) (c .before .before .before .close .ensures (l .store)) (c .is-done .ensures))
+    let t = c .before .before .before .before .before .before .before .before .before .before .start .ensures .waits (a .store .now) (a .input .now) in
+    (at (l .run .session, l .store) (l .run .buffers) (l .input) (l .out), refl, ended (a .layout) (a .store .now) t (l .inv .0) (c .before .before .before .before .before .before .loop-test .left) (c .before .before .before .close .ensures (l .store)) (c .is-done .ensures))
 
 pub list-spec : {M : Type 1} → statement M
 list-spec =

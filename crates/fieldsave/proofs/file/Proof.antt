@@ -1,20 +1,20 @@
 -- `file` makes turn after turn.
--- Invariant: the turns so far are a run, with as many left as there must be (`program` `RunLaws`); the buffers keep their sizes.
+-- Invariant: the turns so far are a run, with as many left as there must be (`run` `TurnLaws`); the buffers keep their sizes.
 use borrow.Author.Needs.{needs}
-use mathlib.Core.Path.{_≡_, refl, subst, _∙_}
+use mathlib.Core.Path.{_≡_, refl, _∙_}
+use mathlib.Core.List.{[]}
 use lib.ListN.{length}
-use Rattle.anf.specs.File.{fileHead, writtenVersion}
-use Rattle.program.proofs.BufferLaws.{fewer}
-use Rattle.program.proofs.RunLaws.{Sofar, bounds, first-turn, next-turn, still-enough}
-use Rattle.listing.specs.declared.session.Session.{Session}
-use Rattle.filing_turns.specs.Turns.{Enough, fieldsave}
+use Rattle.run.specs.Run.{at, turning}
+use Rattle.run.proofs.RunLaws.{bounds, still-enough}
+use Rattle.run.proofs.TurnLaws.{Sofar, fewer, first-turn, next-turn}
+use Rattle.filing_turns.specs.Turns.{Enough, program}
 use Rattle.filing_turns.proofs.RunLaws.{ended}
 use Rattle.fieldsave.proofs.file.Statement.{statement}
 use Rattle.fieldsave.proofs.file.Tie as tie
 
 abbrev Inv-loop : tie.InvT-loop
 Inv-loop fd to input₀ store₀ out₀ run₀ turns₀ input store out run turns =
-    Sofar fieldsave (fileHead writtenVersion) (run₀ .session, store₀) (run .session, store) (run .buffers) input out turns
+    Sofar (turning program) (at (run₀ .session, store₀) (run₀ .buffers) input₀ out₀) (at (run .session, store) (run .buffers) input out) turns
     × (length input ≡ length input₀) × (length store ≡ length store₀) × (length out ≡ length out₀)
 
 abbrev μ-loop : tie.MeasureT-loop
@@ -24,12 +24,12 @@ start-requires : tie.Need-start-requires Inv-loop μ-loop
 start-requires c κs = c .before .before .before .before .pre .text
 
 loop-holds : tie.Need-loop-holds Inv-loop μ-loop
-loop-holds c = (first-turn (c .before .before .start .ensures .waits), refl, refl, refl)
+loop-holds c = (first-turn (c .before .before .start .ensures .waits [] [] .goes-on), refl, refl, refl)
 
 turn-requires : tie.Need-turn-requires Inv-loop μ-loop
 turn-requires c κs =
     let i = c .before .before .before .before .loop .inv in
-    (bounds fieldsave (i .0 .passed), still-enough Enough (i .1) (i .2) (i .3 ∙ c .before .before .before .before .before .before .out .given) (c .before .before .before .before .before .before .before .before .before .before .before .before .pre))
+    (bounds (c .before .before .before .before .before .before .before .start .ensures .waits _ _) (i .0), still-enough Enough (i .1) (i .2) (i .3 ∙ c .before .before .before .before .before .before .out .given) (c .before .before .before .before .before .before .before .before .before .before .before .before .pre))
 
 silent-turns-left-requires : tie.Need-silent-turns-left-requires Inv-loop μ-loop
 silent-turns-left-requires c κs = c .before .before .before .before .before .before .before .before .before .before .before .loop-test .taken
@@ -49,8 +49,8 @@ returns : tie.Need-returns Inv-loop μ-loop
 returns c =
     let l = c .before .before .before .before .loop in
     let a = c .before .before .before .before .before .before .before .before .before .before .before .before .args in
-    let f = subst (λ (z : Session). Sofar fieldsave (fileHead writtenVersion) (z, a .store .now) (l .run .session, l .store) (l .run .buffers) (l .input) (l .out) (l .turns)) (c .before .before .before .before .before .before .before .start .ensures .session) (l .inv .0) in
-    (l .run .session, ended (a .layout) (a .store .now) f (c .before .before .before .loop-test .left) (c .is-done .ensures))
+    let t = c .before .before .before .before .before .before .before .start .ensures .waits (a .store .now) (a .input .now) in
+    (at (l .run .session, l .store) (l .run .buffers) (l .input) (l .out), refl, ended (a .layout) (a .store .now) t (l .inv .0) (c .before .before .before .loop-test .left) (c .is-done .ensures))
 
 pub file-spec : {M : Type 1} → statement M
 file-spec =

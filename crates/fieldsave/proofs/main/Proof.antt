@@ -3,7 +3,7 @@
 use borrow.Author.Needs.{needs}
 use mathlib.Core.Path.{sym}
 use native.Mathlib.Omega.{arith}
-use Rattle.program.proofs.RunLaws.{still-enough, zeros}
+use Rattle.run.proofs.RunLaws.{still-enough, zeros}
 use Rattle.filing_turns.specs.Turns.{Enough}
 use Rattle.fieldsave.proofs.main.Statement.{statement}
 use Rattle.fieldsave.proofs.main.Tie as tie

@@ -1,20 +1,19 @@
 -- `file_frame` files the frame at the front, where there is room and a whole frame.
--- By the room, and by what stands at the front.
+-- By the room, and by what stands at the front, as for any program over frames (`run` `FrameLaws`).
 use borrow.Author.Needs.{needs}
 use borrow.Author.Tests.{lt-leb, le-leb}
-use mathlib.Core.Path.{_≡_, refl, ap, sym, _∙_}
-use mathlib.Core.List.{List}
+use mathlib.Core.Path.{_≡_, ap, sym, _∙_}
 use Prim.Native.Nat.{ℕ, _+_, _-_}
 use native.Mathlib.Nat.{zero-add}
 use native.Mathlib.Omega.{arith}
-use lib.ListN.{length, take, drop, length-drop}
-use lib.Seq.{length-take-le}
-use Rattle.text.proofs.PutLaws.{same}
+use lib.ListN.{length, take, drop}
 use Rattle.frames.specs.Frames.{front}
 use Rattle.frames.proofs.FrameLaws.{FrameAt, frame-found, end-found, cut-found, end-short, cut-short}
-use Rattle.listing.specs.Session.{turn}
-use Rattle.listing.specs.declared.session.Listed.the-variants as listed
-use Rattle.filing.specs.Filing.{fieldRoom, filed}
+use Rattle.run.specs.Frames.{overFrames}
+use Rattle.run.proofs.FrameLaws.{end-answers, cut-answers, frame-answers}
+use Rattle.run.proofs.StepLaws.{no-room}
+use Rattle.filing.specs.Answers.{fieldsave}
+use Rattle.filing.specs.Filing.{fieldRoom}
 use Rattle.filing.proofs.file_frame.Statement.{statement}
 use Rattle.filing.proofs.file_frame.Tie as tie
 
@@ -23,7 +22,7 @@ found-at : (c : tie.After-known-told) → FrameAt (c .before .before .before .be
 found-at c = frame-found (c .before .before .before .before .before .before .before .before .args .octets .now) (c .before .front .given .0 .0) (sym (c .before .before .before .frame-at .ensures) ∙ c .before .front .given .1)
 
 returns : tie.Need-returns
-returns c = rw (lt-leb fieldRoom (length (c .before .before .before .before .args .out .now)) (c .if1 .taken)) (refl, (refl, (refl, tt)))
+returns c = no-room (overFrames fieldsave) (lt-leb fieldRoom (length (c .before .before .before .before .args .out .now)) (c .if1 .taken))
 
 add-end : tie.Need-add-end
 add-end c = omega (arith, found-at c .inside)
@@ -35,33 +34,23 @@ returns-2 : tie.Need-returns-2
 returns-2 c =
     let s = c .before .before .before .before .before .before .before .args .octets .now in
     let e = end-found (front s) (sym (c .before .before .frame-at .ensures) ∙ c .enum-told .given .1) in
-    let short = end-short s (λ j. c .before .before .before .before .before .before .shared-slice-known .given j .fits) e in
-    rw (le-leb fieldRoom (length (c .before .before .before .before .before .before .before .args .out .now)) (c .before .before .before .if1 .left), e) (refl, (refl, (refl, short)))
+    end-answers fieldsave (le-leb fieldRoom (length (c .before .before .before .before .before .before .before .args .out .now)) (c .before .before .before .if1 .left)) e (end-short s (λ j. c .before .before .before .before .before .before .shared-slice-known .given j .fits) e)
 
 returns-3 : tie.Need-returns-3
 returns-3 c =
     let s = c .before .before .before .before .before .before .before .args .octets .now in
     let e = cut-found (front s) (sym (c .before .before .frame-at .ensures) ∙ c .enum-told2 .given .1) in
-    let short = cut-short s (λ j. c .before .before .before .before .before .before .shared-slice-known .given j .fits) e in
-    rw (le-leb fieldRoom (length (c .before .before .before .before .before .before .before .args .out .now)) (c .before .before .before .if1 .left), e) (refl, (refl, (refl, short)))
+    cut-answers fieldsave (le-leb fieldRoom (length (c .before .before .before .before .before .before .before .args .out .now)) (c .before .before .before .if1 .left)) e (cut-short s (λ j. c .before .before .before .before .before .before .shared-slice-known .given j .fits) e)
 
 returns-4 : tie.Need-returns-4
 returns-4 c =
     let a = c .before .before .before .before .before .before .before .before .before .before .before .before .before .before .before .before .args in
     let s = a .octets .now in
-    let st = a .store .now in
-    let v = a .session in
     let n = c .before .before .before .before .before .before .before .before .before .front .given .0 .0 in
-    let f = found-at (c .before .before .before .before .before .before .before .before) in
     let r = c .before .before .before .before .file-packet .ensures in
-    let p = take n (drop 2 s) in
-    let e : take (2 + n - 2) (drop 2 s) ≡ p = ap (λ (k : ℕ). take k (drop 2 s)) (let k : 2 + n - 2 ≡ n = omega arith in k) in
-    let m : length p ≡ n = length-take-le n (drop 2 s) (rw (length-drop 2 s) (omega (arith, f .inside))) in
-    let put = same (ap (λ (q : List ℕ). filed v q st) e) (r .1 .1) in
-    rw (le-leb fieldRoom (length (a .out .now)) (c .before .before .before .before .before .before .before .before .before .before .before .before .if1 .left), f .is) (
-      (λ i. listed.Frame (record { session = (r .0 ∙ ap (λ (q : List ℕ). turn v q st .session) e) i; used = 2 + sym m i; length = (put .behind ∙ zero-add _) i })),
-      (r .1 .0 ∙ ap (λ (q : List ℕ). turn v q st .store) e, (put .octets, (f .inside, omega (arith, put .room, put .behind)))),
-    )
+    let e : take (2 + n - 2) (drop 2 s) ≡ take n (drop 2 s) = ap (λ (k : ℕ). take k (drop 2 s)) (let k : 2 + n - 2 ≡ n = omega arith in k) in
+    let put = r .1 .1 in
+    frame-answers fieldsave (le-leb fieldRoom (length (a .out .now)) (c .before .before .before .before .before .before .before .before .before .before .before .before .if1 .left)) n (found-at (c .before .before .before .before .before .before .before .before)) e (λ i. (r .0 i, r .1 .0 i)) (put .behind ∙ zero-add _) (put .octets) (omega (arith, put .room, put .behind))
 
 pub file-frame-spec : {M : Type 1} → statement M
 file-frame-spec =

@@ -1,8 +1,8 @@
 -- `start` leaves the file's head put.
 -- There is room for it.
 use borrow.Author.Needs.{needs}
-use mathlib.Core.Path.{refl}
-use Rattle.program.proofs.FrameLaws.{first-put}
+use Rattle.run.proofs.StepLaws.{first-put}
+use Rattle.filing_turns.specs.Turns.{program}
 use Rattle.filing_turns.proofs.TurnLaws.{head-put}
 use Rattle.filing_turns.proofs.start.Statement.{statement}
 use Rattle.filing_turns.proofs.start.Tie as tie
@@ -11,7 +11,7 @@ returns : tie.Need-returns
 returns c =
     let w = c .before .before .before .before .begin in
     let p = head-put (c .before .before .before .before .before .before .before .args .out .now) _ (w .result) _ (c .before .before .before .before .before .before .before .pre) (w .ensures .0) (w .ensures .1) (c .before .octets-of .ensures) in
-    record { session = refl; octets = p .octets; waits = first-put (c .begin2 .ensures) p }
+    record { octets = p .octets; waits = λ store input. first-put program (c .begin2 .ensures) p }
 
 pub start-spec : {M : Type 1} → statement M
 start-spec = tie.close

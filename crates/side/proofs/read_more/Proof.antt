@@ -14,8 +14,9 @@ use lib.Seq.{length-take-le}
 use mir.Facts.{toZ-ofZ}
 use mir.Syntax.{w64}
 use mir.Val.{toZ, ofZ}
-use Rattle.program.specs.Buffers.{Interrupted}
-use Rattle.program.proofs.BufferLaws.{counted, part-moved}
+use Rattle.run.specs.Buffers.{Interrupted}
+use Rattle.run.proofs.BufferLaws.{part-moved}
+use Rattle.program.proofs.ReadLaws.{counted}
 use Rattle.side.proofs.read_more.Statement.{statement}
 use Rattle.side.proofs.read_more.Tie as tie
 

@@ -1,33 +1,40 @@
 -- `report` makes turn after turn, and then writes the last line.
--- Invariant: the turns so far are a run, with as many left as there must be (`program` `RunLaws`); the buffers keep their sizes.
+-- Invariant: the turns so far are a run, with as many left as there must be (`run` `TurnLaws`); the buffers keep their sizes.
 use borrow.Author.Needs.{needs}
 use mathlib.Core.Path.{_≡_, refl, ap, sym, subst, _∙_}
-use mathlib.Core.List.{[]}
+use mathlib.Core.List.{List, []}
 use native.Mathlib.Omega.{arith}
 use native.Mathlib.Nat.{le-refl}
 use Prim.Native.Nat.{ℕ, _+_, _^_, _<_, _≤_}
 use lib.ListN.{length}
-use Rattle.program.proofs.BufferLaws.{fewer}
-use Rattle.program.proofs.FrameLaws.{first-put, text-put}
-use Rattle.program.proofs.RunLaws.{Sofar, bounds, first-turn, next-turn, still-enough}
-use Rattle.report.specs.declared.session.Session.{Session}
+use Rattle.run.specs.Run.{Started, at, turning}
+use Rattle.run.proofs.RunLaws.{bounds, still-enough}
+use Rattle.run.proofs.StepLaws.{first-put, text-put}
+use Rattle.run.proofs.TurnLaws.{Sofar, fewer, first-turn, next-turn}
+use Rattle.wire.specs.Layout.{Layout}
+use Rattle.report.specs.Answers.{begun}
 use Rattle.report_lines.specs.Lines.{linesRoom}
 use Rattle.report_turns.specs.declared.Run.{Run}
-use Rattle.report_turns.specs.Turns.{Enough, streamcheck}
+use Rattle.report_turns.specs.Turns.{Enough, program, started}
 use Rattle.report_turns.proofs.RunLaws.{ended, index-made}
 use Rattle.streamcheck.proofs.report.Statement.{statement}
 use Rattle.streamcheck.proofs.report.Tie as tie
 
+-- nothing is read, and nothing waits
+starts : (L : Layout) (v : Run) → v ≡ started L → (input out : List ℕ) → Started program (begun L) (at (v .session) (v .buffers) input out)
+starts L v e input out =
+    subst (λ (w : Run). Started program (begun L) (at (w .session) (w .buffers) input out)) (sym e) (first-put program refl (text-put [] out refl refl))
+
 abbrev Inv-loop : tie.InvT-loop
 Inv-loop fd input₀ cells₀ out₀ run₀ turns₀ input cells out run turns =
-    Sofar streamcheck [] (run₀ .session) (run .session) (run .buffers) input out turns
+    Sofar (turning program) (at (run₀ .session) (run₀ .buffers) input₀ out₀) (at (run .session) (run .buffers) input out) turns
     × (length input ≡ length input₀) × (length cells ≡ length cells₀) × (length out ≡ length out₀)
 
 abbrev μ-loop : tie.MeasureT-loop
 μ-loop fd input₀ cells₀ out₀ run₀ turns₀ input cells out run turns = turns
 
 loop-holds : tie.Need-loop-holds Inv-loop μ-loop
-loop-holds c = (first-turn (first-put (ap (λ (v : Run). v .buffers) (c .start .ensures)) (text-put [] (c .before .before .before .before .args .out .now) refl refl)), refl, refl, refl)
+loop-holds c = (first-turn (starts (c .before .before .before .before .args .layout) _ (c .start .ensures) [] [] .goes-on), refl, refl, refl)
 
 turn-requires : tie.Need-turn-requires Inv-loop μ-loop
 turn-requires c κs =
@@ -35,7 +42,7 @@ turn-requires c κs =
     let i = l .inv in
     let t = c .before .before .before .loop-test .taken in
     let n : l .run .session .index + 1 < 2 ^ 64 = omega (arith, index-made (i .0 .passed), ap (λ (v : Run). v .session .index) (c .before .before .before .before .before .start .ensures), i .0 .made (i .0 .goes-on t), t) in
-    (bounds streamcheck (i .0 .passed), (still-enough Enough (i .1) (i .2) (i .3) (c .before .before .before .before .before .before .before .before .before .pre), n))
+    (bounds (starts (c .before .before .before .before .before .before .before .before .before .args .layout) _ (c .before .before .before .before .before .start .ensures) (c .before .before .before .before .before .before .before .before .before .args .input .now) (c .before .before .before .before .before .before .before .before .before .args .out .now)) (i .0), (still-enough Enough (i .1) (i .2) (i .3) (c .before .before .before .before .before .before .before .before .before .pre), n))
 
 turns-left-requires : tie.Need-turns-left-requires Inv-loop μ-loop
 turns-left-requires c κs = c .before .before .before .before .before .before .before .before .before .before .before .loop-test .taken
@@ -51,7 +58,7 @@ loop-again c =
 close-requires : tie.Need-close-requires Inv-loop μ-loop
 close-requires c κs =
     let l = c .before .before .before .loop in
-    let b = bounds streamcheck (l .inv .0 .passed) in
+    let b = bounds (starts (c .before .before .before .before .before .before .before .before .args .layout) _ (c .before .before .before .before .start .ensures) (c .before .before .before .before .before .before .before .before .args .input .now) (c .before .before .before .before .before .before .before .before .args .out .now)) (l .inv .0) in
     ((b .0, b .1, le-refl (l .run .buffers .filled)), subst (λ (n : ℕ). linesRoom ≤ n) (sym (l .inv .3)) (c .before .before .before .before .before .before .before .before .pre .text))
 
 same-length-3 : tie.Need-same-length-3 Inv-loop μ-loop
@@ -60,8 +67,9 @@ same-length-3 c = c .before .before .out2 .given ∙ c .before .before .before .
 returns : tie.Need-returns Inv-loop μ-loop
 returns c =
     let l = c .before .before .before .before .before .before .before .loop in
-    let f = subst (λ (z : Session). Sofar streamcheck [] z (l .run .session) (l .run .buffers) (l .input) (l .out) (l .turns)) (ap (λ (v : Run). v .session) (c .before .before .before .before .before .before .before .before .start .ensures)) (l .inv .0) in
-    (l .run .session, ended (c .before .before .before .before .before .before .before .before .before .before .before .before .args .layout) f (c .before .before .before .before .before .before .loop-test .left) (c .before .before .before .close .ensures) (c .is-done .ensures))
+    let a = c .before .before .before .before .before .before .before .before .before .before .before .before .args in
+    let t = starts (a .layout) _ (c .before .before .before .before .before .before .before .before .start .ensures) (a .input .now) (a .out .now) in
+    (at (l .run .session) (l .run .buffers) (l .input) (l .out), ended (a .layout) t (l .inv .0) (c .before .before .before .before .before .before .loop-test .left) (c .before .before .before .close .ensures) (c .is-done .ensures))
 
 pub report-spec : {M : Type 1} → statement M
 report-spec =

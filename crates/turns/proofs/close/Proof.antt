@@ -5,17 +5,17 @@ use borrow.Author.Tests.{not-true, not-false}
 use mathlib.Core.Path.{ap, sym, _∙_}
 use native.Mathlib.Omega.{arith}
 use Rattle.frames.specs.Frames.{front, isBroken}
-use Rattle.program.specs.declared.buffers.Buffers.{Buffers}
-use Rattle.program.specs.Buffers.{unused}
-use Rattle.program.proofs.FrameLaws.{Put, closed-before, closed-last}
+use Rattle.run.specs.declared.buffers.Buffers.{Buffers}
+use Rattle.run.specs.Buffers.{unused}
+use Rattle.run.proofs.StepLaws.{Put, closed-before, closed-last}
 use Rattle.listing.specs.Session.{endText}
-use Rattle.turns.specs.Turns.{fieldlist}
+use Rattle.turns.specs.Turns.{program}
 use Rattle.turns.proofs.TurnLaws.{room-put}
 use Rattle.turns.proofs.close.Statement.{statement}
 use Rattle.turns.proofs.close.Tie as tie
 
 returns : tie.Need-returns
-returns c store = closed-before fieldlist (sym (c .before .is-done .ensures) ∙ not-true _ (c .if1 .taken))
+returns c store = closed-before program (sym (c .before .is-done .ensures) ∙ not-true _ (c .if1 .taken))
 
 -- the last lines are put
 put : (c : tie.After-octets-of)
@@ -30,7 +30,7 @@ flush-requires c κs = omega (arith, ap (λ (b : Buffers). b .filled) (c .before
 
 returns-2 : tie.Need-returns-2
 returns-2 c store =
-    closed-last fieldlist (sym (c .before .before .before .before .before .before .before .before .before .before .is-done .ensures) ∙ not-false _ (c .before .before .before .before .before .before .before .before .before .if1 .left)) (put (c .before .before .before)) (c .before .before .finish2 .ensures) (c .flush .ensures)
+    closed-last program (sym (c .before .before .before .before .before .before .before .before .before .before .is-done .ensures) ∙ not-false _ (c .before .before .before .before .before .before .before .before .before .if1 .left)) (put (c .before .before .before)) (c .before .before .finish2 .ensures) (c .flush .ensures)
 
 pub close-spec : {M : Type 1} → statement M
 close-spec =

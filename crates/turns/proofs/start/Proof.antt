@@ -1,9 +1,9 @@
 -- `start` leaves the first line put.
 -- There is room for it.
 use borrow.Author.Needs.{needs}
-use mathlib.Core.Path.{refl}
 use Rattle.listing.specs.Session.{title}
-use Rattle.program.proofs.FrameLaws.{first-put}
+use Rattle.run.proofs.StepLaws.{first-put}
+use Rattle.turns.specs.Turns.{program}
 use Rattle.turns.proofs.TurnLaws.{room-put}
 use Rattle.turns.proofs.start.Statement.{statement}
 use Rattle.turns.proofs.start.Tie as tie
@@ -12,7 +12,7 @@ returns : tie.Need-returns
 returns c =
     let e = c .before .before .before .before .begin .ensures in
     let p = room-put title (c .before .before .before .before .before .before .before .args .out .now) _ _ _ (c .before .before .before .before .before .before .before .pre) (e .0) (e .1 .0) (c .before .octets-of .ensures) in
-    record { session = refl; octets = p .octets; waits = first-put (c .begin2 .ensures) p }
+    record { octets = p .octets; waits = λ store input. first-put program (c .begin2 .ensures) p }
 
 pub start-spec : {M : Type 1} → statement M
 start-spec = tie.close

@@ -6,8 +6,8 @@ use mathlib.Core.Bool.{true, false}
 use native.Mathlib.Omega.{arith}
 use lib.ListN.{length, take}
 use lib.Seq.{length-take-le}
-use Rattle.program.specs.declared.buffers.Written.{Written}
-use Rattle.program.specs.Buffers.{WrittenOf}
+use Rattle.run.specs.declared.buffers.Written.{Written}
+use Rattle.run.specs.Buffers.{WrittenOf}
 use Rattle.program.proofs.buffers.flush_to.Statement.{statement}
 use Rattle.program.proofs.buffers.flush_to.Tie as tie
 
@@ -24,10 +24,10 @@ sub-t12 : tie.Need-sub-t12
 sub-t12 c = omega (arith, all c)
 
 returns : tie.Need-returns
-returns c = record { written = true; at = refl; end = refl; filled = omega (arith, all c); goes-on = refl }
+returns c = record { written = true; at = refl; end = refl; filled = omega (arith, all c); goes-on = refl; fails = refl }
 
 returns-2 : tie.Need-returns-2
-returns-2 c = record { written = false; at = refl; end = refl; filled = refl; goes-on = refl }
+returns-2 c = record { written = false; at = refl; end = refl; filled = refl; goes-on = refl; fails = refl }
 
 pub flush-to-spec : {M : Type 1} → statement M
 flush-to-spec =

@@ -5,7 +5,7 @@ use mathlib.Core.Path.{ap, sym, _∙_}
 use lib.IntN.{ℤ, pos}
 use lib.Signed.{leZ}
 use mir.Facts.{toZ-ofZ}
-use Rattle.program.proofs.BufferLaws.{not-interrupted, failed}
+use Rattle.program.proofs.ReadLaws.{not-interrupted, failed}
 use Rattle.program.proofs.buffers.is_interrupted.Statement.{statement}
 use Rattle.program.proofs.buffers.is_interrupted.Tie as tie
 

@@ -1,18 +1,21 @@
 -- `read_more` keeps what is left, and reads more behind it.
 -- By the law of what is moved to the front; what is left and what was read fit the input.
 use borrow.Author.Needs.{needs}
-use mathlib.Core.Path.{_≡_, refl, sym, subst}
+use mathlib.Core.Path.{_≡_, refl, ap, sym, subst}
+use mathlib.Core.Bool.{not, _&&_}
 use mathlib.Core.List.{_++_}
 use native.Mathlib.Omega.{arith}
 use Prim.Native.Nat.{_-_}
-use lib.IntN.{ℤ}
+use lib.IntN.{ℤ, pos}
+use lib.Signed.{ltZ}
 use lib.ListN.{length, take, drop}
 use lib.Seq.{length-take-le}
 use mir.Facts.{toZ-ofZ}
 use mir.Syntax.{w64}
 use mir.Val.{toZ, ofZ}
-use Rattle.program.specs.Buffers.{Interrupted}
-use Rattle.program.proofs.BufferLaws.{counted, part-moved}
+use Rattle.run.specs.Buffers.{Interrupted}
+use Rattle.run.proofs.BufferLaws.{part-moved}
+use Rattle.program.proofs.ReadLaws.{counted}
 use Rattle.program.proofs.buffers.read_more.Statement.{statement}
 use Rattle.program.proofs.buffers.read_more.Tie as tie
 
@@ -46,6 +49,7 @@ returns c =
       counts = counted z (toZ w64 (ofZ w64 z)) (c .before .count .result) k w x back (c .before .before .before .before .before .input2 .given .1) (c .before .before .before .before .before .before .read .ensures) (c .before .count .ensures .1);
       signal = subst (λ (a : ℤ). Interrupted a (c .is-interrupted .result)) back (c .is-interrupted .ensures);
       goes-on = refl;
+      fails = ap (λ (a : ℤ). ltZ a (pos 0) && not (c .is-interrupted .result)) back;
     }
 
 pub read-more-spec : {M : Type 1} → statement M

@@ -1,12 +1,10 @@
 -- `is_roomy` tells whether there is room.
 -- By its definition.
 use mathlib.Core.Path.{refl}
-use Rattle.report.specs.Answers.{roomy}
 use Rattle.report.proofs.session.is_roomy.Statement.{statement}
 use Rattle.report.proofs.session.is_roomy.Tie as tie
 
 returns : tie.Need-returns
-unfolding roomy
 returns c = refl
 
 pub is-roomy-spec : {M : Type 1} → statement M

@@ -1,0 +1,5 @@
+pub mod Buffers
+pub mod Frames
+pub mod Run
+pub mod Turns
+pub mod Walk
