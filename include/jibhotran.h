@@ -221,7 +221,10 @@ uint8_t jibhotran_open(uint32_t source, uint8_t payload_type, uint64_t *state, s
  * are 0 unless the field is whole. A packet without records counts among the packets and leaves no cell.
  * While a field is gathered, each call is lent the same store, untouched.
  * state: source, payload type, phase (0 lost, 1 ready, 2 filling), heard (0 or 1), last, timestamp, F, records, cells, fresh, late, missing,
- * whether a number is remembered (0 or 1), that number (0 where none is), packets. Numbers that no state has are refused by 35.
+ * whether a number is remembered (0 or 1), that number (0 where none is), packets.
+ * A state is refused with code 35 if a number is too wide for its field or the phase is over 2, or if it says over 4,095 records, over 36,864 cells,
+ * more cells than the store has, over 4,096 packets, no packet while filling, records, cells or packets while not filling, or ready or filling
+ * before the first arrival. Nothing else is checked: a payload type over 127 or F 1, for instance, passes.
  * An arrival over 2,999 ahead of the last fresh one, or 100 or more behind, is refused by 36, and the number after it is remembered until an
  * arrival is fresh. One as far that has the remembered number restarts the depacketizer: it is a first arrival, and the counts begin anew.
  * No octets: 2. No store: fields of packets without records are handed out, any other is overfull.
