@@ -1,8 +1,17 @@
-//! Links the proved archives: `libcapi.a` and `liboutlet_capi.a` in the folder
-//! that CAPI_DIR names, otherwise where `rt staticlib` puts them.
+//! Links the proved archives of the C boundary, in the folder that CAPI_DIR
+//! names, otherwise where `rt staticlib` puts them.
 
 use std::env;
 use std::path::PathBuf;
+
+/// `tools/install` has the same list.
+const ARCHIVES: [&str; 5] = [
+    "capi_packet",
+    "capi_depacketizer",
+    "capi_parameters",
+    "capi_file",
+    "outlet_capi",
+];
 
 fn main() {
     println!("cargo:rerun-if-env-changed=CAPI_DIR");
@@ -11,7 +20,7 @@ fn main() {
         env::var_os("CAPI_DIR").map_or(PathBuf::from("../target/staticlib"), PathBuf::from);
     let folder = here.join(folder);
     println!("cargo:rustc-link-search=native={}", folder.display());
-    for name in ["capi", "outlet_capi"] {
+    for name in ARCHIVES {
         let archive = folder.join(format!("lib{name}.a"));
         let path = archive.display();
         println!("cargo:rerun-if-changed={path}");
@@ -21,4 +30,5 @@ fn main() {
         println!("cargo:rustc-link-lib=static={name}");
     }
     println!("cargo:rustc-env=CAPI_FOLDER={}", folder.display());
+    println!("cargo:rustc-env=CAPI_ARCHIVES={}", ARCHIVES.join(" "));
 }

@@ -284,7 +284,7 @@ struct jibhotran_pair {
 uint8_t jibhotran_wanted_of(uint8_t did, uint8_t sdid, const struct jibhotran_pair *pairs, size_t pairs_len);
 
 /*
- * The shared outlet, in an archive of its own (liboutlet_capi.a). Channels 0 to 7 share 64 slots of JIBHOTRAN_OUTLET_PACKET octets in the memory
+ * The shared outlet. Channels 0 to 7 share 64 slots of JIBHOTRAN_OUTLET_PACKET octets in the memory
  * that the caller lends; state and memory are handed on unaltered from call to call.
  *
  * What a channel may count on, whatever the others offer: its packets leave in the order in which they were copied in; where it holds fewer

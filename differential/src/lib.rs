@@ -1,6 +1,6 @@
 //! The proved archive beside the reference: one boundary, two sides.
 //!
-//! [`Archive`] is `libcapi.a` and `liboutlet_capi.a` through the C boundary. [`Model`] is the same
+//! [`Archive`] is the proved archives through the C boundary. [`Model`] is the same
 //! boundary over the reference. [`call::compare`] makes one call on both and
 //! compares all that can be seen of it. [`Behind`] is the reference called as
 //! the archive is, for measuring.

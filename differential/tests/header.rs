@@ -37,7 +37,9 @@ fn compiled(compiler: &str, standard: &str, source: &str) -> PathBuf {
         .arg(root().join("include"))
         .arg(source)
         .args(
-            ["libcapi.a", "liboutlet_capi.a"].map(|name| Path::new(env!("CAPI_FOLDER")).join(name)),
+            env!("CAPI_ARCHIVES")
+                .split(' ')
+                .map(|name| Path::new(env!("CAPI_FOLDER")).join(format!("lib{name}.a"))),
         )
         .arg("-o")
         .arg(&program)

@@ -14,12 +14,13 @@ use Rattle.stream.specs.declared.state.Answer.the-variants as answer
 use Rattle.stream.specs.Step.{Step, step}
 use Rattle.stream.proofs.StepLaws.{refused-keeps, passed}
 use Rattle.state_row.specs.declared.state.Restored.the-variants as restored
-use Rattle.boundary.specs.Rows.{arrivalReply, rowReply}
+use Rattle.boundary.specs.Rows.{isLayout, layoutOf, layoutReply, rowReply}
+use Rattle.capi_depacketizer.specs.Calls.{Arrived, arrive, arrivedAt, noArrival, rowsFit}
+use Rattle.capi_depacketizer.specs.Rows.{arrivalReply}
 use Rattle.state_row.specs.State.{stateSize, isState, numbersOf, stateAt, stateIn}
 use Rattle.state_row.proofs.StateLaws.{row-again}
-use Rattle.capi.specs.Calls.{Arrived, arrive, arrivedAt, isLayout, layoutOf, layoutReply, noArrival, rowsFit}
-use Rattle.capi.proofs.RowLaws.{rows-long}
-use Rattle.capi.proofs.KeptLaws.{refused-keeps-row}
+use Rattle.capi_depacketizer.proofs.RowLaws.{rows-long}
+use Rattle.capi_depacketizer.proofs.KeptLaws.{refused-keeps-row}
 use Rattle.capi_laws.specs.Kept.{Keeps}
 
 module _ (layout : ℕ) (state octets store given : List ℕ) where

@@ -26,9 +26,9 @@ use Rattle.stream.proofs.Demand3.{demand3}
 use Rattle.state_row.specs.declared.state.Restored.the-variants as restored
 use Rattle.state_row.specs.State.{isState, phaseIn, stateAt, stateIn}
 use Rattle.state_row.proofs.StateLaws.{fitting}
-use Rattle.boundary.specs.Rows.{arrivalReply}
-use Rattle.capi.specs.Calls as calls
-use Rattle.capi.specs.Calls.{Arrived, arrive, rowsFit, stateArrived, stepped}
+use Rattle.boundary.specs.Rows as rows
+use Rattle.capi_depacketizer.specs.Calls.{Arrived, arrive, rowsFit, stateArrived, stepped}
+use Rattle.capi_depacketizer.specs.Rows.{arrivalReply}
 use Rattle.capi_laws.specs.Run as ran
 use Rattle.capi_laws.specs.Run.{lent, handedOut, Ran, CallsDemand3}
 
@@ -95,10 +95,10 @@ record Stands (row store : List ℕ) (handed : List Handed) (r : Run) : Type 0 w
 
 module _ (row octets store given : List ℕ) (layout : ℕ) (st : State) (l : layout ≤ 1) (long : 15 ≤ length row) (answers : 9 ≤ length given)
     (is : stateIn row ≡ restored.State st) where
-  arrive-is : arrive layout row octets store given ≡ stepped (step st (calls.layoutOf layout) octets store)
+  arrive-is : arrive layout row octets store given ≡ stepped (step st (rows.layoutOf layout) octets store)
   arrive-is = rw (fits row given long answers, le-leb layout 1 l, is)
 
-  state-is : stateArrived layout row octets store given ≡ restored.State (step st (calls.layoutOf layout) octets store .state)
+  state-is : stateArrived layout row octets store given ≡ restored.State (step st (rows.layoutOf layout) octets store .state)
   state-is = rw (fits row given long answers, le-leb layout 1 l, is)
 
 stands : (s : Stream) → s .type ≤ 127 → {cs : Calls} {row store : List ℕ} {handed : List Handed} → Ran s cs row store handed → Stands row store handed (run s cs)
@@ -117,7 +117,7 @@ stands s t (ran.arrives {cs} {row} {store} {handed} p c layout given l told-layo
     ∙ ap (λ (x : State). storeFor (gathered x) store (c .store)) (at .1)
     ∙ ap (λ (x : List ℕ). storeFor (gathered st) x (c .store)) (ih .left) in
     let z : Step = callStep s (run s cs) c in
-    let steps : step st (calls.layoutOf layout) o lend ≡ z = ap₂ (λ (L : Layout) (x : List ℕ). step st L o x) told-layout same in
+    let steps : step st (rows.layoutOf layout) o lend ≡ z = ap₂ (λ (L : Layout) (x : List ℕ). step st L o x) told-layout same in
     let a : arrive layout row o lend given ≡ stepped z = arrive-is row o lend given layout st l long answers (ih .state) ∙ ap stepped steps in
     let small : st .last .0 < 2 ^ 32 = (let m : getD row 4 0 ≡ st .last .0 = ap (λ (x : State). x .last .0) (at .1) in omega (arith, m, v .last)) in
     record {

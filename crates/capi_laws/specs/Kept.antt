@@ -8,7 +8,7 @@ use Rattle.wire.specs.Bits.{overwrite}
 use Rattle.wire.specs.Layout.{Layout}
 use Rattle.wire.specs.Result.{accepted}
 use Rattle.wire.specs.Packet.{Content, readContent}
-use Rattle.capi.specs.Calls.{Arrived}
+use Rattle.capi_depacketizer.specs.Calls.{Arrived}
 
 -- the row then is the row before, but for number 10 after 32, and numbers 12 and 13 after 36
 pub record Keeps (L : Layout) (state octets lent : List ℕ) (a : Arrived) : Type 0 where

@@ -8,9 +8,9 @@ use lib.ListN.{length, take, getD}
 use Rattle.wire.specs.Bits.{overwrite}
 use Rattle.stream.specs.Stream.{Stream, WellFormedStream, Call, Calls, none, _before_, Proper, Near, Handed, octetsOf, layoutOf, arrived, fresh, expected, span}
 use Rattle.state_row.specs.State.{stateIn}
+use Rattle.boundary.specs.Rows as rows
 use Rattle.boundary.specs.Rows.{Reply}
-use Rattle.capi.specs.Calls as calls
-use Rattle.capi.specs.Calls.{openNumbers, stateOpened, arrive, stateArrived}
+use Rattle.capi_depacketizer.specs.Calls.{arrive, openNumbers, stateArrived, stateOpened}
 
 -- "While the keeper is filling, a call is lent the store as the call before left it, ..; otherwise any store": number 2 of a state's row is 2 when filling
 abbrev pub lent : (row left offered : List ℕ) → List ℕ
@@ -36,7 +36,7 @@ pub data Ran (s : Stream) : Calls → (row store : List ℕ) → List Handed →
   opens : (row given : List ℕ) {row′ : List ℕ} → 15 ≤ length row → 9 ≤ length given → row′ ≡ overwrite (openNumbers (s .source) (s .type) row given) row
       → stateIn row′ ≡ stateOpened (s .source) (s .type) row given → Ran s none row′ [] []
   arrives : {cs : Calls} {row store : List ℕ} {handed : List Handed} {row′ : List ℕ} → Ran s cs row store handed → (c : Call) (layout : ℕ) (given : List ℕ) → layout ≤ 1
-      → calls.layoutOf layout ≡ layoutOf s (c .arriving) → 15 ≤ length row → 9 ≤ length given
+      → rows.layoutOf layout ≡ layoutOf s (c .arriving) → 15 ≤ length row → 9 ≤ length given
       → row′ ≡ overwrite (arrive layout row (octetsOf s (c .arriving)) (lent row store (c .store)) given .numbers) row
       → stateIn row′ ≡ stateArrived layout row (octetsOf s (c .arriving)) (lent row store (c .store)) given
       → Ran s (cs before c) row′ (arrive layout row (octetsOf s (c .arriving)) (lent row store (c .store)) given .store)

@@ -1,4 +1,4 @@
-// The C boundary of the shared outlet (02, K10; include/jibhotran.h): an archive of its own beside that of `capi`, with the same rules.
+// The C boundary of the shared outlet (02, K10; include/jibhotran.h).
 //
 // A call returns 0 or a refusal's number; what it returns beside that goes to the caller's row of numbers, `answer`. The outlet's state is a
 // row of the caller's too.
@@ -8,6 +8,8 @@ ghost use lib.ListN.{length};
 ghost use Rattle.wire.specs.Bits.{overwrite};
 ghost use Rattle.boundary.specs.Rows.{answerSize};
 ghost use Rattle.outlet_capi.specs.Calls.{offer, openNumber, openNumbers, rowsFit, take, takenReply};
+use boundary::length::ANSWER_SIZE;
+use boundary::length::ROW_TOO_SHORT;
 use boundary::row::ACCEPTED;
 use boundary::row::refuse;
 use outlet::state::OfferAnswer;
@@ -18,13 +20,8 @@ use outlet_row::state::state_in;
 use state_row::row::put;
 use wire::refusal::Refusal;
 
-// Numbers that an answer needs, and a state.
-const ANSWER_SIZE: usize = 9;
-
+// Numbers that a state needs.
 const STATE_SIZE: usize = 145;
-
-// A row is too short: the boundary's own number.
-const ROW_TOO_SHORT: u8 = 255;
 
 // Both rows are long enough.
 fn rows_fit(state: usize, answer: usize) -> bool

@@ -4,7 +4,7 @@ use borrow.Author.Needs.{needs}
 use mathlib.Core.Path.{ap, sym, _∙_}
 use Rattle.wire.specs.declared.written.Written.{Written}
 use Rattle.wire.specs.Bits.{overwrite}
-use Rattle.boundary.specs.Rows.{writtenReply}
+use Rattle.boundary.specs.Rows.{given, writtenReply}
 use Rattle.boundary.proofs.answer.reply_written.Statement.{statement}
 use Rattle.boundary.proofs.answer.reply_written.Tie as tie
 
