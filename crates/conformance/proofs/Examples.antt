@@ -188,3 +188,35 @@ pub old-layout : (report draft2015 false (drafted 0x70 7 1 1 drafted10 ∷ draft
     × (report rfc8331 false (drafted 0xF0 7 1 0 [] ∷ []) ≡ (0, refuses 5 0) ∷ [])
 unfolding toBits num bits bitsAt rowAt headerWord checksumWord ancSize ancRecord headersOk rOk wordsOk checksumOk alignmentOk ancChecks readAnc readRun packetRead headerChecks paddingChecks payloadChecks readRecords readPacket lineOf offsetOf admitted isPlain isLower descends placeAfter isGap isChange isReserved entries reportFrom report
 old-layout = (refl, refl, refl, refl)
+
+-- "the frame's index from 0, then `refused CODE INDEX` or `cut`, `number`, `change`, `reserved` or
+-- `raster`": each, to the letter
+pub lines : (lineText 0 (refuses 16 254) ≡ ascii "0 refused 16 254\n")
+    × (lineText 12 finding.Cut ≡ ascii "12 cut\n")
+    × (lineText 345 finding.Number ≡ ascii "345 number\n")
+    × (lineText 6789 finding.Change ≡ ascii "6789 change\n")
+    × (lineText 65536 finding.Reserved ≡ ascii "65536 reserved\n")
+    × (lineText 4294967296 finding.Raster ≡ ascii "4294967296 raster\n")
+unfolding ascii decimal decimalIn lineText
+lines = (refl, refl, refl, refl, refl, refl)
+
+-- a frame
+abbrev framed : List ℕ → List ℕ
+framed p = 0 ∷ length p ∷ p
+
+-- all four rules broken by the second packet, a wrong checksum in the second record of the third, and a cut
+abbrev everyRule : List ℕ
+everyRule =
+    framed (unmarked 7 1 1 line10)
+    ++ (framed (packet 0xF0 1 9 2 0x80 1 1 line9)
+    ++ (framed (marked 10 2 2 (line9 ++ line9off5bad)) ++ (0 ∷ 1 ∷ [])))
+
+-- WHAT THE PROGRAM PRINTS where every rule is broken
+pub every-line : streamText rfc8331 everyRule
+    ≡ ascii "1 number\n1 change\n1 reserved\n1 raster\n2 refused 11 1\n3 cut\n"
+unfolding
+    toBits num bits bitsAt rowAt headerWord checksumWord ancSize ancRecord headersOk rOk wordsOk
+    checksumOk alignmentOk ancChecks readAnc readRun packetRead headerChecks paddingChecks payloadChecks
+    readRecords readPacket lineOf offsetOf admitted isPlain isLower descends placeAfter isGap isChange
+    isReserved entries reportFrom report ascii decimal decimalIn lineText reportText streamText
+every-line = refl
