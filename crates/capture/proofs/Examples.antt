@@ -11,7 +11,18 @@ use Rattle.capture.specs.declared.state.State.{State}
 use Rattle.capture.specs.declared.state.Item.the-variants as item
 use Rattle.capture.specs.Numbers.{wordAt, halfAt}
 use Rattle.capture.specs.Step.{behind, opened, stepOf}
-use Rattle.capture.specs.Written.{blockOf, enhancedOf, headOf, interfaceOf, obsoleteOf, recordOf, sectionOf, simpleOf, wordOf}
+use Rattle.capture.specs.Written.{
+  blockOf,
+  enhancedOf,
+  halfOf,
+  headOf,
+  interfaceOf,
+  obsoleteOf,
+  recordOf,
+  sectionOf,
+  simpleOf,
+  wordOf,
+}
 
 -- pcap's head, octet by octet: Ethernet (1), timestamps in microseconds, least significant octet first
 littleHead : List ℕ
@@ -105,6 +116,12 @@ two o = behind (behind (section o) (item.Interface 1 4 20)) (item.Interface 113 
 an-interface : stepOf (section order.Little) (interfaceOf order.Little 276 65535) ≡ item.Interface 276 65535 20
 unfolding stepOf wordAt halfAt section
 an-interface = refl
+
+-- one of 16 octets, whose fields end before SnapLen, is refused; 20 are the fewest
+interface-16 : let fields = halfOf order.Little 276 ++ halfOf order.Little 0 in
+    stepOf (section order.Little) (blockOf order.Little 1 fields) ≡ item.Refused 82
+unfolding stepOf wordAt halfAt section
+interface-16 = refl
 
 -- a packet of the second, padded; from an interface that was not described; and longer than its block
 enhanced : stepOf (two order.Big) (enhancedOf order.Big 1 0 0 60 (7 ∷ 8 ∷ 9 ∷ []) (0 ∷ [])) ≡ item.Packet (record { at = 28; size = 3; link = 113 }) 36

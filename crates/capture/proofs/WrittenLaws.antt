@@ -34,7 +34,7 @@ digits n =
     ap (λ (k : ℕ). (k * 256 + n / 256 % 256) * 256 + n % 256) a ∙ ap (λ (k : ℕ). k * 256 + n % 256) b ∙ c
 
 -- what was written at the front
-word-front : (o : Order) (n : ℕ) (rest : List ℕ) → wordAt o (wordOf o n ++ rest) 0 ≡ n
+pub word-front : (o : Order) (n : ℕ) (rest : List ℕ) → wordAt o (wordOf o n ++ rest) 0 ≡ n
 unfolding wordAt
 word-front order.Big n rest = digits n
 word-front order.Little n rest = digits n
@@ -48,14 +48,14 @@ half-front order.Little n rest = div-add-mod' n 256
 octet-behind : (a b : List ℕ) (k : ℕ) (n : ℕ) → n ≡ length a + k → getD (a ++ b) n 0 ≡ getD b k 0
 octet-behind a b k n e = ap (λ (j : ℕ). getD (a ++ b) j 0) e ∙ getD-append-add a b k 0
 
-word-behind : (o : Order) (a b : List ℕ) (k n : ℕ) → n ≡ length a + k → wordAt o (a ++ b) n ≡ wordAt o b k
+pub word-behind : (o : Order) (a b : List ℕ) (k n : ℕ) → n ≡ length a + k → wordAt o (a ++ b) n ≡ wordAt o b k
 unfolding wordAt
 word-behind order.Big a b k n e =
     λ i. quadOf (octet-behind a b k n e i) (octet-behind a b (k + 1) (n + 1) (omega arith) i) (octet-behind a b (k + 2) (n + 2) (omega arith) i) (octet-behind a b (k + 3) (n + 3) (omega arith) i)
 word-behind order.Little a b k n e =
     λ i. quadOf (octet-behind a b (k + 3) (n + 3) (omega arith) i) (octet-behind a b (k + 2) (n + 2) (omega arith) i) (octet-behind a b (k + 1) (n + 1) (omega arith) i) (octet-behind a b k n e i)
 
-length-word : (o : Order) (n : ℕ) → length (wordOf o n) ≡ 4
+pub length-word : (o : Order) (n : ℕ) → length (wordOf o n) ≡ 4
 length-word order.Big n = refl
 length-word order.Little n = refl
 

@@ -3,6 +3,7 @@
 use mathlib.Core.Path.{_≡_, refl, ap, sym, _∙_}
 use mathlib.Core.Bool.{Bool, true, false, cond, _&&_, and-true, and-false, or-true}
 use mathlib.Core.List.{List, [], _∷_, _++_, append-assoc}
+use mathlib.Core.Logic.{inl, inr}
 use Prim.Native.Nat.{ℕ, zero, suc, _+_, _-_, _*_, _/_, _%_, _<_}
 use native.Mathlib.Omega.{arith}
 use borrow.Author.Tests.{le-leb, eq-eqb, ne-eqb}
@@ -22,7 +23,6 @@ use Rattle.datagram.specs.Ip.{
   isIpv4Whole,
   ipv4Checks,
   ipv4In,
-  protocolUdp,
   fragmentHeader,
   isExtension,
   leadsToUdp,
@@ -36,7 +36,7 @@ use Rattle.datagram.specs.Ip.{
   ipv6Checks,
   ipv6In,
 }
-use Rattle.datagram.specs.Link.{isTag, hasTag, tagOctets, typedIn, tagged, etherIpv4, etherIpv6, linkOf, linkIn, datagramIn}
+use Rattle.datagram.specs.Link.{isTag, hasTag, tagOctets, typedIn, tagged, linkOf, linkIn, datagramIn}
 use Rattle.datagram.specs.Wrapped.{
   word,
   udpAround,
@@ -49,6 +49,8 @@ use Rattle.datagram.specs.Wrapped.{
   whole,
   IsFragment,
   fragmentAround,
+  OptionNumber,
+  NextToUdp,
   Option,
   OptionFits,
   AllFit,
@@ -59,6 +61,7 @@ use Rattle.datagram.specs.Wrapped.{
   Ipv6Fits,
   ipv6Front,
   ipv6Around,
+  TagNumber,
   AreTags,
   tagsAround,
   ethernetAround,
@@ -69,6 +72,50 @@ use Rattle.datagram.proofs.FieldLaws.{pair-drop, beyond-beyond}
 use Rattle.datagram.proofs.IpLaws.{headers-udp, headers-end, headers-next}
 use Rattle.datagram.proofs.LinkLaws.{tag-next, tag-none, beyond-none}
 use Rattle.datagram.proofs.StayLaws.{decided-stays}
+
+-- the numbers that senders write are those that are looked for
+option-is : (n : ℕ) → OptionNumber n → isExtension n ≡ true
+unfolding isExtension
+option-is n (inl e) = ap isExtension e
+option-is n (inr (inl e)) = ap isExtension e
+option-is n (inr (inr e)) = ap isExtension e
+
+option-other : (n : ℕ) → OptionNumber n → eqb n fragmentHeader ≡ false
+option-other n (inl e) = ap (λ (m : ℕ). eqb m fragmentHeader) e
+option-other n (inr (inl e)) = ap (λ (m : ℕ). eqb m fragmentHeader) e
+option-other n (inr (inr e)) = ap (λ (m : ℕ). eqb m fragmentHeader) e
+
+next-is : (n : ℕ) → NextToUdp n → leadsToUdp n ≡ true
+unfolding leadsToUdp isExtension
+next-is n (inl e) = ap leadsToUdp e
+next-is n (inr (inl e)) = ap leadsToUdp e
+next-is n (inr (inr h)) = rw (option-is n h) (or-true (eqb n 17))
+
+next-is-not : (n : ℕ) → (NextToUdp n → ⊥) → leadsToUdp n ≡ false
+unfolding leadsToUdp isExtension
+next-is-not n none =
+    rw (
+      ne-eqb n 17 (λ e. none (inl e)),
+      ne-eqb n 44 (λ e. none (inr (inl e))),
+      ne-eqb n 0 (λ e. none (inr (inr (inl e)))),
+      ne-eqb n 43 (λ e. none (inr (inr (inr (inl e))))),
+      ne-eqb n 60 (λ e. none (inr (inr (inr (inr e))))),
+    )
+
+tag-is : (n : ℕ) → TagNumber n → isTag n ≡ true
+unfolding isTag
+tag-is n (inl e) = ap isTag e
+tag-is n (inr (inl e)) = ap isTag e
+tag-is n (inr (inr e)) = ap isTag e
+
+tag-is-not : (n : ℕ) → (TagNumber n → ⊥) → isTag n ≡ false
+unfolding isTag
+tag-is-not n none =
+    rw (
+      ne-eqb n 0x8100 (λ e. none (inl e)),
+      ne-eqb n 0x88A8 (λ e. none (inr (inl e))),
+      ne-eqb n 0x9100 (λ e. none (inr (inr e))),
+    )
 
 -- what a datagram to `destination` answers
 abbrev answer : (destination port size : ℕ) → Found
@@ -143,7 +190,7 @@ options-size (o ∷ os) = 8 * (1 + o .units) + options-size os
 first-leads : (os : List Option) (last : ℕ) → AllFit os → leadsToUdp last ≡ true → leadsToUdp (first os last) ≡ true
 unfolding leadsToUdp
 first-leads [] last fits l = l
-first-leads (o ∷ os) last fits l = rw (fits .0 .kind) (or-true (eqb (o .kind) 17))
+first-leads (o ∷ os) last fits l = rw (option-is (o .kind) (fits .0 .kind)) (or-true (eqb (o .kind) 17))
 
 module _ (o : Option) (os : List Option) (last : ℕ) (u : List ℕ) (fits : OptionFits o) (behind : AllFit os) (leads : leadsToUdp last ≡ true) where
   option-front : length (optionFront o os last) ≡ 8 * (1 + o .units)
@@ -156,10 +203,10 @@ module _ (o : Option) (os : List Option) (last : ℕ) (u : List ℕ) (fits : Opt
       let rest = optionsAround os last u in
       let n = 8 * (1 + o .units) in
       let all : length s ≡ n + length rest = length-append (optionFront o os last) rest ∙ ap (λ (x : ℕ). x + length rest) option-front in
-      let size : extensionSize (o .kind) s ≡ n = rw (fits .other) in
+      let size : extensionSize (o .kind) s ≡ n = rw (option-other (o .kind) (fits .kind)) in
       let least : leb 8 (length s) ≡ true = le-leb 8 (length s) (omega arith) in
       let inside : leb (extensionSize (o .kind) s) (length s) ≡ true = le-leb (extensionSize (o .kind) s) (length s) (omega arith) in
-      let unbroken : isIpv6Whole (o .kind) s ≡ true = rw (fits .other) in
+      let unbroken : isIpv6Whole (o .kind) s ≡ true = rw (option-other (o .kind) (fits .kind)) in
       judge-holds (extensionChecks (o .kind) (length s) s) (extension.Whole (extensionSize (o .kind) s))
       (least, (least, (and-both (first-leads os last behind leads) inside, (unbroken, (inside, tt))))) ∙ ap extension.Whole size
 
@@ -173,7 +220,8 @@ module _ (port last : ℕ) (u : List ℕ) (leads : leadsToUdp last ≡ true) whe
       let n = 8 * (1 + o .units) in
       let front = option-front o os last u (fits .0) (fits .1) leads in
       let room : length s - n ≡ length rest = omega (arith, length-append (optionFront o os last) rest) in
-      headers-next port (o .kind) (length s) s n (fits .0 .kind) (option-whole o os last u (fits .0) (fits .1) leads)
+      let kind = option-is (o .kind) (fits .0 .kind) in
+      headers-next port (o .kind) (length s) s n kind (option-whole o os last u (fits .0) (fits .1) leads)
       ∙ rw (room, drop-at (optionFront o os last) rest n front) (ap (beyond n) (options-around os (fits .1)))
       ∙ beyond-beyond n (options-size os) (headers port last (length u) u)
 
@@ -266,7 +314,8 @@ module _ (type : ℕ) (s : List ℕ) (other : isTag type ≡ false) where
   tags-octets [] a = tag-none (word type ++ s) (not-a-tag type s other)
   tags-octets (t ∷ ts) a =
       let rest = tagsAround ts (word type ++ s) in
-      tag-next (word (t .0) ++ (word (t .1) ++ rest)) (a-tag t rest (a .0)) ∙ omega (arith, tags-octets ts (a .1))
+      let tag = a-tag t rest (tag-is (t .0) (a .0)) in
+      tag-next (word (t .0) ++ (word (t .1) ++ rest)) tag ∙ omega (arith, tags-octets ts (a .1))
 
   tags-at : (ts : List (ℕ × ℕ)) → At (tagsAround ts (word type ++ s)) (4 * length ts + 2) s
   tags-at [] = record { front = word type; is = refl; size = refl }
@@ -344,18 +393,52 @@ module _ (stations : List ℕ) (tags : List (ℕ × ℕ)) (padding : List ℕ) (
   abbrev inEthernet : (type : ℕ) → List ℕ → List ℕ
   inEthernet type ip = ethernetAround stations tags type ip ++ padding
 
-  fragment-told : (type : ℕ) (ip : List ℕ) (port n : ℕ) → isTag type ≡ false → typedIn port type ip ≡ beyond n found.Fragment
-      → datagramIn (inEthernet type ip) 1 port ≡ found.Fragment
-  fragment-told type ip port n other told =
-      let is = ethernet-around stations tags type ip long other port n found.Fragment are told in
-      decided-stays (ethernetAround stations tags type ip) padding 1 port (λ c. let z : _≡_ {A = ℕ} 0 1 = cc in omega arith) ∙ is
+  -- an answer that is no place, whatever the link pads
+  told-so : (f : Found) (type : ℕ) (ip : List ℕ) (port : ℕ) → ((m : ℕ) → beyond m f ≡ f) → (f ≡ found.Cut → ⊥)
+      → isTag type ≡ false → typedIn port type ip ≡ f → datagramIn (inEthernet type ip) 1 port ≡ f
+  told-so f type ip port nowhere known other told =
+      let around = ethernet-around stations tags type ip long other port 0 f are (told ∙ sym (nowhere 0)) in
+      let is = around ∙ nowhere _ in
+      decided-stays (ethernetAround stations tags type ip) padding 1 port (λ c. known (sym is ∙ c)) ∙ is
+
+  fragment-told : (type : ℕ) (ip : List ℕ) (port : ℕ) → isTag type ≡ false
+      → typedIn port type ip ≡ found.Fragment → datagramIn (inEthernet type ip) 1 port ≡ found.Fragment
+  fragment-told type ip port =
+      told-so found.Fragment type ip port (λ m. refl) (λ c. let z : _≡_ {A = ℕ} 0 1 = cc in omega arith)
+
+  passed-told : (type : ℕ) (ip : List ℕ) (port : ℕ) → isTag type ≡ false
+      → typedIn port type ip ≡ found.Passed → datagramIn (inEthernet type ip) 1 port ≡ found.Passed
+  passed-told type ip port =
+      told-so found.Passed type ip port (λ m. refl) (λ c. let z : _≡_ {A = ℕ} 0 1 = cc in omega arith)
+
+  -- EtherTypes other than IPv4's (RFC 894) and IPv6's (RFC 2464) are passed over
+  pub other-type-passed : (type : ℕ) (s : List ℕ) (port : ℕ)
+      → (type ≡ 0x0800 → ⊥) → (type ≡ 0x86DD → ⊥) → (TagNumber type → ⊥)
+      → datagramIn (inEthernet type s) 1 port ≡ found.Passed
+  other-type-passed type s port four six tag =
+      passed-told type s port (tag-is-not type tag) (rw (ne-eqb type 0x0800 four, ne-eqb type 0x86DD six))
+
+  -- and so is an IPv6 packet whose first header UDP cannot stand behind
+  pub other-header-passed : (h : Ipv6Head) (next : ℕ) (s : List ℕ) (port : ℕ)
+      → Ipv6Fits h → (NextToUdp next → ⊥)
+      → datagramIn (inEthernet 0x86DD (ipv6Front h next (length s) ++ s)) 1 port ≡ found.Passed
+  unfolding isTag ipv6In isIpv6Udp
+  other-header-passed h next s port fits other =
+      let front = ipv6Front h next (length s) in
+      let ip = front ++ s in
+      let captured = le-leb 40 (length ip) (omega (arith, length-append front s, fits .addresses)) in
+      let is-six = eqb ((0x60 + h .class) / 16) 6 in
+      let none : isIpv6Udp ip ≡ false = rw (next-is-not next other) (and-false is-six) in
+      passed-told 0x86DD ip port refl (rw (captured, none))
 
   -- around IPv4 with any options
   module _ (h : Ipv4Head) (fits : Ipv4Fits h) (port : ℕ) where
     -- a fragment is told, to whatever port and whatever it has
-    pub ipv4-fragment-told : (p : Part) (s : List ℕ) → PartFits p → IsFragment p → datagramIn (inEthernet etherIpv4 (ipv4Around h p s)) 1 port ≡ found.Fragment
+    pub ipv4-fragment-told : (p : Part) (s : List ℕ) → PartFits p → IsFragment p
+        → datagramIn (inEthernet 0x0800 (ipv4Around h p s)) 1 port ≡ found.Fragment
     unfolding isTag
-    ipv4-fragment-told p s part some = fragment-told etherIpv4 (ipv4Around h p s) port 0 refl (ipv4-fragment h p s fits part port some)
+    ipv4-fragment-told p s part some =
+        fragment-told 0x0800 (ipv4Around h p s) port refl (ipv4-fragment h p s fits part port some)
 
     module _ (source d checksum : ℕ) (payload : List ℕ) where
       abbrev ipv4 : List ℕ
@@ -365,56 +448,67 @@ module _ (stations : List ℕ) (tags : List (ℕ × ℕ)) (padding : List ℕ) (
       parts = record { more = omega arith; offset = omega arith }
 
       ipv4-told : let u = udpAround source d checksum payload in
-          datagramIn (ethernetAround stations tags etherIpv4 ipv4) 1 port ≡ beyond (12 + (4 * length tags + 2 + (20 + 4 * h .words))) (udpIn port (length u) u)
+          let n = 12 + (4 * length tags + 2 + (20 + 4 * h .words)) in
+          datagramIn (ethernetAround stations tags 0x0800 ipv4) 1 port ≡ beyond n (udpIn port (length u) u)
       unfolding isTag
       ipv4-told =
           let u = udpAround source d checksum payload in
           let n = 20 + 4 * h .words in
-          ethernet-around stations tags etherIpv4 ipv4 long refl port n (udpIn port (length u) u) are (ipv4-around h whole u fits parts port refl)
+          ethernet-around stations tags 0x0800 ipv4 long refl port n (udpIn port (length u) u) are
+          (ipv4-around h whole u fits parts port refl)
 
       -- the payload is found
-      pub ipv4-found : d ≡ port → Carries (inEthernet etherIpv4 ipv4) 1 port payload
+      pub ipv4-found : d ≡ port → Carries (inEthernet 0x0800 ipv4) 1 port payload
       unfolding isTag
       ipv4-found =
           let u = udpAround source d checksum payload in
           let ip : At ipv4 (20 + 4 * h .words) u = record { front = ipv4Front h whole (length u); is = refl; size = ipv4-front h whole u fits parts } in
-          carried (ethernetAround stations tags etherIpv4 ipv4) _ source d checksum port payload padding ipv4-told
-          (ethernet-at stations tags etherIpv4 ipv4 long refl ip)
+          let packet = ethernetAround stations tags 0x0800 ipv4 in
+          carried packet _ source d checksum port payload padding ipv4-told
+          (ethernet-at stations tags 0x0800 ipv4 long refl ip)
 
       -- a datagram to another port is passed over
-      pub ipv4-passed : (d ≡ port → ⊥) → datagramIn (inEthernet etherIpv4 ipv4) 1 port ≡ found.Passed
-      ipv4-passed = passed-over (ethernetAround stations tags etherIpv4 ipv4) _ source d checksum port payload padding ipv4-told
+      pub ipv4-passed : (d ≡ port → ⊥) → datagramIn (inEthernet 0x0800 ipv4) 1 port ≡ found.Passed
+      ipv4-passed =
+          let packet = ethernetAround stations tags 0x0800 ipv4 in
+          passed-over packet _ source d checksum port payload padding ipv4-told
 
   -- around IPv6 with any extension headers
   module _ (h : Ipv6Head) (os : List Option) (fits : Ipv6Fits h) (all : AllFit os) (port : ℕ) where
-    pub ipv6-fragment-told : (p : Part) (next : ℕ) (id : ℕ × ℕ) (s : List ℕ) → PartFits p → IsFragment p → leadsToUdp next ≡ true
-        → datagramIn (inEthernet etherIpv6 (ipv6Around h os fragmentHeader (fragmentAround p next id s))) 1 port ≡ found.Fragment
+    pub ipv6-fragment-told : (p : Part) (next : ℕ) (id : ℕ × ℕ) (s : List ℕ)
+        → PartFits p → IsFragment p → NextToUdp next
+        → let packet = inEthernet 0x86DD (ipv6Around h os 44 (fragmentAround p next id s)) in
+        datagramIn packet 1 port ≡ found.Fragment
     unfolding isTag leadsToUdp isExtension
     ipv6-fragment-told p next id s part some leads =
         let f = fragmentAround p next id s in
-        fragment-told etherIpv6 (ipv6Around h os fragmentHeader f) port (40 + options-size os) refl
-        (ipv6-around port fragmentHeader f refl h os fits all ∙ ap (beyond (40 + options-size os)) (ipv6-fragment port p next id s part some leads))
+        let part-told = ipv6-fragment port p next id s part some (next-is next leads) in
+        fragment-told 0x86DD (ipv6Around h os 44 f) port refl
+        (ipv6-around port 44 f refl h os fits all ∙ ap (beyond (40 + options-size os)) part-told)
 
     module _ (source d checksum : ℕ) (payload : List ℕ) where
       abbrev ipv6 : List ℕ
-      ipv6 = ipv6Around h os protocolUdp (udpAround source d checksum payload)
+      ipv6 = ipv6Around h os 17 (udpAround source d checksum payload)
 
       ipv6-told : let u = udpAround source d checksum payload in
           let n = 12 + (4 * length tags + 2 + (40 + options-size os)) in
-          datagramIn (ethernetAround stations tags etherIpv6 ipv6) 1 port ≡ beyond n (udpIn port (length u) u)
+          datagramIn (ethernetAround stations tags 0x86DD ipv6) 1 port ≡ beyond n (udpIn port (length u) u)
       unfolding isTag leadsToUdp isExtension
       ipv6-told =
           let u = udpAround source d checksum payload in
           let n = 40 + options-size os in
-          ethernet-around stations tags etherIpv6 ipv6 long refl port n (udpIn port (length u) u) are
-          (ipv6-around port protocolUdp u refl h os fits all ∙ ap (beyond n) (headers-udp port protocolUdp (length u) u refl))
+          ethernet-around stations tags 0x86DD ipv6 long refl port n (udpIn port (length u) u) are
+          (ipv6-around port 17 u refl h os fits all ∙ ap (beyond n) (headers-udp port 17 (length u) u refl))
 
-      pub ipv6-found : d ≡ port → Carries (inEthernet etherIpv6 ipv6) 1 port payload
+      pub ipv6-found : d ≡ port → Carries (inEthernet 0x86DD ipv6) 1 port payload
       unfolding isTag
       ipv6-found =
           let u = udpAround source d checksum payload in
-          carried (ethernetAround stations tags etherIpv6 ipv6) _ source d checksum port payload padding ipv6-told
-          (ethernet-at stations tags etherIpv6 ipv6 long refl (ipv6-at h os protocolUdp u fits all))
+          let packet = ethernetAround stations tags 0x86DD ipv6 in
+          carried packet _ source d checksum port payload padding ipv6-told
+          (ethernet-at stations tags 0x86DD ipv6 long refl (ipv6-at h os 17 u fits all))
 
-      pub ipv6-passed : (d ≡ port → ⊥) → datagramIn (inEthernet etherIpv6 ipv6) 1 port ≡ found.Passed
-      ipv6-passed = passed-over (ethernetAround stations tags etherIpv6 ipv6) _ source d checksum port payload padding ipv6-told
+      pub ipv6-passed : (d ≡ port → ⊥) → datagramIn (inEthernet 0x86DD ipv6) 1 port ≡ found.Passed
+      ipv6-passed =
+          let packet = ethernetAround stations tags 0x86DD ipv6 in
+          passed-over packet _ source d checksum port payload padding ipv6-told

@@ -1,16 +1,15 @@
 -- A datagram as its sender wraps it, for what is found in it again: each header around what it carries.
+-- The numbers are those of the RFCs and of IEEE 802.1Q as they stand there, not by the names of the
+-- definitions that find it.
 use mathlib.Core.Path.{_≡_}
-use mathlib.Core.Bool.{true, false}
+use mathlib.Core.Logic.{_⊎_}
 use mathlib.Core.List.{List, [], _∷_, _++_}
 use Prim.Native.Nat.{ℕ, _+_, _*_, _/_, _%_, _<_, _≤_}
 use lib.ListN.{length}
-use lib.Dec.{eqb}
 use Rattle.datagram.specs.declared.answer.Found.{Found}
 use Rattle.datagram.specs.declared.answer.Found.the-variants as found
 use Rattle.datagram.specs.Answer.{payloadOf}
-use Rattle.datagram.specs.Udp.{udpHeader}
-use Rattle.datagram.specs.Ip.{protocolUdp, fragmentHeader, isExtension}
-use Rattle.datagram.specs.Link.{isTag, datagramIn}
+use Rattle.datagram.specs.Link.{datagramIn}
 
 -- a number of 16 bits, the most significant octet first
 abbrev pub word : ℕ → List ℕ
@@ -18,7 +17,7 @@ word n = n / 256 ∷ n % 256 ∷ []
 
 -- RFC 768: Source Port, Destination Port, Length, Checksum
 abbrev pub udpAround : (source destination checksum : ℕ) → List ℕ → List ℕ
-udpAround s d c payload = word s ++ (word d ++ (word (udpHeader + length payload) ++ (word c ++ payload)))
+udpAround s d c payload = word s ++ (word d ++ (word (8 + length payload) ++ (word c ++ payload)))
 
 -- which part of a datagram a packet has: More Fragments, and the Fragment Offset
 pub record Part : Type 0 where
@@ -37,7 +36,8 @@ whole = record { more = 0; offset = 0 }
 abbrev pub IsFragment : Part → Type 0
 IsFragment p = 0 < p .more + p .offset
 
--- what an IPv4 header has besides its lengths and its protocol; `flags` are the reserved bit and DF; `words` of options
+-- what an IPv4 header has besides its lengths and its protocol; `flags` are the reserved bit and DF;
+-- `words` of options
 pub record Ipv4Head : Type 0 where
   pub service : ℕ
   pub identification : ℕ
@@ -60,7 +60,7 @@ ipv4Front h p n =
     word (20 + 4 * h .words + n) ++ (
     word (h .identification) ++ (
     word (0x4000 * h .flags + 0x2000 * p .more + p .offset) ++ (
-    h .time ∷ protocolUdp ∷ (word (h .checksum) ++ (h .addresses ++ h .options))
+    h .time ∷ 17 ∷ (word (h .checksum) ++ (h .addresses ++ h .options))
     )
     )
     )
@@ -69,6 +69,14 @@ ipv4Front h p n =
 abbrev pub ipv4Around : Ipv4Head → Part → List ℕ → List ℕ
 ipv4Around h p s = ipv4Front h p (length s) ++ s
 
+-- RFC 8200, sections 4.3, 4.4 and 4.6: Hop-by-Hop Options, Routing and Destination Options
+abbrev pub OptionNumber : ℕ → Type 0
+OptionNumber n = (n ≡ 0) ⊎ (n ≡ 43) ⊎ (n ≡ 60)
+
+-- what UDP (RFC 768) may stand behind: nothing, a Fragment header (RFC 8200, section 4.5), or one of those
+abbrev pub NextToUdp : ℕ → Type 0
+NextToUdp n = (n ≡ 17) ⊎ (n ≡ 44) ⊎ OptionNumber n
+
 -- an extension header: Hop-by-Hop Options, Routing or Destination Options, and its octets behind Hdr Ext Len
 pub record Option : Type 0 where
   pub kind : ℕ
@@ -76,8 +84,7 @@ pub record Option : Type 0 where
   pub content : List ℕ
 
 pub record OptionFits (o : Option) : Type 0 where
-  pub kind : isExtension (o .kind) ≡ true
-  pub other : eqb (o .kind) fragmentHeader ≡ false
+  pub kind : OptionNumber (o .kind)
   pub content : length (o .content) ≡ 6 + 8 * o .units
 
 abbrev pub AllFit : List Option → Type 0
@@ -96,7 +103,8 @@ abbrev pub optionsAround : List Option → ℕ → List ℕ → List ℕ
 optionsAround [] last s = s
 optionsAround (o ∷ os) last s = optionFront o os last ++ optionsAround os last s
 
--- a Fragment header before a header `next`: Next Header, reserved, Fragment Offset 13, reserved 2, M 1, Identification
+-- a Fragment header before a header `next`: Next Header, reserved, Fragment Offset 13, reserved 2, M 1,
+-- Identification
 abbrev pub fragmentAround : Part → (next : ℕ) → (ℕ × ℕ) → List ℕ → List ℕ
 fragmentAround p next id s = next ∷ 0 ∷ (word (8 * p .offset + p .more) ++ (word (id .0) ++ (word (id .1) ++ s)))
 
@@ -117,10 +125,14 @@ ipv6Front h next n = (0x60 + h .class) ∷ h .label .0 ∷ h .label .1 ∷ h .la
 abbrev pub ipv6Around : Ipv6Head → List Option → (last : ℕ) → List ℕ → List ℕ
 ipv6Around h os last s = ipv6Front h (first os last) (length (optionsAround os last s)) ++ optionsAround os last s
 
+-- IEEE 802.1Q, table 9-1: of customer tags and of service tags; the third is what others used before
+abbrev pub TagNumber : ℕ → Type 0
+TagNumber n = (n ≡ 0x8100) ⊎ (n ≡ 0x88A8) ⊎ (n ≡ 0x9100)
+
 -- tags: a protocol identifier and control information each
 abbrev pub AreTags : List (ℕ × ℕ) → Type 0
 AreTags [] = Unit {0}
-AreTags (t ∷ ts) = (isTag (t .0) ≡ true) × AreTags ts
+AreTags (t ∷ ts) = TagNumber (t .0) × AreTags ts
 
 abbrev pub tagsAround : List (ℕ × ℕ) → List ℕ → List ℕ
 tagsAround [] s = s
