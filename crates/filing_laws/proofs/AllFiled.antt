@@ -25,7 +25,7 @@ use Rattle.filing_laws.proofs.FormedLaws.{frames-below}
 use Rattle.filing_laws.proofs.StoreLaws.{Holds, nothing-stands, step-leaves}
 
 -- what a session has gathered stands in the store
-abbrev SessionHolds : Session → List ℕ → Type 0
+abbrev pub SessionHolds : Session → List ℕ → Type 0
 SessionHolds (session.Waiting L) store = Unit {0}
 SessionHolds (session.Open L d) store = Holds store (gathered (d .state))
 
@@ -48,7 +48,7 @@ turn-holds : (s : Session) (n : ℕ) (octets store : List ℕ) → Below 256 oct
 turn-holds s n octets store below h (opened.Refused x) g = (h, tt)
 turn-holds s n octets store below h (opened.Open d) g = step-leaves (d .state) (layoutIn s) octets store below g
 
-packet-filed : (s : Session) (octets store : List ℕ) → Below 256 octets → SessionHolds s store
+pub packet-filed : (s : Session) (octets store : List ℕ) → Below 256 octets → SessionHolds s store
     → SessionHolds (turn s octets store .session) (turn s octets store .store) × EachFiled (wholeAt (layoutIn s) octets store (entered s (readContent (layoutIn s) octets))) (handed s octets store)
 unfolding turn handed
 packet-filed s octets store below h =

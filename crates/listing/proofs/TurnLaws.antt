@@ -38,6 +38,15 @@ module _ (v : Session) (octets store : List ℕ) (o : Opened) (entry : o ≡ ent
   pub turn-arrived : (d : Depacketizer) → o ≡ opened.Open d → turn v octets store ≡ arrived (layoutIn v) (numberOf content) (step (d .state) (layoutIn v) octets store)
   turn-arrived d e = by (opened.Open d) e
 
+-- "Which layout applies is told by the caller" (02, K3): a session keeps the one that it began with
+pub layout-stays : (v : Session) (p store : List ℕ) → layoutIn (turn v p store .session) ≡ layoutIn v
+unfolding turn
+layout-stays v p store = go (numberOf (readContent (layoutIn v) p)) (entered v (readContent (layoutIn v) p))
+  where
+    go : (n : ℕ) (o : Opened) → layoutIn (turnBy v n p store o .session) ≡ layoutIn v
+    go n (opened.Refused x) = refl
+    go n (opened.Open d) = refl
+
 -- the test for room, by division
 pub divided : (s o : ℕ) → lineRoom ≤ o → leb s ((o - lineRoom) / cellRoom) ≡ leb (lineRoom + cellRoom * s) o
 divided s o h = go (leb s ((o - lineRoom) / cellRoom)) refl

@@ -1,2 +1,4 @@
 pub mod WordLines
 pub mod RecordsLeft
+pub mod TextLaws
+pub mod Examples
