@@ -6,3 +6,4 @@ pub mod LinkLaws
 pub mod PlaceLaws
 pub mod StayLaws
 pub mod WrapLaws
+pub mod TypeLaws

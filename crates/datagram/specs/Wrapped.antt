@@ -142,6 +142,10 @@ tagsAround (t ∷ ts) s = word (t .0) ++ (word (t .1) ++ tagsAround ts s)
 abbrev pub ethernetAround : (stations : List ℕ) (tags : List (ℕ × ℕ)) (type : ℕ) → List ℕ → List ℕ
 ethernetAround stations tags type s = stations ++ tagsAround tags (word type ++ s)
 
+-- link types (the tcpdump group's page): Ethernet, Linux cooked captures of either version, raw IP packets
+abbrev pub LinkNumber : ℕ → Type 0
+LinkNumber n = (n ≡ 1) ⊎ (n ≡ 113) ⊎ (n ≡ 276) ⊎ (n ≡ 12) ⊎ (n ≡ 101) ⊎ (n ≡ 228) ⊎ (n ≡ 229)
+
 -- the payload is found in the packet of the link type, for the port
 pub record Carries (packet : List ℕ) (link port : ℕ) (payload : List ℕ) : Type 0 where
   pub start : ℕ
