@@ -10,7 +10,7 @@ const ARCHIVES: [&str; 5] = [
     "capi_depacketizer",
     "capi_parameters",
     "capi_file",
-    "outlet_capi",
+    "capi_egress",
 ];
 
 fn main() {

@@ -510,7 +510,7 @@ fn every_octet_of_a_file() {
 /// both of before there was a version 2. Every field, up to 54.
 #[test]
 fn kept_files_of_version_1() {
-    let proved = include_bytes!("../../crates/fieldfile_example/data/version1.anf");
+    let proved = include_bytes!("../../crates/example_fieldfile/data/version1.anf");
     let reference = include_bytes!("../../reference/tests/version1.anf");
     for (file, fields) in [(&proved[..], 2), (&reference[..], 5)] {
         let mut at = 5;

@@ -40,6 +40,6 @@ fn the_text() {
 /// The proved program prints the same: its check compares it with this file.
 #[test]
 fn the_proved_program() {
-    let proved = include_str!("../../crates/runs_example/stdout");
+    let proved = include_str!("../../crates/example_limits/stdout");
     assert_eq!(reference_text(), proved);
 }

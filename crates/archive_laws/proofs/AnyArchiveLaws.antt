@@ -6,31 +6,31 @@ use mathlib.Core.List.{List, [], _∷_, _++_, append-assoc}
 use Prim.Native.Nat.{ℕ, _+_}
 use native.Mathlib.Omega.{arith}
 use lib.Dec.{leb}
-use Rattle.wire.specs.Bits.{Below}
-use Rattle.wire.specs.Layout.{Layout}
-use Rattle.wire.specs.Result.{Result, refused, accepted, judge}
-use Rattle.wire.specs.Anc.{Each}
-use Rattle.wire.specs.Cells.{Lists}
-use Rattle.wire.specs.Packet.{Content, readContent}
-use Rattle.wire.specs.Writing.{maxType}
-use Rattle.wire.proofs.ListLaws.{each-append}
-use Rattle.anf.specs.File.{FieldContent, FileRead}
-use Rattle.frames.specs.Frames.{frames}
+use Rattle.wire_spec.specs.Bits.{Below}
+use Rattle.wire_spec.specs.Layout.{Layout}
+use Rattle.wire_spec.specs.Result.{Result, refused, accepted, judge}
+use Rattle.wire_spec.specs.Anc.{Each}
+use Rattle.wire_spec.specs.Cells.{Lists}
+use Rattle.wire_spec.specs.Packet.{Content, readContent}
+use Rattle.wire_spec.specs.Writing.{maxType}
+use Rattle.wire_spec.proofs.ListLaws.{each-append}
+use Rattle.fieldfile_spec.specs.File.{FieldContent, FileRead}
+use Rattle.rtp_frames.specs.Frames.{frames}
 use Rattle.depacketizer.specs.declared.state.Opened.{Opened}
 use Rattle.depacketizer.specs.Answers.{openedOf}
-use Rattle.stream.specs.declared.state.State.{State}
-use Rattle.stream.specs.Step.{Step, gathered, openState, step}
-use Rattle.stream.specs.Stream.{Handed, handedBy, joinedCells}
-use Rattle.stream.specs.Delivery.{joined}
-use Rattle.stream.proofs.DeliveryLaws.{cells-joined}
-use Rattle.listing.specs.declared.session.Session.{Session}
-use Rattle.listing.specs.declared.session.Session.the-variants as session
-use Rattle.listing.specs.Session.{numberOf, opening, turn, turnBy}
-use Rattle.filing.specs.Filing.{fieldsIn}
-use Rattle.filing_laws.specs.Filed.{EachFiled, Filed, wholeAt, wholesOf}
-use Rattle.filing_laws.proofs.AllFiled.{none-left-out}
-use Rattle.filing_laws.proofs.FiledLaws.{one-list, reads-back}
-use Rattle.filing_laws.proofs.FormedLaws.{frames-below}
+use Rattle.depacketizer_spec.specs.declared.state.State.{State}
+use Rattle.depacketizer_spec.specs.Step.{Step, gathered, openState, step}
+use Rattle.depacketizer_spec.specs.Stream.{Handed, handedBy, joinedCells}
+use Rattle.depacketizer_spec.specs.Delivery.{joined}
+use Rattle.depacketizer_spec.proofs.DeliveryLaws.{cells-joined}
+use Rattle.fieldlist_session.specs.declared.session.Session.{Session}
+use Rattle.fieldlist_session.specs.declared.session.Session.the-variants as session
+use Rattle.fieldlist_session.specs.Session.{numberOf, opening, turn, turnBy}
+use Rattle.fieldsave_session.specs.Filing.{fieldsIn}
+use Rattle.fieldsave_laws.specs.Filed.{EachFiled, Filed, wholeAt, wholesOf}
+use Rattle.fieldsave_laws.proofs.AllFiled.{none-left-out}
+use Rattle.fieldsave_laws.proofs.FiledLaws.{one-list, reads-back}
+use Rattle.fieldsave_laws.proofs.FormedLaws.{frames-below}
 use Rattle.archive_laws.specs.Any.{Heard, OneField, VouchedIn, heardBy, partsOf}
 use Rattle.archive_laws.specs.AnyArchive.{NothingInvented, WrittenBy, freshAt, freshIn}
 use Rattle.archive_laws.proofs.GatherLaws.{Gathers, parts-length}

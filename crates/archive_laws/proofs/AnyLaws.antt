@@ -8,21 +8,21 @@ use native.Mathlib.Omega.{arith}
 use borrow.Author.Tests.{eqb-true}
 use lib.Dec.{eqb}
 use lib.ListN.{length}
-use Rattle.wire.specs.Bits.{Below, splice}
-use Rattle.wire.specs.Layout.{Layout}
-use Rattle.wire.specs.Result.{Result, refused, accepted}
-use Rattle.wire.specs.Anc.{Each}
-use Rattle.wire.specs.Cells.{listIn}
-use Rattle.wire.specs.Packet.{Content, readContent}
-use Rattle.wire.proofs.ResultLaws.{and-true, judge-accepts}
-use Rattle.wire.proofs.ListLaws.{each-append}
-use Rattle.stream.specs.declared.state.State.{State}
-use Rattle.stream.specs.declared.state.Answer.{Answer}
-use Rattle.stream.specs.declared.state.Answer.the-variants as answer
-use Rattle.stream.specs.Step.{Carried, Class, Gather, Gathered, Step, admission, admit, admittedStep, ahead, appended, carried, classStep, classify, distance, far, farOrRestart, filling, follow, freshStep, gathered, isRemembered, joinFits, joinIfFits, joinIfSame, late, lost, marked, next, openState, packetStep, ready, sound, step, taken}
-use Rattle.stream.specs.Stream.{Handed, Run, handedBy, storeFor}
-use Rattle.stream.proofs.StepLaws.{follow-answers, isRefusal, passed}
-use Rattle.stream.proofs.FreshLaws.{gathered-after}
+use Rattle.wire_spec.specs.Bits.{Below, splice}
+use Rattle.wire_spec.specs.Layout.{Layout}
+use Rattle.wire_spec.specs.Result.{Result, refused, accepted}
+use Rattle.wire_spec.specs.Anc.{Each}
+use Rattle.wire_spec.specs.Cells.{listIn}
+use Rattle.wire_spec.specs.Packet.{Content, readContent}
+use Rattle.wire_spec.proofs.ResultLaws.{and-true, judge-accepts}
+use Rattle.wire_spec.proofs.ListLaws.{each-append}
+use Rattle.depacketizer_spec.specs.declared.state.State.{State}
+use Rattle.depacketizer_spec.specs.declared.state.Answer.{Answer}
+use Rattle.depacketizer_spec.specs.declared.state.Answer.the-variants as answer
+use Rattle.depacketizer_spec.specs.Step.{Carried, Class, Gather, Gathered, Step, admission, admit, admittedStep, ahead, appended, carried, classStep, classify, distance, far, farOrRestart, filling, follow, freshStep, gathered, isRemembered, joinFits, joinIfFits, joinIfSame, late, lost, marked, next, openState, packetStep, ready, sound, step, taken}
+use Rattle.depacketizer_spec.specs.Stream.{Handed, Run, handedBy, storeFor}
+use Rattle.depacketizer_spec.proofs.StepLaws.{follow-answers, isRefusal, passed}
+use Rattle.depacketizer_spec.proofs.FreshLaws.{gathered-after}
 use Rattle.archive_laws.specs.Any.{Accepted, HandedAtLast, Heard, NoHalvesJoined, Octets, Offer, Vouched, VouchedIn, freshOf, heardBy, ifFresh, offerStep, runOf, saidBy}
 use Rattle.archive_laws.proofs.GatherLaws.{Gathering, Gathers, Sized, completes, joins, lent-gathers, mark-is, next-number, no-mark-is, read-sized, takes-own}
 

@@ -3,13 +3,13 @@
 use mathlib.Core.Path.{_≡_, ap, _∙_}
 use mathlib.Core.List.{List, map}
 use Prim.Native.Nat.{ℕ}
-use Rattle.wire.specs.Anc.{Each}
-use Rattle.frames.specs.Frames.{Frames}
-use Rattle.stream.specs.Stream.{Stream, WellFormedStream, Arriving, octetsOf, Near}
-use Rattle.capture_walk.specs.Frames.{framesOf, payloadsOf}
-use Rattle.capture_walk.specs.Written.{pcapOf, pcapngOf}
-use Rattle.capture_walk.proofs.FrameLaws.{reads-back}
-use Rattle.capture_walk.proofs.WrittenLaws.{pcap-holds, pcapng-holds}
+use Rattle.wire_spec.specs.Anc.{Each}
+use Rattle.rtp_frames.specs.Frames.{Frames}
+use Rattle.depacketizer_spec.specs.Stream.{Stream, WellFormedStream, Arriving, octetsOf, Near}
+use Rattle.pcapframes_spec.specs.Frames.{framesOf, payloadsOf}
+use Rattle.pcapframes_spec.specs.Written.{pcapOf, pcapngOf}
+use Rattle.pcapframes_spec.proofs.FrameLaws.{reads-back}
+use Rattle.pcapframes_spec.proofs.WrittenLaws.{pcap-holds, pcapng-holds}
 use Rattle.archive_laws.specs.Archive.{OpenedByStream, Recorded, callsOf}
 use Rattle.archive_laws.specs.Capture.{CaptureAsSent, CapturedAsSent}
 use Rattle.archive_laws.proofs.SentLaws.{archive-as-sent}

@@ -9,37 +9,37 @@ use native.Mathlib.Omega.{arith}
 use borrow.Author.Tests.{leb-true}
 use lib.Dec.{leb}
 use lib.ListN.{length}
-use Rattle.wire.specs.declared.refusal.Refusal.{Refusal}
-use Rattle.wire.specs.Bits.{Below}
-use Rattle.wire.specs.Layout.{Layout}
-use Rattle.wire.specs.Result.{Result, refused, accepted, judge}
-use Rattle.wire.specs.Anc.{Each}
-use Rattle.wire.specs.Packet.{Content, readContent}
-use Rattle.wire.specs.Writing.{maxFieldCells, maxFieldPackets, maxFieldRecords, maxType}
-use Rattle.wire.proofs.ResultLaws.{and-true, judge-accepts}
-use Rattle.wire.proofs.ListLaws.{each-append, map-append}
-use Rattle.anf.specs.File.{FieldContent, endOfFile}
-use Rattle.frames.specs.Frames.{frames}
+use Rattle.wire_spec.specs.declared.refusal.Refusal.{Refusal}
+use Rattle.wire_spec.specs.Bits.{Below}
+use Rattle.wire_spec.specs.Layout.{Layout}
+use Rattle.wire_spec.specs.Result.{Result, refused, accepted, judge}
+use Rattle.wire_spec.specs.Anc.{Each}
+use Rattle.wire_spec.specs.Packet.{Content, readContent}
+use Rattle.wire_spec.specs.Writing.{maxFieldCells, maxFieldPackets, maxFieldRecords, maxType}
+use Rattle.wire_spec.proofs.ResultLaws.{and-true, judge-accepts}
+use Rattle.wire_spec.proofs.ListLaws.{each-append, map-append}
+use Rattle.fieldfile_spec.specs.File.{FieldContent, endOfFile}
+use Rattle.rtp_frames.specs.Frames.{frames}
 use Rattle.depacketizer.specs.declared.state.Opened.{Opened}
 use Rattle.depacketizer.specs.Answers.{openedOf}
-use Rattle.stream.specs.declared.state.State.{State}
-use Rattle.stream.specs.declared.state.Answer.{Answer}
-use Rattle.stream.specs.declared.state.Answer.the-variants as answer
-use Rattle.stream.specs.Step.{Step, admission, admit, gathered, marked, openState, sound, step}
-use Rattle.stream.specs.Laws.{IsFresh}
-use Rattle.stream.specs.Stream.{Handed, handedBy, joinedCells, recordCount}
-use Rattle.stream.specs.Delivery.{joined}
-use Rattle.stream.proofs.CheckLaws.{length-after}
-use Rattle.stream.proofs.DeliveryLaws.{cells-joined}
-use Rattle.stream.proofs.StepLaws.{passed, step-refused}
-use Rattle.listing.specs.declared.session.Session.{Session}
-use Rattle.listing.specs.declared.session.Session.the-variants as session
-use Rattle.listing.specs.Session.{numberOf, opening, turn, turnBy}
-use Rattle.filing.specs.Filing.{fieldsIn}
-use Rattle.filing_laws.specs.Filed.{EachFiled, wholeAt, wholesOf}
-use Rattle.filing_laws.proofs.AllFiled.{none-left-out}
-use Rattle.filing_laws.proofs.FiledLaws.{one-list, reads-back}
-use Rattle.filing_laws.proofs.FormedLaws.{frames-below}
+use Rattle.depacketizer_spec.specs.declared.state.State.{State}
+use Rattle.depacketizer_spec.specs.declared.state.Answer.{Answer}
+use Rattle.depacketizer_spec.specs.declared.state.Answer.the-variants as answer
+use Rattle.depacketizer_spec.specs.Step.{Step, admission, admit, gathered, marked, openState, sound, step}
+use Rattle.depacketizer_spec.specs.Laws.{IsFresh}
+use Rattle.depacketizer_spec.specs.Stream.{Handed, handedBy, joinedCells, recordCount}
+use Rattle.depacketizer_spec.specs.Delivery.{joined}
+use Rattle.depacketizer_spec.proofs.CheckLaws.{length-after}
+use Rattle.depacketizer_spec.proofs.DeliveryLaws.{cells-joined}
+use Rattle.depacketizer_spec.proofs.StepLaws.{passed, step-refused}
+use Rattle.fieldlist_session.specs.declared.session.Session.{Session}
+use Rattle.fieldlist_session.specs.declared.session.Session.the-variants as session
+use Rattle.fieldlist_session.specs.Session.{numberOf, opening, turn, turnBy}
+use Rattle.fieldsave_session.specs.Filing.{fieldsIn}
+use Rattle.fieldsave_laws.specs.Filed.{EachFiled, wholeAt, wholesOf}
+use Rattle.fieldsave_laws.proofs.AllFiled.{none-left-out}
+use Rattle.fieldsave_laws.proofs.FiledLaws.{one-list, reads-back}
+use Rattle.fieldsave_laws.proofs.FormedLaws.{frames-below}
 use Rattle.archive_laws.specs.Any.{Accepted, Heard, Vouched, heardBy, partsOf, saidBy}
 use Rattle.archive_laws.specs.AnyArchive.{freshAt, freshIn}
 use Rattle.archive_laws.specs.Exact.{ExactArchive, inSequence, ofField, wholeFields, wholeOf, within, written}

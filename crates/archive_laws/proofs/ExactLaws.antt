@@ -8,12 +8,12 @@ use native.Mathlib.Omega.{arith}
 use borrow.Author.Tests.{eqb-true, eq-eqb, le-leb, leb-true, ne-eqb}
 use lib.Dec.{eqb, leb}
 use lib.ListN.{length}
-use Rattle.wire.specs.Anc.{Each}
-use Rattle.wire.specs.Writing.{maxFieldRecords, maxFieldCells, maxFieldPackets}
-use Rattle.wire.proofs.ResultLaws.{and-both, and-true}
-use Rattle.wire.proofs.ListLaws.{each-snoc}
-use Rattle.stream.specs.Step.{marked}
-use Rattle.stream.specs.Stream.{Handed, recordCount, joinedCells}
+use Rattle.wire_spec.specs.Anc.{Each}
+use Rattle.wire_spec.specs.Writing.{maxFieldRecords, maxFieldCells, maxFieldPackets}
+use Rattle.wire_spec.proofs.ResultLaws.{and-both, and-true}
+use Rattle.wire_spec.proofs.ListLaws.{each-snoc}
+use Rattle.depacketizer_spec.specs.Step.{marked}
+use Rattle.depacketizer_spec.specs.Stream.{Handed, recordCount, joinedCells}
 use Rattle.archive_laws.specs.Any.{Accepted, Heard, InSequence, OfField, OneField, OnlyLastMarked, Vouched, joinedOf, partsOf}
 use Rattle.archive_laws.specs.Exact.{fieldOf, inSequence, ofField, timeOf, wholeFields, wholeOf, within}
 use Rattle.archive_laws.proofs.GatherLaws.{Unmarked, marks-snoc, mark-is, no-mark-is}

@@ -3,10 +3,10 @@
 use mathlib.Core.Path.{_≡_, refl}
 use mathlib.Core.List.{List, [], _∷_}
 use Prim.Native.Nat.{ℕ, _-_, _^_}
-use Rattle.wire.specs.Layout.{rfc8331}
-use Rattle.wire.specs.Anc.{Record}
-use Rattle.anf.specs.File.{FieldContent}
-use Rattle.stream.specs.Stream.{Part, Field, Arriving, packet, fresh}
+use Rattle.wire_spec.specs.Layout.{rfc8331}
+use Rattle.wire_spec.specs.Anc.{Record}
+use Rattle.fieldfile_spec.specs.File.{FieldContent}
+use Rattle.depacketizer_spec.specs.Stream.{Part, Field, Arriving, packet, fresh}
 use Rattle.archive_laws.specs.Archive.{archived, callsOf}
 use Rattle.archive_laws.specs.Any.{Heard}
 use Rattle.archive_laws.specs.Exact.{wholeFields}

@@ -9,21 +9,21 @@ use borrow.Author.Tests.{leb-true, eqb-true, eqb-false}
 use lib.Dec.{leb, ltb}
 use lib.IntN.{ℤ, pos, negsuc}
 use lib.ListN.{length, take, length-append}
-use Rattle.wire.specs.Bits.{Below, splice}
-use Rattle.wire.specs.Layout.{Layout}
-use Rattle.wire.specs.Result.{accepted}
-use Rattle.wire.specs.Anc.{Each}
-use Rattle.wire.specs.Cells.{listIn}
-use Rattle.wire.specs.Packet.{Content, Packet, WellFormedPacket, readContent}
-use Rattle.wire.specs.Writing.{maxFieldRecords, maxFieldCells, maxFieldPackets}
-use Rattle.wire.proofs.ListLaws.{each-snoc, length-splice, take-splice}
-use Rattle.wire.proofs.CellLaws.{length-in}
-use Rattle.wire.proofs.ResultLaws.{accepted-inj, and-true, judge-accepts, then-accepts}
-use Rattle.wire.proofs.Demand2.{acceptance}
-use Rattle.stream.specs.Step.{Carried, Gathered, admit, ahead, carried, classify, distance, far, filling, joinFits, late, lost, marked, maxAhead, maxBehind, next, openedChecks, ready, signed}
-use Rattle.stream.specs.Stream.{Part, recordCount, cellsFrom, joinedCells, storeFor}
-use Rattle.stream.proofs.PlaceLaws.{records-append, cells-append}
-use Rattle.filing_laws.proofs.StoreLaws.{payload-fit}
+use Rattle.wire_spec.specs.Bits.{Below, splice}
+use Rattle.wire_spec.specs.Layout.{Layout}
+use Rattle.wire_spec.specs.Result.{accepted}
+use Rattle.wire_spec.specs.Anc.{Each}
+use Rattle.wire_spec.specs.Cells.{listIn}
+use Rattle.wire_spec.specs.Packet.{Content, Packet, WellFormedPacket, readContent}
+use Rattle.wire_spec.specs.Writing.{maxFieldRecords, maxFieldCells, maxFieldPackets}
+use Rattle.wire_spec.proofs.ListLaws.{each-snoc, length-splice, take-splice}
+use Rattle.wire_spec.proofs.CellLaws.{length-in}
+use Rattle.wire_spec.proofs.ResultLaws.{accepted-inj, and-true, judge-accepts, then-accepts}
+use Rattle.wire_spec.proofs.Demand2.{acceptance}
+use Rattle.depacketizer_spec.specs.Step.{Carried, Gathered, admit, ahead, carried, classify, distance, far, filling, joinFits, late, lost, marked, maxAhead, maxBehind, next, openedChecks, ready, signed}
+use Rattle.depacketizer_spec.specs.Stream.{Part, recordCount, cellsFrom, joinedCells, storeFor}
+use Rattle.depacketizer_spec.proofs.PlaceLaws.{records-append, cells-append}
+use Rattle.fieldsave_laws.proofs.StoreLaws.{payload-fit}
 use Rattle.archive_laws.specs.Any.{Accepted, Heard, InSequence, OfField, OnlyLastMarked, Vouched, partsOf}
 
 abbrev pub Unmarked : Heard → Type 0

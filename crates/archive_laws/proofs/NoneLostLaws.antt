@@ -8,25 +8,25 @@ use native.Mathlib.Omega.{arith}
 use borrow.Author.Tests.{le-leb, eq-eqb, ne-eqb}
 use lib.Dec.{eqb}
 use lib.ListN.{length, take, length-append}
-use Rattle.wire.specs.declared.refusal.Refusal.{Refusal}
-use Rattle.wire.specs.Bits.{Below, splice}
-use Rattle.wire.specs.Layout.{Layout}
-use Rattle.wire.specs.Result.{Result, refused, accepted}
-use Rattle.wire.specs.Anc.{Each}
-use Rattle.wire.specs.Cells.{listIn}
-use Rattle.wire.specs.Packet.{Content, readContent}
-use Rattle.wire.specs.Writing.{maxFieldRecords, maxFieldCells, maxFieldPackets}
-use Rattle.wire.proofs.ResultLaws.{and-both, judge-accepts}
-use Rattle.stream.specs.declared.state.State.{State}
-use Rattle.stream.specs.declared.state.Answer.the-variants as answer
-use Rattle.stream.specs.Step.{Carried, Class, Gather, Gathered, Step, admission, admit, admittedStep, ahead, appended, carried, classStep, classify, distance, far, farOrRestart, filling, follow, freshStep, gathered, isRemembered, join, joinFits, joinIfFits, joinIfSame, late, lost, marked, next, openState, packetStep, ready, sound, step, taken}
-use Rattle.stream.specs.Laws.{IsFresh}
-use Rattle.stream.specs.Stream.{Part, recordCount, cellsFrom, joinedCells, Run, handedBy, storeFor}
-use Rattle.stream.proofs.CheckLaws.{length-after}
-use Rattle.stream.proofs.DistanceLaws.{distance-ahead}
-use Rattle.stream.proofs.StepLaws.{follow-answers, passed}
-use Rattle.stream.proofs.FreshLaws.{gathered-after}
-use Rattle.stream.proofs.PlaceLaws.{cells-append, records-append}
+use Rattle.wire_spec.specs.declared.refusal.Refusal.{Refusal}
+use Rattle.wire_spec.specs.Bits.{Below, splice}
+use Rattle.wire_spec.specs.Layout.{Layout}
+use Rattle.wire_spec.specs.Result.{Result, refused, accepted}
+use Rattle.wire_spec.specs.Anc.{Each}
+use Rattle.wire_spec.specs.Cells.{listIn}
+use Rattle.wire_spec.specs.Packet.{Content, readContent}
+use Rattle.wire_spec.specs.Writing.{maxFieldRecords, maxFieldCells, maxFieldPackets}
+use Rattle.wire_spec.proofs.ResultLaws.{and-both, judge-accepts}
+use Rattle.depacketizer_spec.specs.declared.state.State.{State}
+use Rattle.depacketizer_spec.specs.declared.state.Answer.the-variants as answer
+use Rattle.depacketizer_spec.specs.Step.{Carried, Class, Gather, Gathered, Step, admission, admit, admittedStep, ahead, appended, carried, classStep, classify, distance, far, farOrRestart, filling, follow, freshStep, gathered, isRemembered, join, joinFits, joinIfFits, joinIfSame, late, lost, marked, next, openState, packetStep, ready, sound, step, taken}
+use Rattle.depacketizer_spec.specs.Laws.{IsFresh}
+use Rattle.depacketizer_spec.specs.Stream.{Part, recordCount, cellsFrom, joinedCells, Run, handedBy, storeFor}
+use Rattle.depacketizer_spec.proofs.CheckLaws.{length-after}
+use Rattle.depacketizer_spec.proofs.DistanceLaws.{distance-ahead}
+use Rattle.depacketizer_spec.proofs.StepLaws.{follow-answers, passed}
+use Rattle.depacketizer_spec.proofs.FreshLaws.{gathered-after}
+use Rattle.depacketizer_spec.proofs.PlaceLaws.{cells-append, records-append}
 use Rattle.archive_laws.specs.Any.{Accepted, Heard, InSequence, NoneLost, Octets, OfField, Offer, OneField, OnlyLastMarked, Roomy, freshOf, heardBy, ifFresh, joinedOf, offerStep, partsOf, runOf, saidBy}
 use Rattle.archive_laws.proofs.GatherLaws.{Gathering, Sized, Unmarked, lastOf, new-cells, new-content, new-packets, new-records, partOf, parts-snoc, read-sized, takes-own}
 use Rattle.archive_laws.proofs.AnyLaws.{holds, if-fresh, keeps}

@@ -1,7 +1,7 @@
 -- What `fieldsave` has written is as sent.
 -- Where all was written, it is the file of what was read.
 use mathlib.Core.Path.{refl, ap, _∙_}
-use Rattle.anf.specs.File.{readFile}
+use Rattle.fieldfile_spec.specs.File.{readFile}
 use Rattle.archive_laws.specs.Program.{ProgramAsSent, ProgramExact}
 use Rattle.archive_laws.proofs.SentLaws.{archive-as-sent}
 use Rattle.archive_laws.proofs.ExactArchiveLaws.{exact-archive}

@@ -9,28 +9,28 @@ use native.Mathlib.Nat.{add-zero, zero-add}
 use borrow.Author.Tests.{le-leb, ne-eqb}
 use lib.Dec.{eqb, leb}
 use lib.ListN.{length, getD, length-append, length-map}
-use Rattle.wire.specs.Bits.{Below}
-use Rattle.wire.specs.Layout.{rfc8331}
-use Rattle.wire.specs.Result.{Result, accepted, _then_}
-use Rattle.wire.specs.Anc.{Record, Each, WellFormed}
-use Rattle.wire.specs.Cells.{listOf, readList}
-use Rattle.wire.specs.Packet.{Content, maxPacket, readContent}
-use Rattle.wire.specs.Writing.{HeadFits, contentOctets, headChecks, limitChecks, maxCells, maxType, packetRecords, plain, withRecords, writeContent}
-use Rattle.wire.proofs.BitLaws.{below-append}
-use Rattle.wire.proofs.CellLaws.{list-iff, lists-length, lists-own}
-use Rattle.wire.proofs.Demand2.{below-packet, fits-packet, written-read}
-use Rattle.wire.proofs.ResultLaws.{and-both}
-use Rattle.wire.proofs.WritingLaws.{all-pass}
-use Rattle.wire.proofs.ListLaws.{each-append, each-split, map-append}
-use Rattle.anf.specs.File.{FileRead, WellFormedField, fileFOk, fileOctets, writtenVersion}
-use Rattle.frames.specs.Frames.{Frames}
-use Rattle.stream.specs.Stream.{Part, Field, parts, recordCount, joinedCells, Sent, sent, sentOf, noPacket, Stream, contentAt, nth, Within, WellFormedStream}
-use Rattle.stream.specs.Delivery.{joined}
-use Rattle.stream.proofs.DeliveryLaws.{cells-joined}
-use Rattle.filing.specs.Filing.{fieldsIn, filing}
-use Rattle.filing_laws.proofs.FiledLaws.{one-list, reads-back}
-use Rattle.capture_walk.specs.Frames.{framed}
-use Rattle.capture_walk.proofs.FrameLaws.{frames-back}
+use Rattle.wire_spec.specs.Bits.{Below}
+use Rattle.wire_spec.specs.Layout.{rfc8331}
+use Rattle.wire_spec.specs.Result.{Result, accepted, _then_}
+use Rattle.wire_spec.specs.Anc.{Record, Each, WellFormed}
+use Rattle.wire_spec.specs.Cells.{listOf, readList}
+use Rattle.wire_spec.specs.Packet.{Content, maxPacket, readContent}
+use Rattle.wire_spec.specs.Writing.{HeadFits, contentOctets, headChecks, limitChecks, maxCells, maxType, packetRecords, plain, withRecords, writeContent}
+use Rattle.wire_spec.proofs.BitLaws.{below-append}
+use Rattle.wire_spec.proofs.CellLaws.{list-iff, lists-length, lists-own}
+use Rattle.wire_spec.proofs.Demand2.{below-packet, fits-packet, written-read}
+use Rattle.wire_spec.proofs.ResultLaws.{and-both}
+use Rattle.wire_spec.proofs.WritingLaws.{all-pass}
+use Rattle.wire_spec.proofs.ListLaws.{each-append, each-split, map-append}
+use Rattle.fieldfile_spec.specs.File.{FileRead, WellFormedField, fileFOk, fileOctets, writtenVersion}
+use Rattle.rtp_frames.specs.Frames.{Frames}
+use Rattle.depacketizer_spec.specs.Stream.{Part, Field, parts, recordCount, joinedCells, Sent, sent, sentOf, noPacket, Stream, contentAt, nth, Within, WellFormedStream}
+use Rattle.depacketizer_spec.specs.Delivery.{joined}
+use Rattle.depacketizer_spec.proofs.DeliveryLaws.{cells-joined}
+use Rattle.fieldsave_session.specs.Filing.{fieldsIn, filing}
+use Rattle.fieldsave_laws.proofs.FiledLaws.{one-list, reads-back}
+use Rattle.pcapframes_spec.specs.Frames.{framed}
+use Rattle.pcapframes_spec.proofs.FrameLaws.{frames-back}
 use Rattle.archive_laws.specs.Archive.{asWritten}
 use Rattle.archive_laws.specs.Replay.{Cut, CutFits, Few, FileComesBack, allOf, fieldPackets, filePackets, isNone, replayed, saysAt, uncut}
 use Rattle.archive_laws.proofs.WholeLaws.{whole-recording}

@@ -5,18 +5,18 @@ use mathlib.Core.Bool.{Bool, true, false, _&&_}
 use mathlib.Core.List.{List, [], _∷_, _++_}
 use Prim.Native.Nat.{ℕ, _+_}
 use lib.ListN.{length}
-use Rattle.wire.specs.Bits.{Below}
-use Rattle.wire.specs.Anc.{Each}
-use Rattle.anf.specs.File.{FieldContent, endOfFile}
-use Rattle.stream.specs.Stream.{Field, parts, joinedCells, Within, fresh, oneBefore, allFrom, Handed, asSent, onlyIf, expected}
-use Rattle.stream.specs.Delivery.{joined}
-use Rattle.stream.proofs.DeliveryLaws.{field-said}
-use Rattle.listing.specs.declared.session.Session.the-variants as session
-use Rattle.filing.specs.Filing.{fieldsIn}
-use Rattle.filing_laws.specs.Filed.{EachFiled, Filed, wholesOf}
-use Rattle.filing_laws.proofs.AllFiled.{none-left-out}
-use Rattle.filing_laws.proofs.FiledLaws.{one-list, reads-back}
-use Rattle.filing_laws.proofs.FormedLaws.{frames-below}
+use Rattle.wire_spec.specs.Bits.{Below}
+use Rattle.wire_spec.specs.Anc.{Each}
+use Rattle.fieldfile_spec.specs.File.{FieldContent, endOfFile}
+use Rattle.depacketizer_spec.specs.Stream.{Field, parts, joinedCells, Within, fresh, oneBefore, allFrom, Handed, asSent, onlyIf, expected}
+use Rattle.depacketizer_spec.specs.Delivery.{joined}
+use Rattle.depacketizer_spec.proofs.DeliveryLaws.{field-said}
+use Rattle.fieldlist_session.specs.declared.session.Session.the-variants as session
+use Rattle.fieldsave_session.specs.Filing.{fieldsIn}
+use Rattle.fieldsave_laws.specs.Filed.{EachFiled, Filed, wholesOf}
+use Rattle.fieldsave_laws.proofs.AllFiled.{none-left-out}
+use Rattle.fieldsave_laws.proofs.FiledLaws.{one-list, reads-back}
+use Rattle.fieldsave_laws.proofs.FormedLaws.{frames-below}
 use Rattle.archive_laws.specs.Archive.{ArchiveAsSent, archived, asWritten, callsOf, keptIf}
 use Rattle.archive_laws.proofs.SessionLaws.{session-hands}
 

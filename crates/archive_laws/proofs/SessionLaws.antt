@@ -6,28 +6,28 @@ use Prim.Native.Nat.{ℕ, _+_, _≤_}
 use native.Mathlib.Omega.{arith}
 use borrow.Author.Tests.{le-leb}
 use lib.ListN.{length}
-use Rattle.wire.specs.declared.refusal.Refusal.{Refusal}
-use Rattle.wire.specs.Bits.{Below}
-use Rattle.wire.specs.Layout.{Layout}
-use Rattle.wire.specs.Result.{refused, accepted}
-use Rattle.wire.specs.Anc.{Each}
-use Rattle.wire.specs.Packet.{Content, Packet, WellFormedPacket, readContent}
-use Rattle.wire.specs.Writing.{maxFieldCells, maxType}
-use Rattle.wire.proofs.Demand2.{acceptance}
+use Rattle.wire_spec.specs.declared.refusal.Refusal.{Refusal}
+use Rattle.wire_spec.specs.Bits.{Below}
+use Rattle.wire_spec.specs.Layout.{Layout}
+use Rattle.wire_spec.specs.Result.{refused, accepted}
+use Rattle.wire_spec.specs.Anc.{Each}
+use Rattle.wire_spec.specs.Packet.{Content, Packet, WellFormedPacket, readContent}
+use Rattle.wire_spec.specs.Writing.{maxFieldCells, maxType}
+use Rattle.wire_spec.proofs.Demand2.{acceptance}
 use Rattle.depacketizer.specs.declared.state.Depacketizer.{Depacketizer}
 use Rattle.depacketizer.specs.declared.state.Opened.{Opened}
 use Rattle.depacketizer.specs.declared.state.Opened.the-variants as opened
 use Rattle.depacketizer.specs.Answers.{openedOf}
-use Rattle.stream.specs.Step.{Gathered, lost, ready, filling, Step, admission, gathered, openOf, openState, step}
-use Rattle.stream.specs.Stream.{Field, Stream, contentAt, nth, Within, Fits, WellFormedStream, Arriving, other, packet, OfStream, Call, Calls, none, _before_, Handed, handedBy, Run, storeFor, octetsOf, layoutOf, done, callStep, openRun, arrived, fresh, expected, Near}
-use Rattle.stream.proofs.CheckLaws.{length-after}
-use Rattle.stream.proofs.StepLaws.{unchanged, step-refused}
-use Rattle.stream.proofs.RunInvariant.{Invariant, invariant-open}
-use Rattle.stream.proofs.Demand3.{demand3-after, invariant-call}
-use Rattle.listing.specs.declared.session.Session.{Session}
-use Rattle.listing.specs.declared.session.Session.the-variants as session
-use Rattle.listing.specs.Session.{entered, numberOf, turn, turnBy}
-use Rattle.filing_laws.specs.Filed.{wholeAt, wholesOf}
+use Rattle.depacketizer_spec.specs.Step.{Gathered, lost, ready, filling, Step, admission, gathered, openOf, openState, step}
+use Rattle.depacketizer_spec.specs.Stream.{Field, Stream, contentAt, nth, Within, Fits, WellFormedStream, Arriving, other, packet, OfStream, Call, Calls, none, _before_, Handed, handedBy, Run, storeFor, octetsOf, layoutOf, done, callStep, openRun, arrived, fresh, expected, Near}
+use Rattle.depacketizer_spec.proofs.CheckLaws.{length-after}
+use Rattle.depacketizer_spec.proofs.StepLaws.{unchanged, step-refused}
+use Rattle.depacketizer_spec.proofs.RunInvariant.{Invariant, invariant-open}
+use Rattle.depacketizer_spec.proofs.Demand3.{demand3-after, invariant-call}
+use Rattle.fieldlist_session.specs.declared.session.Session.{Session}
+use Rattle.fieldlist_session.specs.declared.session.Session.the-variants as session
+use Rattle.fieldlist_session.specs.Session.{entered, numberOf, turn, turnBy}
+use Rattle.fieldsave_laws.specs.Filed.{wholeAt, wholesOf}
 use Rattle.archive_laws.specs.Archive.{OpenedByStream, Recorded, callsOf, callsOn}
 
 -- AN OPEN SESSION: one packet is one step

@@ -9,12 +9,12 @@ use native.Mathlib.Nat.{add-zero}
 use borrow.Author.Tests.{lt-ltb, eqb-false}
 use lib.Dec.{eqb}
 use lib.ListN.{length, getD, length-append}
-use Rattle.wire.specs.Anc.{Each}
-use Rattle.wire.specs.Cells.{allBelow}
-use Rattle.wire.proofs.ResultLaws.{and-both}
-use Rattle.anf.specs.File.{FieldContent, endOfFile}
-use Rattle.stream.specs.Stream.{Part, Field, parts, Sent, sent, sentOf, noPacket, Stream, nth, Arriving, packet, Calls, none, _before_, octetsOf, arrived, fresh, elem, oneBefore, allFrom, NearLast, Near}
-use Rattle.stream.proofs.WalkLaws.{length-sent}
+use Rattle.wire_spec.specs.Anc.{Each}
+use Rattle.wire_spec.specs.Cells.{allBelow}
+use Rattle.wire_spec.proofs.ResultLaws.{and-both}
+use Rattle.fieldfile_spec.specs.File.{FieldContent, endOfFile}
+use Rattle.depacketizer_spec.specs.Stream.{Part, Field, parts, Sent, sent, sentOf, noPacket, Stream, nth, Arriving, packet, Calls, none, _before_, octetsOf, arrived, fresh, elem, oneBefore, allFrom, NearLast, Near}
+use Rattle.depacketizer_spec.proofs.WalkLaws.{length-sent}
 use Rattle.archive_laws.specs.Archive.{OpenedByStream, Recorded, WholeRecording, archived, asWritten, callsOn}
 use Rattle.archive_laws.proofs.SentLaws.{archive-as-sent}
 

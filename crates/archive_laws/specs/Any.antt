@@ -4,17 +4,17 @@ use mathlib.Core.Path.{_≡_}
 use mathlib.Core.List.{List, [], _∷_, _++_}
 use Prim.Native.Nat.{ℕ, _+_, _^_, _%_, _≤_}
 use lib.ListN.{length}
-use Rattle.wire.specs.Bits.{Below}
-use Rattle.wire.specs.Layout.{Layout}
-use Rattle.wire.specs.Result.{Result, refused, accepted}
-use Rattle.wire.specs.Anc.{Each}
-use Rattle.wire.specs.Packet.{Content, readContent}
-use Rattle.wire.specs.Writing.{maxFieldRecords, maxFieldCells, maxFieldPackets}
-use Rattle.stream.specs.declared.state.Answer.{Answer}
-use Rattle.stream.specs.declared.state.Answer.the-variants as answer
-use Rattle.stream.specs.Step.{Step, gathered, openState, step}
-use Rattle.stream.specs.Laws.{IsFresh}
-use Rattle.stream.specs.Stream.{Part, recordCount, joinedCells, Handed, Run, done, handedBy, storeFor}
+use Rattle.wire_spec.specs.Bits.{Below}
+use Rattle.wire_spec.specs.Layout.{Layout}
+use Rattle.wire_spec.specs.Result.{Result, refused, accepted}
+use Rattle.wire_spec.specs.Anc.{Each}
+use Rattle.wire_spec.specs.Packet.{Content, readContent}
+use Rattle.wire_spec.specs.Writing.{maxFieldRecords, maxFieldCells, maxFieldPackets}
+use Rattle.depacketizer_spec.specs.declared.state.Answer.{Answer}
+use Rattle.depacketizer_spec.specs.declared.state.Answer.the-variants as answer
+use Rattle.depacketizer_spec.specs.Step.{Step, gathered, openState, step}
+use Rattle.depacketizer_spec.specs.Laws.{IsFresh}
+use Rattle.depacketizer_spec.specs.Stream.{Part, recordCount, joinedCells, Handed, Run, done, handedBy, storeFor}
 
 -- A call: octets, the layout that is told of them, and the store that is lent where the depacketizer is not filling.
 pub record Offer : Type 0 where

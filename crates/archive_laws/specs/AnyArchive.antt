@@ -2,20 +2,20 @@
 use mathlib.Core.Path.{_≡_}
 use mathlib.Core.List.{List, [], _∷_, _++_}
 use Prim.Native.Nat.{ℕ}
-use Rattle.wire.specs.Bits.{Below}
-use Rattle.wire.specs.Layout.{Layout}
-use Rattle.wire.specs.Anc.{Each}
-use Rattle.wire.specs.Packet.{readContent}
-use Rattle.anf.specs.File.{FieldContent, readFile}
-use Rattle.frames.specs.Frames.{frames}
+use Rattle.wire_spec.specs.Bits.{Below}
+use Rattle.wire_spec.specs.Layout.{Layout}
+use Rattle.wire_spec.specs.Anc.{Each}
+use Rattle.wire_spec.specs.Packet.{readContent}
+use Rattle.fieldfile_spec.specs.File.{FieldContent, readFile}
+use Rattle.rtp_frames.specs.Frames.{frames}
 use Rattle.depacketizer.specs.declared.state.Opened.{Opened}
 use Rattle.depacketizer.specs.declared.state.Opened.the-variants as opened
-use Rattle.stream.specs.Step.{step}
-use Rattle.stream.specs.Delivery.{joined}
-use Rattle.listing.specs.declared.session.Session.{Session}
-use Rattle.listing.specs.declared.session.Session.the-variants as session
-use Rattle.listing.specs.Session.{entered, layoutIn, turn}
-use Rattle.filing.specs.Filing.{filing}
+use Rattle.depacketizer_spec.specs.Step.{step}
+use Rattle.depacketizer_spec.specs.Delivery.{joined}
+use Rattle.fieldlist_session.specs.declared.session.Session.{Session}
+use Rattle.fieldlist_session.specs.declared.session.Session.the-variants as session
+use Rattle.fieldlist_session.specs.Session.{entered, layoutIn, turn}
+use Rattle.fieldsave_session.specs.Filing.{filing}
 use Rattle.archive_laws.specs.Any.{Heard, OneField, heardBy, partsOf}
 
 -- the fresh packets of a recording, in order, as `fieldlist` and `fieldsave` hear them

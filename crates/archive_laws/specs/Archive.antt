@@ -4,17 +4,17 @@ use mathlib.Core.Bool.{Bool, true, false, _&&_}
 use mathlib.Core.List.{List, [], _∷_, _++_, map}
 use Prim.Native.Nat.{ℕ, _+_, _≤_}
 use lib.ListN.{length}
-use Rattle.wire.specs.declared.refusal.Refusal.{Refusal}
-use Rattle.wire.specs.Bits.{Below}
-use Rattle.wire.specs.Result.{refused}
-use Rattle.wire.specs.Anc.{Each}
-use Rattle.wire.specs.Packet.{readContent}
-use Rattle.wire.specs.Writing.{maxFieldCells}
-use Rattle.anf.specs.File.{FieldContent, endOfFile, readFile}
-use Rattle.frames.specs.Frames.{frames}
-use Rattle.stream.specs.Stream.{Field, parts, Sent, sent, Stream, WellFormedStream, Arriving, other, packet, OfStream, Calls, none, _before_, octetsOf, fresh, oneBefore, allFrom, Near}
-use Rattle.stream.specs.Delivery.{joined}
-use Rattle.filing.specs.Filing.{filing}
+use Rattle.wire_spec.specs.declared.refusal.Refusal.{Refusal}
+use Rattle.wire_spec.specs.Bits.{Below}
+use Rattle.wire_spec.specs.Result.{refused}
+use Rattle.wire_spec.specs.Anc.{Each}
+use Rattle.wire_spec.specs.Packet.{readContent}
+use Rattle.wire_spec.specs.Writing.{maxFieldCells}
+use Rattle.fieldfile_spec.specs.File.{FieldContent, endOfFile, readFile}
+use Rattle.rtp_frames.specs.Frames.{frames}
+use Rattle.depacketizer_spec.specs.Stream.{Field, parts, Sent, sent, Stream, WellFormedStream, Arriving, other, packet, OfStream, Calls, none, _before_, octetsOf, fresh, oneBefore, allFrom, Near}
+use Rattle.depacketizer_spec.specs.Delivery.{joined}
+use Rattle.fieldsave_session.specs.Filing.{filing}
 
 -- a packet of a recording: one of the stream's, or other octets, which a depacketizer opened for the stream refuses; all in the one layout that the program is told
 abbrev pub Recorded : Stream → Arriving → Type 0

@@ -4,16 +4,16 @@ use mathlib.Core.Bool.{Bool, true}
 use mathlib.Core.List.{List, map}
 use Prim.Native.Nat.{ℕ, _%_, _≤_}
 use lib.ListN.{length}
-use Rattle.wire.specs.Bits.{Below}
-use Rattle.wire.specs.Anc.{Each}
-use Rattle.wire.specs.Writing.{maxFieldCells}
-use Rattle.anf.specs.File.{endOfFile, readFile}
-use Rattle.stream.specs.Stream.{Stream, WellFormedStream, Arriving, octetsOf, fresh, Near}
-use Rattle.filing.specs.Filing.{filing}
-use Rattle.capture.specs.declared.state.Order.{Order}
-use Rattle.datagram.specs.Link.{isLinkTaken}
-use Rattle.capture_walk.specs.Frames.{framesOf, payloadsOf}
-use Rattle.capture_walk.specs.Written.{BlocksFit, Captured, RecordsFit, payloadsAmong, pcapOf, pcapngOf}
+use Rattle.wire_spec.specs.Bits.{Below}
+use Rattle.wire_spec.specs.Anc.{Each}
+use Rattle.wire_spec.specs.Writing.{maxFieldCells}
+use Rattle.fieldfile_spec.specs.File.{endOfFile, readFile}
+use Rattle.depacketizer_spec.specs.Stream.{Stream, WellFormedStream, Arriving, octetsOf, fresh, Near}
+use Rattle.fieldsave_session.specs.Filing.{filing}
+use Rattle.capture_spec.specs.declared.state.Order.{Order}
+use Rattle.capture_datagram.specs.Link.{isLinkTaken}
+use Rattle.pcapframes_spec.specs.Frames.{framesOf, payloadsOf}
+use Rattle.pcapframes_spec.specs.Written.{BlocksFit, Captured, RecordsFit, payloadsAmong, pcapOf, pcapngOf}
 use Rattle.archive_laws.specs.Archive.{OpenedByStream, Recorded, archived, callsOf}
 
 -- the archive that a capture gives is as sent, where the tape is what its packets for the port hold

@@ -5,16 +5,16 @@ use mathlib.Core.List.{List, [], _∷_, _++_, map}
 use Prim.Native.Nat.{ℕ, _+_, _^_, _%_, _≤_}
 use lib.Dec.{eqb, leb}
 use lib.ListN.{length}
-use Rattle.wire.specs.Bits.{Below}
-use Rattle.wire.specs.Layout.{Layout}
-use Rattle.wire.specs.Writing.{maxFieldRecords, maxFieldCells, maxFieldPackets}
-use Rattle.anf.specs.File.{FieldContent, endOfFile, readFile}
-use Rattle.frames.specs.Frames.{frames}
-use Rattle.stream.specs.Step.{marked}
-use Rattle.stream.specs.Stream.{recordCount, joinedCells}
-use Rattle.stream.specs.Delivery.{joined}
-use Rattle.listing.specs.declared.session.Session.the-variants as session
-use Rattle.filing.specs.Filing.{filing}
+use Rattle.wire_spec.specs.Bits.{Below}
+use Rattle.wire_spec.specs.Layout.{Layout}
+use Rattle.wire_spec.specs.Writing.{maxFieldRecords, maxFieldCells, maxFieldPackets}
+use Rattle.fieldfile_spec.specs.File.{FieldContent, endOfFile, readFile}
+use Rattle.rtp_frames.specs.Frames.{frames}
+use Rattle.depacketizer_spec.specs.Step.{marked}
+use Rattle.depacketizer_spec.specs.Stream.{recordCount, joinedCells}
+use Rattle.depacketizer_spec.specs.Delivery.{joined}
+use Rattle.fieldlist_session.specs.declared.session.Session.the-variants as session
+use Rattle.fieldsave_session.specs.Filing.{filing}
 use Rattle.archive_laws.specs.Any.{Heard, partsOf}
 use Rattle.archive_laws.specs.AnyArchive.{freshIn}
 

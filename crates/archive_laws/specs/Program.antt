@@ -4,16 +4,16 @@ use mathlib.Core.Bool.{true}
 use mathlib.Core.List.{List, [], _++_, map}
 use Prim.Native.Nat.{ℕ, _≤_}
 use lib.ListN.{length}
-use Rattle.wire.specs.Bits.{Below}
-use Rattle.wire.specs.Layout.{Layout}
-use Rattle.wire.specs.Anc.{Each}
-use Rattle.wire.specs.Writing.{maxFieldCells}
-use Rattle.anf.specs.File.{endOfFile, readFile}
-use Rattle.frames.specs.Frames.{frames}
-use Rattle.stream.specs.Stream.{Stream, WellFormedStream, Arriving, octetsOf, fresh, Near}
-use Rattle.run.specs.Buffers.{writtenIn}
-use Rattle.listing.specs.declared.session.Session.the-variants as session
-use Rattle.filing_turns.specs.Turns.{Ended}
+use Rattle.wire_spec.specs.Bits.{Below}
+use Rattle.wire_spec.specs.Layout.{Layout}
+use Rattle.wire_spec.specs.Anc.{Each}
+use Rattle.wire_spec.specs.Writing.{maxFieldCells}
+use Rattle.fieldfile_spec.specs.File.{endOfFile, readFile}
+use Rattle.rtp_frames.specs.Frames.{frames}
+use Rattle.depacketizer_spec.specs.Stream.{Stream, WellFormedStream, Arriving, octetsOf, fresh, Near}
+use Rattle.program_spec.specs.Buffers.{writtenIn}
+use Rattle.fieldlist_session.specs.declared.session.Session.the-variants as session
+use Rattle.fieldsave_turns.specs.Turns.{Ended}
 use Rattle.archive_laws.specs.Archive.{OpenedByStream, Recorded, archived, callsOf}
 use Rattle.archive_laws.specs.AnyArchive.{freshIn}
 use Rattle.archive_laws.specs.Exact.{wholeFields, written}

@@ -4,13 +4,13 @@ use mathlib.Core.Bool.{Bool, true, false, cond}
 use mathlib.Core.List.{List, [], _∷_, _++_, map}
 use Prim.Native.Nat.{ℕ, suc, _+_, _^_, _%_, _≤_, _<_}
 use lib.ListN.{length}
-use Rattle.wire.specs.Layout.{rfc8331}
-use Rattle.wire.specs.Anc.{Record, Each}
-use Rattle.wire.specs.Packet.{Content}
-use Rattle.wire.specs.Writing.{contentOctets, maxFieldCells}
-use Rattle.anf.specs.File.{FieldContent, WellFormedField, fileOctets, writtenVersion}
-use Rattle.filing.specs.Filing.{filing}
-use Rattle.capture_walk.specs.Frames.{framed}
+use Rattle.wire_spec.specs.Layout.{rfc8331}
+use Rattle.wire_spec.specs.Anc.{Record, Each}
+use Rattle.wire_spec.specs.Packet.{Content}
+use Rattle.wire_spec.specs.Writing.{contentOctets, maxFieldCells}
+use Rattle.fieldfile_spec.specs.File.{FieldContent, WellFormedField, fileOctets, writtenVersion}
+use Rattle.fieldsave_session.specs.Filing.{filing}
+use Rattle.pcapframes_spec.specs.Frames.{framed}
 
 -- A field of a file, cut into packets: the records of the first, and of each other.
 pub record Cut : Type 0 where

@@ -3,9 +3,9 @@
 use mathlib.Core.Path.{_≡_, refl}
 use mathlib.Core.List.{[], _∷_, _++_}
 use lib.ListN.{replicate}
-use Rattle.stream.specs.Step.{openState}
-use Rattle.state_row.specs.declared.state.Restored.the-variants as restored
-use Rattle.state_row.specs.State.{isState, stateIn}
+use Rattle.depacketizer_spec.specs.Step.{openState}
+use Rattle.capi_state.specs.declared.state.Restored.the-variants as restored
+use Rattle.capi_state.specs.State.{isState, stateIn}
 use Rattle.capi_depacketizer.specs.Calls.{arrive, openNumbers, openReply}
 
 -- a state of fourteen numbers

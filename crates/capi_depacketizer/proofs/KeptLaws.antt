@@ -5,19 +5,19 @@ use mathlib.Core.Bool.{Bool, true, false, cond}
 use mathlib.Core.List.{List, []}
 use Prim.Native.Nat.{ℕ, _≤_}
 use lib.ListN.{length}
-use Rattle.wire.specs.Bits.{overwrite}
-use Rattle.stream.specs.declared.state.Answer.{Answer}
-use Rattle.stream.specs.declared.state.Answer.the-variants as answer
-use Rattle.stream.specs.Step.{Step, step}
-use Rattle.stream.proofs.StepLaws.{refused-keeps}
-use Rattle.state_row.specs.declared.state.Restored.the-variants as restored
-use Rattle.boundary.specs.Rows.{isLayout, layoutOf, layoutReply, rowReply}
+use Rattle.wire_spec.specs.Bits.{overwrite}
+use Rattle.depacketizer_spec.specs.declared.state.Answer.{Answer}
+use Rattle.depacketizer_spec.specs.declared.state.Answer.the-variants as answer
+use Rattle.depacketizer_spec.specs.Step.{Step, step}
+use Rattle.depacketizer_spec.proofs.StepLaws.{refused-keeps}
+use Rattle.capi_state.specs.declared.state.Restored.the-variants as restored
+use Rattle.capi_answer.specs.Rows.{isLayout, layoutOf, layoutReply, rowReply}
 use Rattle.capi_depacketizer.specs.Calls.{Arrived, arrive, arrivedAt, noArrival, rowsFit}
 use Rattle.capi_depacketizer.specs.Rows.{arrivalReply}
-use Rattle.state_row.specs.State.{stateSize}
-use Rattle.state_row.specs.State.{isState, numbersOf, stateAt, stateIn}
+use Rattle.capi_state.specs.State.{stateSize}
+use Rattle.capi_state.specs.State.{isState, numbersOf, stateAt, stateIn}
 use Rattle.capi_depacketizer.proofs.RowLaws.{rows-long}
-use Rattle.state_row.proofs.StateLaws.{row-again}
+use Rattle.capi_state.proofs.StateLaws.{row-again}
 
 module _ (layout : ℕ) (state octets store given : List ℕ) where
   -- what an arrival that is refused by a number other than 32 and 36 leaves alone

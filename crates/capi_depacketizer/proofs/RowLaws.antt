@@ -5,10 +5,10 @@ use mathlib.Core.Bool.{true}
 use Prim.Native.Nat.{ℕ, _≤_}
 use lib.Dec.{leb}
 use borrow.Author.Tests.{leb-true}
-use Rattle.wire.proofs.ResultLaws.{and-true}
-use Rattle.boundary.specs.Rows.{answerSize}
+use Rattle.wire_spec.proofs.ResultLaws.{and-true}
+use Rattle.capi_answer.specs.Rows.{answerSize}
 use Rattle.capi_depacketizer.specs.Calls.{rowsFit}
-use Rattle.state_row.specs.State.{stateSize}
+use Rattle.capi_state.specs.State.{stateSize}
 
 pub rows-long : (state answer : ℕ) → rowsFit state answer ≡ true → (stateSize ≤ state) × (answerSize ≤ answer)
 rows-long state answer h =

@@ -4,16 +4,16 @@ use mathlib.Core.List.{List, []}
 use Prim.Native.Nat.{ℕ}
 use lib.Dec.{leb}
 use lib.ListN.{length}
-use Rattle.wire.specs.Layout.{Layout}
+use Rattle.wire_spec.specs.Layout.{Layout}
 use Rattle.depacketizer.specs.declared.state.Opened.{Opened}
 use Rattle.depacketizer.specs.declared.state.Opened.the-variants as opened
 use Rattle.depacketizer.specs.Answers.{openedOf}
-use Rattle.stream.specs.Step.{Step, step, openOf}
-use Rattle.state_row.specs.declared.state.Restored.{Restored}
-use Rattle.state_row.specs.declared.state.Restored.the-variants as restored
-use Rattle.state_row.specs.State.{stateSize}
-use Rattle.state_row.specs.State.{numbersOf, stateIn}
-use Rattle.boundary.specs.Rows.{Reply, acceptedReply, answerSize, isLayout, layoutOf, layoutReply, refusedReply, rowReply}
+use Rattle.depacketizer_spec.specs.Step.{Step, step, openOf}
+use Rattle.capi_state.specs.declared.state.Restored.{Restored}
+use Rattle.capi_state.specs.declared.state.Restored.the-variants as restored
+use Rattle.capi_state.specs.State.{stateSize}
+use Rattle.capi_state.specs.State.{numbersOf, stateIn}
+use Rattle.capi_answer.specs.Rows.{Reply, acceptedReply, answerSize, isLayout, layoutOf, layoutReply, refusedReply, rowReply}
 use Rattle.capi_depacketizer.specs.Rows.{arrivalReply}
 
 -- are both rows long enough

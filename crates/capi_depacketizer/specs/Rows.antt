@@ -1,10 +1,10 @@
 -- What a call returns as numbers: its own, and those that it writes to the first numbers of the answer's row.
 use mathlib.Core.List.{List, [], _∷_}
 use Prim.Native.Nat.{ℕ}
-use Rattle.stream.specs.declared.state.Answer.{Answer}
-use Rattle.stream.specs.declared.state.Answer.the-variants as answer
-use Rattle.stream.specs.declared.state.Field.{Field}
-use Rattle.boundary.specs.Rows.{Reply, acceptedReply, refusedReply}
+use Rattle.depacketizer_spec.specs.declared.state.Answer.{Answer}
+use Rattle.depacketizer_spec.specs.declared.state.Answer.the-variants as answer
+use Rattle.depacketizer_spec.specs.declared.state.Field.{Field}
+use Rattle.capi_answer.specs.Rows.{Reply, acceptedReply, refusedReply}
 
 -- an arrival that completes no field: its kind
 abbrev pub kindReply : ℕ → Reply

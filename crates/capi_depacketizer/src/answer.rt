@@ -1,15 +1,15 @@
 // What the calls return: a number, and the numbers that go to the caller's row. Each function asks that the row is long enough.
 ghost use Prim.Native.Nat.{_≤_};
-ghost use Rattle.boundary.specs.Rows.{answerSize};
+ghost use Rattle.capi_answer.specs.Rows.{answerSize};
 ghost use Rattle.capi_depacketizer.specs.Rows.{arrivalReply, kindReply, wholeRow};
-ghost use Rattle.wire.specs.Bits.{overwrite};
+ghost use Rattle.wire_spec.specs.Bits.{overwrite};
 ghost use lib.ListN.{length};
 ghost use mathlib.Core.Path.{_≡_};
-use boundary::row::ACCEPTED;
-use boundary::row::refuse;
-use state_row::row::put;
-use stream::state::Answer;
-use stream::state::Field;
+use capi_answer::row::ACCEPTED;
+use capi_answer::row::refuse;
+use capi_state::row::put;
+use depacketizer_spec::state::Answer;
+use depacketizer_spec::state::Field;
 
 // What became of an arrival, as the first number of its answer.
 const SKIPPED: u64 = 0;

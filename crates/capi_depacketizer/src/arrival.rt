@@ -1,22 +1,22 @@
 // Fields from packets, over a state that the caller keeps as a row.
 ghost use Rattle.capi_depacketizer.specs.Calls.{arrive, openNumbers, openReply, rowsFit, stateArrived, stateOpened};
-ghost use Rattle.state_row.specs.State.{stateIn};
-ghost use Rattle.wire.specs.Bits.{overwrite};
+ghost use Rattle.capi_state.specs.State.{stateIn};
+ghost use Rattle.wire_spec.specs.Bits.{overwrite};
 ghost use mathlib.Core.Path.{_≡_};
 use crate::answer::reply_arrival;
-use boundary::layout::LAST_LAYOUT;
-use boundary::layout::layout_of;
-use boundary::length::ANSWER_SIZE;
-use boundary::length::LAYOUT_UNKNOWN;
-use boundary::length::ROW_TOO_SHORT;
-use boundary::row::ACCEPTED;
-use boundary::row::refuse;
+use capi_answer::layout::LAST_LAYOUT;
+use capi_answer::layout::layout_of;
+use capi_answer::length::ANSWER_SIZE;
+use capi_answer::length::LAYOUT_UNKNOWN;
+use capi_answer::length::ROW_TOO_SHORT;
+use capi_answer::row::ACCEPTED;
+use capi_answer::row::refuse;
+use capi_state::state::Restored;
+use capi_state::state::put_state;
+use capi_state::state::state_in;
 use depacketizer::state::Depacketizer;
 use depacketizer::state::Opened;
-use state_row::state::Restored;
-use state_row::state::put_state;
-use state_row::state::state_in;
-use wire::refusal::Refusal;
+use wire_spec::refusal::Refusal;
 
 // Numbers that a state needs.
 const STATE_SIZE: usize = 15;

@@ -2,12 +2,12 @@
 use mathlib.Core.List.{List}
 use Prim.Native.Nat.{ℕ}
 use lib.ListN.{length}
-use Rattle.wire.specs.Written.{octetsAfter, writtenOf}
-use Rattle.anf.specs.File as file
-use Rattle.fieldfile.specs.Answers as field
-use Rattle.sdi_line.specs.declared.position.Position.{Position}
-use Rattle.sdi_line.specs.Answers as sdi
-use Rattle.boundary.specs.Rows.{Reply, given, rowReply, writtenReply}
+use Rattle.wire_spec.specs.Written.{octetsAfter, writtenOf}
+use Rattle.fieldfile_spec.specs.File as file
+use Rattle.fieldfile_reader.specs.Answers as field
+use Rattle.sdi_spec.specs.declared.position.Position.{Position}
+use Rattle.sdi_spec.specs.Answers as sdi
+use Rattle.capi_answer.specs.Rows.{Reply, given, rowReply, writtenReply}
 use Rattle.capi_file.specs.Rows.{fieldReply, lineFoundReply, lineWrittenReply}
 
 -- `jibhotran_file_begin`: its reply

@@ -1,14 +1,14 @@
 -- What a call returns as numbers: its own, and those that it writes to the first numbers of the answer's row.
 use mathlib.Core.List.{List, [], _∷_}
 use Prim.Native.Nat.{ℕ}
-use Rattle.fieldfile.specs.declared.field.Summary.{Summary as FieldSummary}
-use Rattle.fieldfile.specs.declared.field.FieldRead.{FieldRead}
-use Rattle.fieldfile.specs.declared.field.FieldRead.the-variants as fieldRead
-use Rattle.sdi_line.specs.declared.answer.WrittenLine.{WrittenLine}
-use Rattle.sdi_line.specs.declared.answer.WrittenLine.the-variants as writtenLine
-use Rattle.sdi_line.specs.declared.answer.ReadLine.{ReadLine}
-use Rattle.sdi_line.specs.declared.answer.ReadLine.the-variants as readLine
-use Rattle.boundary.specs.Rows.{Reply, acceptedReply, refusedReply, sizeReply}
+use Rattle.fieldfile_reader.specs.declared.field.Summary.{Summary as FieldSummary}
+use Rattle.fieldfile_reader.specs.declared.field.FieldRead.{FieldRead}
+use Rattle.fieldfile_reader.specs.declared.field.FieldRead.the-variants as fieldRead
+use Rattle.sdi_spec.specs.declared.answer.WrittenLine.{WrittenLine}
+use Rattle.sdi_spec.specs.declared.answer.WrittenLine.the-variants as writtenLine
+use Rattle.sdi_spec.specs.declared.answer.ReadLine.{ReadLine}
+use Rattle.sdi_spec.specs.declared.answer.ReadLine.the-variants as readLine
+use Rattle.capi_answer.specs.Rows.{Reply, acceptedReply, refusedReply, sizeReply}
 
 -- what a field of a file says: timestamp, F, records, cells, the offset after it
 abbrev pub fieldRow : FieldSummary → List ℕ

@@ -1,18 +1,18 @@
 // What the calls return: a number, and the numbers that go to the caller's row. Each function asks that the row is long enough.
 ghost use Prim.Native.Nat.{_≤_};
-ghost use Rattle.boundary.specs.Rows.{answerSize};
+ghost use Rattle.capi_answer.specs.Rows.{answerSize};
 ghost use Rattle.capi_file.specs.Rows.{fieldReply, fieldRow, lineFoundReply, lineWrittenReply};
-ghost use Rattle.wire.specs.Bits.{overwrite};
+ghost use Rattle.wire_spec.specs.Bits.{overwrite};
 ghost use lib.ListN.{length};
 ghost use mathlib.Core.Path.{_≡_};
-use boundary::answer::accept_size;
-use boundary::row::ACCEPTED;
-use boundary::row::refuse;
-use fieldfile::field::FieldRead;
-use fieldfile::field::Summary as FieldSummary;
-use sdi_line::answer::ReadLine;
-use sdi_line::answer::WrittenLine;
-use state_row::row::put;
+use capi_answer::answer::accept_size;
+use capi_answer::row::ACCEPTED;
+use capi_answer::row::refuse;
+use capi_state::row::put;
+use fieldfile_reader::field::FieldRead;
+use fieldfile_reader::field::Summary as FieldSummary;
+use sdi_spec::answer::ReadLine;
+use sdi_spec::answer::WrittenLine;
 
 // Timestamp, F, records, cells, the offset after the field.
 fn put_field(field: FieldSummary, answer: &mut [u64])

@@ -1,13 +1,13 @@
 // Field files.
 ghost use Rattle.capi_file.specs.Calls.{beginOctets, beginReply, fileCells, fileOctets, fileReadReply, fileWriteReply};
-ghost use Rattle.wire.specs.Bits.{overwrite};
+ghost use Rattle.wire_spec.specs.Bits.{overwrite};
 ghost use mathlib.Core.Path.{_≡_};
 use crate::answer::reply_field;
-use boundary::answer::reply_written;
-use boundary::length::ANSWER_SIZE;
-use boundary::length::ROW_TOO_SHORT;
-use wire::count::OctetCount;
-use wire::number::Timestamp;
+use capi_answer::answer::reply_written;
+use capi_answer::length::ANSWER_SIZE;
+use capi_answer::length::ROW_TOO_SHORT;
+use wire_spec::count::OctetCount;
+use wire_spec::number::Timestamp;
 
 // Writes the first octets of a field file.
 #[no_mangle]
@@ -58,6 +58,6 @@ pub extern "C" fn jibhotran_file_read(
     if answer.len() < ANSWER_SIZE {
         return ROW_TOO_SHORT;
     }
-    let read = fieldfile::read_field(file, OctetCount(at), cells);
+    let read = fieldfile_reader::read_field(file, OctetCount(at), cells);
     reply_field(read, answer)
 }

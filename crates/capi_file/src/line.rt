@@ -1,12 +1,12 @@
 // Lines of the serial interface.
 ghost use Rattle.capi_file.specs.Calls.{lineCells, lineReadReply, lineWords, lineWriteReply, positionOf};
-ghost use Rattle.wire.specs.Bits.{overwrite};
+ghost use Rattle.wire_spec.specs.Bits.{overwrite};
 ghost use mathlib.Core.Path.{_≡_};
 use crate::answer::reply_line_read;
 use crate::answer::reply_line_written;
-use boundary::length::ANSWER_SIZE;
-use boundary::length::ROW_TOO_SHORT;
-use sdi_line::position::Position;
+use capi_answer::length::ANSWER_SIZE;
+use capi_answer::length::ROW_TOO_SHORT;
+use sdi_spec::position::Position;
 
 // Puts the records of the cells into the line, from the word `start` on.
 #[no_mangle]

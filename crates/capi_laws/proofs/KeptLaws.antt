@@ -6,19 +6,19 @@ use mathlib.Core.List.{List}
 use Prim.Native.Nat.{ℕ, _+_, _-_, _^_, _%_, _≤_, min}
 use native.Mathlib.Omega.{arith}
 use lib.ListN.{length, getD, set}
-use Rattle.wire.specs.Bits.{overwrite}
-use Rattle.wire.specs.Result.{accepted}
-use Rattle.wire.specs.Packet.{Content, readContent}
-use Rattle.stream.specs.declared.state.Answer.{Answer}
-use Rattle.stream.specs.declared.state.Answer.the-variants as answer
-use Rattle.stream.specs.Step.{Step, step}
-use Rattle.stream.proofs.StepLaws.{refused-keeps, passed}
-use Rattle.state_row.specs.declared.state.Restored.the-variants as restored
-use Rattle.boundary.specs.Rows.{isLayout, layoutOf, layoutReply, rowReply}
+use Rattle.wire_spec.specs.Bits.{overwrite}
+use Rattle.wire_spec.specs.Result.{accepted}
+use Rattle.wire_spec.specs.Packet.{Content, readContent}
+use Rattle.depacketizer_spec.specs.declared.state.Answer.{Answer}
+use Rattle.depacketizer_spec.specs.declared.state.Answer.the-variants as answer
+use Rattle.depacketizer_spec.specs.Step.{Step, step}
+use Rattle.depacketizer_spec.proofs.StepLaws.{refused-keeps, passed}
+use Rattle.capi_state.specs.declared.state.Restored.the-variants as restored
+use Rattle.capi_answer.specs.Rows.{isLayout, layoutOf, layoutReply, rowReply}
 use Rattle.capi_depacketizer.specs.Calls.{Arrived, arrive, arrivedAt, noArrival, rowsFit}
 use Rattle.capi_depacketizer.specs.Rows.{arrivalReply}
-use Rattle.state_row.specs.State.{stateSize, isState, numbersOf, stateAt, stateIn}
-use Rattle.state_row.proofs.StateLaws.{row-again}
+use Rattle.capi_state.specs.State.{stateSize, isState, numbersOf, stateAt, stateIn}
+use Rattle.capi_state.proofs.StateLaws.{row-again}
 use Rattle.capi_depacketizer.proofs.RowLaws.{rows-long}
 use Rattle.capi_depacketizer.proofs.KeptLaws.{refused-keeps-row}
 use Rattle.capi_laws.specs.Kept.{Keeps}

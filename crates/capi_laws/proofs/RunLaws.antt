@@ -8,25 +8,25 @@ use native.Mathlib.Omega.{arith}
 use lib.Dec.{eqb}
 use lib.ListN.{length, getD}
 use borrow.Author.Tests.{le-leb, ne-eqb}
-use Rattle.wire.specs.declared.refusal.Refusal.{Refusal}
-use Rattle.wire.specs.Layout.{Layout}
-use Rattle.wire.specs.Packet.{Content}
-use Rattle.wire.proofs.ResultLaws.{Numbered, and-both}
-use Rattle.stream.specs.declared.state.State.{State}
-use Rattle.stream.specs.declared.state.Answer.{Answer}
-use Rattle.stream.specs.declared.state.Answer.the-variants as answer
-use Rattle.stream.specs.Step.{Step, step, gatheredIn, gathered}
-use Rattle.stream.specs.Stream.{Stream, Calls, Handed, handedBy, storeFor, Run, run, callStep, octetsOf, layoutOf}
-use Rattle.stream.specs.Table as table
-use Rattle.stream.specs.Table.{Own, FreshNow, Told}
-use Rattle.stream.proofs.NumberLaws.{isReading, content-numbered}
-use Rattle.stream.proofs.StepLaws.{refusal-inj}
-use Rattle.stream.proofs.TableLaws.{told, exactly}
-use Rattle.stream.proofs.Demand3.{demand3}
-use Rattle.state_row.specs.declared.state.Restored.the-variants as restored
-use Rattle.state_row.specs.State.{isState, phaseIn, stateAt, stateIn}
-use Rattle.state_row.proofs.StateLaws.{fitting}
-use Rattle.boundary.specs.Rows as rows
+use Rattle.wire_spec.specs.declared.refusal.Refusal.{Refusal}
+use Rattle.wire_spec.specs.Layout.{Layout}
+use Rattle.wire_spec.specs.Packet.{Content}
+use Rattle.wire_spec.proofs.ResultLaws.{Numbered, and-both}
+use Rattle.depacketizer_spec.specs.declared.state.State.{State}
+use Rattle.depacketizer_spec.specs.declared.state.Answer.{Answer}
+use Rattle.depacketizer_spec.specs.declared.state.Answer.the-variants as answer
+use Rattle.depacketizer_spec.specs.Step.{Step, step, gatheredIn, gathered}
+use Rattle.depacketizer_spec.specs.Stream.{Stream, Calls, Handed, handedBy, storeFor, Run, run, callStep, octetsOf, layoutOf}
+use Rattle.depacketizer_spec.specs.Table as table
+use Rattle.depacketizer_spec.specs.Table.{Own, FreshNow, Told}
+use Rattle.depacketizer_spec.proofs.NumberLaws.{isReading, content-numbered}
+use Rattle.depacketizer_spec.proofs.StepLaws.{refusal-inj}
+use Rattle.depacketizer_spec.proofs.TableLaws.{told, exactly}
+use Rattle.depacketizer_spec.proofs.Demand3.{demand3}
+use Rattle.capi_state.specs.declared.state.Restored.the-variants as restored
+use Rattle.capi_state.specs.State.{isState, phaseIn, stateAt, stateIn}
+use Rattle.capi_state.proofs.StateLaws.{fitting}
+use Rattle.capi_answer.specs.Rows as rows
 use Rattle.capi_depacketizer.specs.Calls.{Arrived, arrive, rowsFit, stateArrived, stepped}
 use Rattle.capi_depacketizer.specs.Rows.{arrivalReply}
 use Rattle.capi_laws.specs.Run as ran

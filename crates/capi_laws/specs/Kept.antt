@@ -4,10 +4,10 @@ use mathlib.Core.Path.{_≡_}
 use mathlib.Core.List.{List}
 use Prim.Native.Nat.{ℕ, _+_, _-_, _^_, _%_, min}
 use lib.ListN.{getD, set}
-use Rattle.wire.specs.Bits.{overwrite}
-use Rattle.wire.specs.Layout.{Layout}
-use Rattle.wire.specs.Result.{accepted}
-use Rattle.wire.specs.Packet.{Content, readContent}
+use Rattle.wire_spec.specs.Bits.{overwrite}
+use Rattle.wire_spec.specs.Layout.{Layout}
+use Rattle.wire_spec.specs.Result.{accepted}
+use Rattle.wire_spec.specs.Packet.{Content, readContent}
 use Rattle.capi_depacketizer.specs.Calls.{Arrived}
 
 -- the row then is the row before, but for number 10 after 32, and numbers 12 and 13 after 36

@@ -5,11 +5,11 @@ use mathlib.Core.List.{List, [], _∷_, _++_}
 use Prim.Native.Nat.{ℕ, _+_, _-_, _^_, _≤_, min}
 use lib.Dec.{eqb}
 use lib.ListN.{length, take, getD}
-use Rattle.wire.specs.Bits.{overwrite}
-use Rattle.stream.specs.Stream.{Stream, WellFormedStream, Call, Calls, none, _before_, Proper, Near, Handed, octetsOf, layoutOf, arrived, fresh, expected, span}
-use Rattle.state_row.specs.State.{stateIn}
-use Rattle.boundary.specs.Rows as rows
-use Rattle.boundary.specs.Rows.{Reply}
+use Rattle.wire_spec.specs.Bits.{overwrite}
+use Rattle.depacketizer_spec.specs.Stream.{Stream, WellFormedStream, Call, Calls, none, _before_, Proper, Near, Handed, octetsOf, layoutOf, arrived, fresh, expected, span}
+use Rattle.capi_state.specs.State.{stateIn}
+use Rattle.capi_answer.specs.Rows as rows
+use Rattle.capi_answer.specs.Rows.{Reply}
 use Rattle.capi_depacketizer.specs.Calls.{arrive, openNumbers, stateArrived, stateOpened}
 
 -- "While the keeper is filling, a call is lent the store as the call before left it, ..; otherwise any store": number 2 of a state's row is 2 when filling

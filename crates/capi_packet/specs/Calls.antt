@@ -4,15 +4,15 @@ use mathlib.Core.List.{List}
 use Prim.Native.Nat.{ℕ}
 use lib.Dec.{eqb}
 use lib.ListN.{length}
-use Rattle.wire.specs.Packet.{readInto}
-use Rattle.wire.specs.Writing.{writeContent}
-use Rattle.wire.specs.Written.{octetsAfter, writtenOf}
-use Rattle.rtp.specs.declared.packet.Head.{Head}
-use Rattle.rtp.specs.Answers as rtp
-use Rattle.tolerant.specs.Tolerant.{tolerateInto}
-use Rattle.reader.specs.Answers as reader
-use Rattle.packetizer.specs.Answers as packetizer
-use Rattle.boundary.specs.Rows.{Reply, given, isLayout, layoutOf, layoutReply, rowReply, writtenReply}
+use Rattle.wire_spec.specs.Packet.{readInto}
+use Rattle.wire_spec.specs.Writing.{writeContent}
+use Rattle.wire_spec.specs.Written.{octetsAfter, writtenOf}
+use Rattle.rtp_strict_reader.specs.declared.packet.Head.{Head}
+use Rattle.rtp_strict_reader.specs.Answers as rtp
+use Rattle.anc_tolerant_spec.specs.Tolerant.{tolerateInto}
+use Rattle.rtp_reader.specs.Answers as reader
+use Rattle.rtp_writer.specs.Answers as packetizer
+use Rattle.capi_answer.specs.Rows.{Reply, given, isLayout, layoutOf, layoutReply, rowReply, writtenReply}
 use Rattle.capi_packet.specs.Rows.{packetReply}
 
 -- `jibhotran_read`, the tolerant way (02, K9): its reply

@@ -1,16 +1,16 @@
 // What the calls return: a number, and the numbers that go to the caller's row. Each function asks that the row is long enough.
 ghost use Prim.Native.Nat.{_≤_};
-ghost use Rattle.boundary.specs.Rows.{answerSize};
+ghost use Rattle.capi_answer.specs.Rows.{answerSize};
 ghost use Rattle.capi_packet.specs.Rows.{packetReply, summaryRow};
-ghost use Rattle.wire.specs.Bits.{overwrite};
+ghost use Rattle.wire_spec.specs.Bits.{overwrite};
 ghost use lib.ListN.{length};
 ghost use mathlib.Core.Path.{_≡_};
-use boundary::row::ACCEPTED;
-use boundary::row::refuse;
-use reader::packet::TolerantRead;
-use rtp::packet::Summary;
-use state_row::row::flag;
-use state_row::row::put;
+use capi_answer::row::ACCEPTED;
+use capi_answer::row::refuse;
+use capi_state::row::flag;
+use capi_state::row::put;
+use rtp_reader::packet::TolerantRead;
+use rtp_strict_reader::packet::Summary;
 
 // Source, payload type, marker, packet number, timestamp, F, records, cells, records left out.
 fn put_summary(summary: Summary, omitted: u8, answer: &mut [u64])

@@ -1,24 +1,24 @@
 // RTP packets with ANC payload.
 ghost use Rattle.capi_packet.specs.Calls.{headOf, readCells, readReply, strictCells, strictReply, writeOctets, writeReply};
-ghost use Rattle.wire.specs.Bits.{overwrite};
+ghost use Rattle.wire_spec.specs.Bits.{overwrite};
 ghost use mathlib.Core.Path.{_≡_};
 use crate::answer::reply_read;
-use boundary::answer::reply_written;
-use boundary::layout::LAST_LAYOUT;
-use boundary::layout::layout_of;
-use boundary::length::ANSWER_SIZE;
-use boundary::length::LAYOUT_UNKNOWN;
-use boundary::length::ROW_TOO_SHORT;
-use reader::outlined::read_outlined;
-use reader::packet::TolerantRead;
-use reader::through::read_refused;
-use rtp::check::check;
-use rtp::packet::Checked;
-use rtp::packet::Head;
-use wire::number::PacketNumber;
-use wire::number::Timestamp;
+use capi_answer::answer::reply_written;
+use capi_answer::layout::LAST_LAYOUT;
+use capi_answer::layout::layout_of;
+use capi_answer::length::ANSWER_SIZE;
+use capi_answer::length::LAYOUT_UNKNOWN;
+use capi_answer::length::ROW_TOO_SHORT;
+use rtp_reader::outlined::read_outlined;
+use rtp_reader::packet::TolerantRead;
+use rtp_reader::through::read_refused;
+use rtp_strict_reader::check::check;
+use rtp_strict_reader::packet::Checked;
+use rtp_strict_reader::packet::Head;
+use wire_spec::number::PacketNumber;
+use wire_spec::number::Timestamp;
 
-// Reads a packet of the layout in the tolerant way, the records that come through into cells. As `reader::read`, with an answer in each arm: what a
+// Reads a packet of the layout in the tolerant way, the records that come through into cells. As `rtp_reader::read`, with an answer in each arm: what a
 // good packet says then goes straight to the row.
 #[no_mangle]
 pub extern "C" fn jibhotran_read(
@@ -68,7 +68,7 @@ pub extern "C" fn jibhotran_read_strict(
     if layout > LAST_LAYOUT {
         return LAYOUT_UNKNOWN;
     }
-    let read = rtp::read_strict(layout_of(layout), octets, cells);
+    let read = rtp_strict_reader::read_strict(layout_of(layout), octets, cells);
     reply_read(TolerantRead::strictly(read), answer)
 }
 
@@ -104,6 +104,6 @@ pub extern "C" fn jibhotran_write(
         timestamp: Timestamp(timestamp),
         f,
     };
-    let written = packetizer::write(layout_of(layout), head, cells, out);
+    let written = rtp_writer::write(layout_of(layout), head, cells, out);
     reply_written(written, answer)
 }

@@ -4,15 +4,15 @@ use mathlib.Core.List.{List}
 use Prim.Native.Nat.{ℕ}
 use lib.Dec.{leb}
 use lib.ListN.{length}
-use Rattle.wire.specs.Bits.{overwrite}
-use Rattle.wire.specs.Written.{octetsAfter, writtenOf}
-use Rattle.sdp.specs.declared.parameters.Vpid.{Vpid}
-use Rattle.sdp.specs.declared.parameters.Vpid.the-variants as vpid
-use Rattle.sdp.specs.Text.{maxCode}
-use Rattle.sdp.specs.Reading as reading
-use Rattle.sdp.specs.Writing.{writeText}
-use Rattle.fmtp.specs.Answers as fmtp
-use Rattle.boundary.specs.Rows.{Reply, given, rowReply, writtenReply}
+use Rattle.wire_spec.specs.Bits.{overwrite}
+use Rattle.wire_spec.specs.Written.{octetsAfter, writtenOf}
+use Rattle.sdp_spec.specs.declared.parameters.Vpid.{Vpid}
+use Rattle.sdp_spec.specs.declared.parameters.Vpid.the-variants as vpid
+use Rattle.sdp_spec.specs.Text.{maxCode}
+use Rattle.sdp_spec.specs.Reading as reading
+use Rattle.sdp_spec.specs.Writing.{writeText}
+use Rattle.sdp_reader.specs.Answers as fmtp
+use Rattle.capi_answer.specs.Rows.{Reply, given, rowReply, writtenReply}
 use Rattle.capi_parameters.specs.Rows.{parametersReply}
 
 -- `jibhotran_sdp_read`: its reply

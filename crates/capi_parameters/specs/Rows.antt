@@ -1,12 +1,12 @@
 -- What a call returns as numbers: its own, and those that it writes to the first numbers of the answer's row.
 use mathlib.Core.List.{List, [], _∷_}
 use Prim.Native.Nat.{ℕ}
-use Rattle.sdp.specs.declared.parameters.Parameters.{Parameters}
-use Rattle.sdp.specs.declared.parameters.Vpid.{Vpid}
-use Rattle.sdp.specs.declared.parameters.Vpid.the-variants as vpid
-use Rattle.fmtp.specs.declared.Reading.{Reading}
-use Rattle.fmtp.specs.declared.Reading.the-variants as reading
-use Rattle.boundary.specs.Rows.{Reply, acceptedReply, refusedReply}
+use Rattle.sdp_spec.specs.declared.parameters.Parameters.{Parameters}
+use Rattle.sdp_spec.specs.declared.parameters.Vpid.{Vpid}
+use Rattle.sdp_spec.specs.declared.parameters.Vpid.the-variants as vpid
+use Rattle.sdp_reader.specs.declared.Reading.{Reading}
+use Rattle.sdp_reader.specs.declared.Reading.the-variants as reading
+use Rattle.capi_answer.specs.Rows.{Reply, acceptedReply, refusedReply}
 
 -- 1 where there is a VPID code
 abbrev pub hasCode : Vpid → ℕ

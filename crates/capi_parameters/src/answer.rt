@@ -1,16 +1,16 @@
 // What the calls return: a number, and the numbers that go to the caller's row. Each function asks that the row is long enough.
 ghost use Prim.Native.Nat.{_≤_};
-ghost use Rattle.boundary.specs.Rows.{answerSize};
+ghost use Rattle.capi_answer.specs.Rows.{answerSize};
 ghost use Rattle.capi_parameters.specs.Rows.{codeOr0, hasCode, parametersReply, parametersRow};
-ghost use Rattle.wire.specs.Bits.{overwrite};
+ghost use Rattle.wire_spec.specs.Bits.{overwrite};
 ghost use lib.ListN.{length};
 ghost use mathlib.Core.Path.{_≡_};
-use boundary::row::ACCEPTED;
-use boundary::row::refuse;
-use fmtp::Reading;
-use sdp::parameters::Parameters;
-use sdp::parameters::Vpid;
-use state_row::row::put;
+use capi_answer::row::ACCEPTED;
+use capi_answer::row::refuse;
+use capi_state::row::put;
+use sdp_reader::Reading;
+use sdp_spec::parameters::Parameters;
+use sdp_spec::parameters::Vpid;
 
 // 1 where there is a code.
 fn has_code(vpid: Vpid) -> u64

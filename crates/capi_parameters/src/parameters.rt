@@ -1,14 +1,14 @@
 // SDP format parameters, and whether a record is wanted.
 ghost use Rattle.capi_parameters.specs.Calls.{sdpPairs, sdpReadReply, sdpText, sdpWriteReply, vpidOf};
-ghost use Rattle.filter.specs.Wanted.{wantedIn, wantedOf};
-ghost use Rattle.wire.specs.Bits.{bit, overwrite};
+ghost use Rattle.anc_filter.specs.Wanted.{wantedIn, wantedOf};
+ghost use Rattle.wire_spec.specs.Bits.{bit, overwrite};
 ghost use mathlib.Core.Path.{_≡_};
 use crate::answer::reply_reading;
-use boundary::answer::reply_written;
-use boundary::length::ANSWER_SIZE;
-use boundary::length::ROW_TOO_SHORT;
-use filter::DidSdid;
-use sdp::parameters::Vpid;
+use anc_filter::DidSdid;
+use capi_answer::answer::reply_written;
+use capi_answer::length::ANSWER_SIZE;
+use capi_answer::length::ROW_TOO_SHORT;
+use sdp_spec::parameters::Vpid;
 
 // Reads SDP format parameters, the pairs into octets, DID then SDID.
 #[no_mangle]
@@ -20,7 +20,7 @@ pub extern "C" fn jibhotran_sdp_read(text: &[u8], pairs: &mut [u8], answer: &mut
     if answer.len() < ANSWER_SIZE {
         return ROW_TOO_SHORT;
     }
-    let reading = fmtp::read(text, pairs);
+    let reading = sdp_reader::read(text, pairs);
     reply_reading(reading, answer)
 }
 
@@ -50,7 +50,7 @@ pub extern "C" fn jibhotran_sdp_write(
     if answer.len() < ANSWER_SIZE {
         return ROW_TOO_SHORT;
     }
-    let written = fmtp_writer::write(pairs, vpid_of(vpid), out);
+    let written = sdp_writer::write(pairs, vpid_of(vpid), out);
     reply_written(written, answer)
 }
 
@@ -66,7 +66,7 @@ fn flag(is: bool) -> u8
 pub extern "C" fn jibhotran_wanted(did: u8, sdid: u8, pairs: &[u8]) -> u8
     ensures { λ r. ⌜ r ≡ bit (wantedIn did sdid (now (pairs .entry))) ⌝ }
 {
-    flag(filter::wanted(did, sdid, pairs))
+    flag(anc_filter::wanted(did, sdid, pairs))
 }
 
 // The same, the pairs lent as a list of pairs.
@@ -74,5 +74,5 @@ pub extern "C" fn jibhotran_wanted(did: u8, sdid: u8, pairs: &[u8]) -> u8
 pub extern "C" fn jibhotran_wanted_of(did: u8, sdid: u8, pairs: &[DidSdid]) -> u8
     ensures { λ r. ⌜ r ≡ bit (wantedOf did sdid (now (pairs .entry))) ⌝ }
 {
-    flag(filter::wanted_of(did, sdid, pairs))
+    flag(anc_filter::wanted_of(did, sdid, pairs))
 }

@@ -2,14 +2,14 @@
 ghost use mathlib.Core.Path.{_≡_};
 ghost use Prim.Native.Nat.{_+_, _*_, _<_, _≤_};
 ghost use lib.ListN.{length};
-ghost use Rattle.wire.specs.Bits.{quadOf};
-ghost use Rattle.capture.specs.Numbers.{blockHead, halfAt, headOrder, isMagic, ordering, sectionOrder, wordAt, wordSize};
-use capture::format::FIELDS_AT;
-use capture::format::MAGIC_MICRO;
-use capture::format::MAGIC_NANO;
-use capture::format::ORDER_MAGIC;
-use capture::state::Order;
-use capture::state::Ordered;
+ghost use Rattle.wire_spec.specs.Bits.{quadOf};
+ghost use Rattle.capture_spec.specs.Numbers.{blockHead, halfAt, headOrder, isMagic, ordering, sectionOrder, wordAt, wordSize};
+use capture_spec::format::FIELDS_AT;
+use capture_spec::format::MAGIC_MICRO;
+use capture_spec::format::MAGIC_NANO;
+use capture_spec::format::ORDER_MAGIC;
+use capture_spec::state::Order;
+use capture_spec::state::Ordered;
 
 fn pair(a: u8, b: u8) -> u32
     ensures { λ r. ⌜ r ≡ a * 256 + b ⌝ }

@@ -4,17 +4,17 @@ use mathlib.Core.Path.{_≡_, refl, ap, sym, subst, _∙_}
 use mathlib.Core.Bool.{Bool, true, false, true≢false, cond}
 use mathlib.Core.List.{List, [], _∷_}
 use Prim.Native.Nat.{ℕ}
-use Rattle.wire.specs.declared.refusal.Refusal.{Refusal}
-use Rattle.wire.specs.Layout.{Layout}
-use Rattle.wire.specs.Result.{Result, refused, accepted, refuse, Checks, judge}
-use Rattle.wire.specs.Packet.{Content, readContent}
+use Rattle.wire_spec.specs.declared.refusal.Refusal.{Refusal}
+use Rattle.wire_spec.specs.Layout.{Layout}
+use Rattle.wire_spec.specs.Result.{Result, refused, accepted, refuse, Checks, judge}
+use Rattle.wire_spec.specs.Packet.{Content, readContent}
 use Rattle.depacketizer.specs.declared.admit.Stage.{Stage}
 use Rattle.depacketizer.specs.declared.admit.Stage.the-variants as stage
-use Rattle.stream.specs.declared.state.State.{State}
-use Rattle.freshness.specs.declared.place.Freshness.{Freshness}
-use Rattle.freshness.specs.declared.place.Freshness.the-variants as freshness
-use Rattle.freshness.specs.Answers.{farOf, placeOf, freshnessOf}
-use Rattle.stream.specs.Step.{Class, late, next, far, ahead, classify, distance, lost, gathered, sound, openedChecks, admission, admit, openState, isRemembered, packetStep, classStep, farOrRestart, freshStep, Step}
+use Rattle.depacketizer_spec.specs.declared.state.State.{State}
+use Rattle.depacketizer_sequence.specs.declared.place.Freshness.{Freshness}
+use Rattle.depacketizer_sequence.specs.declared.place.Freshness.the-variants as freshness
+use Rattle.depacketizer_sequence.specs.Answers.{farOf, placeOf, freshnessOf}
+use Rattle.depacketizer_spec.specs.Step.{Class, late, next, far, ahead, classify, distance, lost, gathered, sound, openedChecks, admission, admit, openState, isRemembered, packetStep, classStep, farOrRestart, freshStep, Step}
 use Rattle.depacketizer.specs.Answers.{stageOf, arrivalOf, refusedOf}
 
 -- what follows a stage: a refusal goes straight out

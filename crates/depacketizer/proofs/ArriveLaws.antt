@@ -5,25 +5,25 @@ use mathlib.Core.Bool.{Bool, true, false, cond}
 use mathlib.Core.List.{List}
 use Prim.Native.Nat.{ℕ, _+_, _≤_}
 use lib.ListN.{length}
-use Rattle.wire.specs.declared.refusal.Refusal.{Refusal}
-use Rattle.wire.specs.Bits.{splice}
-use Rattle.wire.specs.Result.{accepted}
-use Rattle.wire.specs.Cells.{listIn, listOf}
-use Rattle.wire.specs.Packet.{Content}
-use Rattle.wire.specs.Layout.{Layout}
-use Rattle.rtp.specs.Answers.{checkedOf}
-use Rattle.rtp.specs.declared.packet.Checked.{Checked}
-use Rattle.rtp.specs.declared.packet.Checked.the-variants as checked
-use Rattle.rtp.proofs.ReadLaws.{refused-is}
-use Rattle.stream.specs.declared.state.State.{State}
+use Rattle.wire_spec.specs.declared.refusal.Refusal.{Refusal}
+use Rattle.wire_spec.specs.Bits.{splice}
+use Rattle.wire_spec.specs.Result.{accepted}
+use Rattle.wire_spec.specs.Cells.{listIn, listOf}
+use Rattle.wire_spec.specs.Packet.{Content}
+use Rattle.wire_spec.specs.Layout.{Layout}
+use Rattle.rtp_strict_reader.specs.Answers.{checkedOf}
+use Rattle.rtp_strict_reader.specs.declared.packet.Checked.{Checked}
+use Rattle.rtp_strict_reader.specs.declared.packet.Checked.the-variants as checked
+use Rattle.rtp_strict_reader.proofs.ReadLaws.{refused-is}
+use Rattle.depacketizer_spec.specs.declared.state.State.{State}
 use Rattle.depacketizer.specs.declared.decide.Decision.{Decision}
-use Rattle.freshness.specs.declared.place.Freshness.the-variants as freshness
-use Rattle.stream.specs.Step.{Gathered, lost, gathered, gatheredCells, gatheredPackets, Gather, carried, follow, appended, sound, packetStep, admission, step}
-use Rattle.freshness.specs.Answers.{freshnessOf}
+use Rattle.depacketizer_sequence.specs.declared.place.Freshness.the-variants as freshness
+use Rattle.depacketizer_spec.specs.Step.{Gathered, lost, gathered, gatheredCells, gatheredPackets, Gather, carried, follow, appended, sound, packetStep, admission, step}
+use Rattle.depacketizer_sequence.specs.Answers.{freshnessOf}
 use Rattle.depacketizer.specs.Answers.{decisionOf, afterOf}
-use Rattle.stream.proofs.FitLaws.{follow-room}
-use Rattle.stream.proofs.RestartLaws.{open-sound}
-use Rattle.stream.proofs.StepLaws.{unchanged, passed, step-refused, step-admitted}
+use Rattle.depacketizer_spec.proofs.FitLaws.{follow-room}
+use Rattle.depacketizer_spec.proofs.RestartLaws.{open-sound}
+use Rattle.depacketizer_spec.proofs.StepLaws.{unchanged, passed, step-refused, step-admitted}
 use Rattle.depacketizer.proofs.AdmitLaws.{Starts, packet-fresh}
 use Rattle.depacketizer.proofs.DecideLaws.{Sound, sound-is, appended-at}
 

@@ -5,12 +5,12 @@ use mathlib.Core.Bool.{Bool, true, false, cond, true≢false, _&&_, _||_}
 use Prim.Native.Nat.{ℕ, _<_, _≤_}
 use borrow.Author.Tests.{lt-leb, leb-true, eqb-true}
 use lib.Dec.{leb, eqb}
-use Rattle.wire.specs.Writing.{maxFieldRecords, maxFieldCells, maxFieldPackets}
-use Rattle.wire.proofs.ResultLaws.{and-true}
-use Rattle.stream.specs.declared.state.State.{State}
-use Rattle.stream.specs.declared.state.Phase.{Phase}
-use Rattle.stream.specs.declared.state.Phase.the-variants as phase
-use Rattle.stream.specs.Step.{lost, gatheredIn, gathered, gatheredCells, gatheredPackets, Carried, fits, follow, isFilling, isLost, packetsOk, sound}
+use Rattle.wire_spec.specs.Writing.{maxFieldRecords, maxFieldCells, maxFieldPackets}
+use Rattle.wire_spec.proofs.ResultLaws.{and-true}
+use Rattle.depacketizer_spec.specs.declared.state.State.{State}
+use Rattle.depacketizer_spec.specs.declared.state.Phase.{Phase}
+use Rattle.depacketizer_spec.specs.declared.state.Phase.the-variants as phase
+use Rattle.depacketizer_spec.specs.Step.{lost, gatheredIn, gathered, gatheredCells, gatheredPackets, Carried, fits, follow, isFilling, isLost, packetsOk, sound}
 
 over : (a b c : Bool) → b ≡ false → a && (b && c) ≡ false
 over true b c e = rw e

@@ -2,14 +2,14 @@
 use mathlib.Core.Bool.{cond}
 use mathlib.Core.List.{[], _∷_}
 use Prim.Native.Nat.{ℕ}
-use Rattle.wire.specs.declared.refusal.Refusal.{Refusal}
-use Rattle.wire.specs.Result.{Result, refused, accepted, noRefusal, Checks}
-use Rattle.rtp.specs.declared.packet.Summary.{Summary}
-use Rattle.stream.specs.declared.state.State.{State}
-use Rattle.stream.specs.declared.state.Answer.the-variants as answer
-use Rattle.stream.specs.Step.{numberAfter, later, remembering, phaseOf, timestampOf, fOf, gatheredRecords, gatheredCells, gatheredPackets, Carried, Gather, Step, afterWith}
-use Rattle.freshness.specs.declared.place.Freshness.{Freshness}
-use Rattle.freshness.specs.declared.place.Freshness.the-variants as freshness
+use Rattle.wire_spec.specs.declared.refusal.Refusal.{Refusal}
+use Rattle.wire_spec.specs.Result.{Result, refused, accepted, noRefusal, Checks}
+use Rattle.rtp_strict_reader.specs.declared.packet.Summary.{Summary}
+use Rattle.depacketizer_spec.specs.declared.state.State.{State}
+use Rattle.depacketizer_spec.specs.declared.state.Answer.the-variants as answer
+use Rattle.depacketizer_spec.specs.Step.{numberAfter, later, remembering, phaseOf, timestampOf, fOf, gatheredRecords, gatheredCells, gatheredPackets, Carried, Gather, Step, afterWith}
+use Rattle.depacketizer_sequence.specs.declared.place.Freshness.{Freshness}
+use Rattle.depacketizer_sequence.specs.declared.place.Freshness.the-variants as freshness
 use Rattle.depacketizer.specs.declared.admit.Stage.{Stage}
 use Rattle.depacketizer.specs.declared.admit.Stage.the-variants as stage
 use Rattle.depacketizer.specs.declared.decide.Decision.{Decision}

@@ -1,18 +1,18 @@
 // What lets an arrival pass (01: "An arrival passes 35, then 1 to 13, then 30, 31, 32").
 ghost use mathlib.Core.Path.{_≡_};
 ghost use mathlib.Core.List.{[], _∷_};
-ghost use Rattle.rtp.specs.Answers.{checkedOf};
+ghost use Rattle.rtp_strict_reader.specs.Answers.{checkedOf};
 ghost use Rattle.depacketizer.specs.Answers.{stageOf, stageRefusal};
-ghost use Rattle.stream.specs.Step as step;
+ghost use Rattle.depacketizer_spec.specs.Step as step;
 use crate::decide::fits;
-use rtp::check::check;
-use rtp::check::summary_at;
-use rtp::packet::Checked;
-use rtp::packet::Head;
-use stream::state::Phase;
-use stream::state::State;
-use wire::layout::Layout;
-use wire::refusal::Refusal;
+use depacketizer_spec::state::Phase;
+use depacketizer_spec::state::State;
+use rtp_strict_reader::check::check;
+use rtp_strict_reader::check::summary_at;
+use rtp_strict_reader::packet::Checked;
+use rtp_strict_reader::packet::Head;
+use wire_spec::layout::Layout;
+use wire_spec::refusal::Refusal;
 
 // 35: more than a field or the store can have, something gathered where not filling, no packet where filling, or more than lost before a first arrival.
 fn is_sound(state: State, room: usize) -> bool

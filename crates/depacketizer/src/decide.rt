@@ -2,18 +2,18 @@
 ghost use mathlib.Core.Path.{_≡_};
 ghost use mathlib.Core.Bool.{cond};
 ghost use Prim.Native.Nat.{_≤_};
-ghost use Rattle.wire.specs.Writing.{maxFieldCells, maxFieldPackets, maxFieldRecords};
-ghost use Rattle.stream.specs.Step as step;
+ghost use Rattle.wire_spec.specs.Writing.{maxFieldCells, maxFieldPackets, maxFieldRecords};
+ghost use Rattle.depacketizer_spec.specs.Step as step;
 ghost use Rattle.depacketizer.specs.Answers.{carriedBy, decisionOf};
-use rtp::packet::Summary;
-use stream::state::Answer;
-use stream::state::Field;
-use stream::state::Phase;
-use stream::state::State;
-use wire::limit::MAX_FIELD_CELLS;
-use wire::limit::MAX_FIELD_PACKETS;
-use wire::limit::MAX_FIELD_RECORDS;
-use wire::number::Timestamp;
+use depacketizer_spec::state::Answer;
+use depacketizer_spec::state::Field;
+use depacketizer_spec::state::Phase;
+use depacketizer_spec::state::State;
+use rtp_strict_reader::packet::Summary;
+use wire_spec::limit::MAX_FIELD_CELLS;
+use wire_spec::limit::MAX_FIELD_PACKETS;
+use wire_spec::limit::MAX_FIELD_RECORDS;
+use wire_spec::number::Timestamp;
 
 // The answer, what is gathered then, and whether the packet's cells are appended.
 pub struct Decision {

@@ -1,23 +1,23 @@
 // The depacketizer: how it is opened, and what an arrival does (01's keeper).
 ghost use mathlib.Core.Path.{_≡_};
-ghost use Rattle.stream.specs.Step as step;
+ghost use Rattle.depacketizer_spec.specs.Step as step;
 ghost use Rattle.depacketizer.specs.Answers.{afterOf, arrivalOf, openedOf, refusedOf};
 use crate::admit::admit;
 use crate::count::increased;
 use crate::decide::Decision;
 use crate::decide::decide;
-use freshness::place::Freshness;
-use freshness::place::opened;
-use freshness::place::place;
-use rtp::check::read_records;
-use rtp::check::summary_at;
-use rtp::packet::Checked;
-use stream::state::Answer;
-use stream::state::State;
-use wire::layout::Layout;
-use wire::limit::MAX_TYPE;
-use wire::number::PacketNumber;
-use wire::refusal::Refusal;
+use depacketizer_sequence::place::Freshness;
+use depacketizer_sequence::place::opened;
+use depacketizer_sequence::place::place;
+use depacketizer_spec::state::Answer;
+use depacketizer_spec::state::State;
+use rtp_strict_reader::check::read_records;
+use rtp_strict_reader::check::summary_at;
+use rtp_strict_reader::packet::Checked;
+use wire_spec::layout::Layout;
+use wire_spec::limit::MAX_TYPE;
+use wire_spec::number::PacketNumber;
+use wire_spec::refusal::Refusal;
 
 // A depacketizer, which a caller keeps between arrivals as its state.
 pub struct Depacketizer {

@@ -7,15 +7,15 @@ use Prim.Native.Nat.{ℕ, _+_, _<_}
 use native.Mathlib.Omega.{arith}
 use lib.Dec.{leb}
 use borrow.Author.Tests.{le-leb, lt-leb, leb-false}
-use Rattle.wire.specs.Result.{refused, accepted}
-use Rattle.stream.specs.declared.state.State.{State}
-use Rattle.stream.specs.declared.state.Phase.{Phase}
-use Rattle.stream.specs.declared.state.Phase.the-variants as phase
-use Rattle.stream.specs.Step.{gatheredIn, openState}
-use Rattle.stream.specs.Stream.{Stream, Call, Calls, none, _before_, Run, storeFor, run, callStep, done}
-use Rattle.stream.specs.Table.{no}
-use Rattle.stream.proofs.Demand3.{demand3}
-use Rattle.stream.proofs.TableLaws.{told}
+use Rattle.wire_spec.specs.Result.{refused, accepted}
+use Rattle.depacketizer_spec.specs.declared.state.State.{State}
+use Rattle.depacketizer_spec.specs.declared.state.Phase.{Phase}
+use Rattle.depacketizer_spec.specs.declared.state.Phase.the-variants as phase
+use Rattle.depacketizer_spec.specs.Step.{gatheredIn, openState}
+use Rattle.depacketizer_spec.specs.Stream.{Stream, Call, Calls, none, _before_, Run, storeFor, run, callStep, done}
+use Rattle.depacketizer_spec.specs.Table.{no}
+use Rattle.depacketizer_spec.proofs.Demand3.{demand3}
+use Rattle.depacketizer_spec.proofs.TableLaws.{told}
 use Rattle.depacketizer.specs.declared.state.Opened.the-variants as opened
 use Rattle.depacketizer.specs.Answers.{openedOf}
 use Rattle.depacketizer_laws.specs.Entry.{lent, Kept, called, calls, OpensExactly, ArrivesAsTold, EntryDemand3}

@@ -4,12 +4,12 @@ use mathlib.Core.List.{List, [], _++_}
 use mathlib.Core.Logic.{_↔_}
 use Prim.Native.Nat.{ℕ, _+_, _-_, _^_, _≤_, _<_, min}
 use lib.ListN.{length}
-use Rattle.wire.specs.Layout.{Layout}
-use Rattle.stream.specs.declared.state.Phase.{Phase}
-use Rattle.stream.specs.declared.state.Phase.the-variants as phase
-use Rattle.stream.specs.Step.{openOf, step}
-use Rattle.stream.specs.Table.{no, Told}
-use Rattle.stream.specs.Stream.{Stream, WellFormedStream, Call, Calls, none, _before_, Proper, Near, Handed, handedBy, octetsOf, layoutOf, arrived, fresh, expected, span}
+use Rattle.wire_spec.specs.Layout.{Layout}
+use Rattle.depacketizer_spec.specs.declared.state.Phase.{Phase}
+use Rattle.depacketizer_spec.specs.declared.state.Phase.the-variants as phase
+use Rattle.depacketizer_spec.specs.Step.{openOf, step}
+use Rattle.depacketizer_spec.specs.Table.{no, Told}
+use Rattle.depacketizer_spec.specs.Stream.{Stream, WellFormedStream, Call, Calls, none, _before_, Proper, Near, Handed, handedBy, octetsOf, layoutOf, arrived, fresh, expected, span}
 use Rattle.depacketizer.specs.declared.state.Depacketizer.{Depacketizer}
 use Rattle.depacketizer.specs.declared.state.Arrival.{Arrival}
 use Rattle.depacketizer.specs.declared.state.Opened.{Opened}

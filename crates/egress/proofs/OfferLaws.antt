@@ -7,17 +7,17 @@ use native.Mathlib.Omega.{arith}
 use lib.Dec.{eqb, leb, ltb}
 use lib.ListN.{length, getD, take, drop}
 use borrow.Author.Tests.{eqb-true, leb-true, le-leb, lt-leb, le-ltb, lt-ltb, not-true, not-false}
-use Rattle.wire.specs.Bits.{overwrite, splice}
-use Rattle.wire.specs.Result.{Result, refused, accepted, refuse}
-use Rattle.wire.proofs.ListLaws.{part-written}
-use Rattle.outlet.specs.declared.state.State.{State}
-use Rattle.outlet.specs.declared.state.Offered.{Offered}
-use Rattle.outlet.specs.declared.state.OfferAnswer.the-variants as offerAnswer
-use Rattle.outlet.specs.Places.{usedBelow, sound}
-use Rattle.outlet.specs.Step.{admits, seek, freeSlot, keptState, offerOf, offeredOf, memoryAfter}
-use Rattle.outlet.proofs.Upto.{and-left, and-right}
-use Rattle.outlet.proofs.PlaceLaws.{numbers, head-fits}
-use Rattle.outlet.proofs.FreeLaws.{seek-same, free-one}
+use Rattle.wire_spec.specs.Bits.{overwrite, splice}
+use Rattle.wire_spec.specs.Result.{Result, refused, accepted, refuse}
+use Rattle.wire_spec.proofs.ListLaws.{part-written}
+use Rattle.egress_spec.specs.declared.state.State.{State}
+use Rattle.egress_spec.specs.declared.state.Offered.{Offered}
+use Rattle.egress_spec.specs.declared.state.OfferAnswer.the-variants as offerAnswer
+use Rattle.egress_spec.specs.Places.{usedBelow, sound}
+use Rattle.egress_spec.specs.Step.{admits, seek, freeSlot, keptState, offerOf, offeredOf, memoryAfter}
+use Rattle.egress_spec.proofs.Upto.{and-left, and-right}
+use Rattle.egress_spec.proofs.PlaceLaws.{numbers, head-fits}
+use Rattle.egress_spec.proofs.FreeLaws.{seek-same, free-one}
 use Rattle.egress_state.specs.declared.survey.Seen.{Seen}
 use Rattle.egress_state.specs.Survey.{SeenOf}
 

@@ -7,14 +7,14 @@ use native.Mathlib.Omega.{arith}
 use lib.Dec.{leb, ltb}
 use lib.ListN.{length, getD, take, drop}
 use borrow.Author.Tests.{le-leb, lt-leb, ltb-true}
-use Rattle.wire.specs.Bits.{overwrite}
-use Rattle.wire.specs.Result.{refuse, accepted}
-use Rattle.outlet.specs.declared.state.State.{State}
-use Rattle.outlet.specs.declared.state.Taken.{Taken}
-use Rattle.outlet.specs.declared.state.TakeAnswer.the-variants as takeAnswer
-use Rattle.outlet.specs.Queues.{behind}
-use Rattle.outlet.specs.Step.{admits, turnOf, turnFor, headPlace, headLength, leftState, takeOf, takenOf, outAfter}
-use Rattle.outlet.proofs.PlaceLaws.{numbers, head-fits, next-fits, head-ready}
+use Rattle.wire_spec.specs.Bits.{overwrite}
+use Rattle.wire_spec.specs.Result.{refuse, accepted}
+use Rattle.egress_spec.specs.declared.state.State.{State}
+use Rattle.egress_spec.specs.declared.state.Taken.{Taken}
+use Rattle.egress_spec.specs.declared.state.TakeAnswer.the-variants as takeAnswer
+use Rattle.egress_spec.specs.Queues.{behind}
+use Rattle.egress_spec.specs.Step.{admits, turnOf, turnFor, headPlace, headLength, leftState, takeOf, takenOf, outAfter}
+use Rattle.egress_spec.proofs.PlaceLaws.{numbers, head-fits, next-fits, head-ready}
 use Rattle.egress_state.specs.declared.place.Stored.{Stored}
 use Rattle.egress_state.specs.Survey.{Heads, headOf}
 use Rattle.egress.proofs.OfferLaws.{admits-sound}

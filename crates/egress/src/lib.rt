@@ -3,9 +3,18 @@
 // `open`, `offer` and `take` are the entry points. State and memory are the caller's, who hands both on unaltered from call to call.
 ghost use mathlib.Core.Path.{_≡_};
 ghost use lib.ListN.{length};
-ghost use Rattle.wire.specs.Result.{refuse};
-ghost use Rattle.outlet.specs.Places.{openState};
-ghost use Rattle.outlet.specs.Step.{offerOf, offeredOf, memoryAfter, takeOf, takenOf, outAfter};
+ghost use Rattle.wire_spec.specs.Result.{refuse};
+ghost use Rattle.egress_spec.specs.Places.{openState};
+ghost use Rattle.egress_spec.specs.Step.{offerOf, offeredOf, memoryAfter, takeOf, takenOf, outAfter};
+use egress_spec::state::CHANNELS;
+use egress_spec::state::HELD;
+use egress_spec::state::OfferAnswer;
+use egress_spec::state::Offered;
+use egress_spec::state::SLOT;
+use egress_spec::state::SLOTS;
+use egress_spec::state::State;
+use egress_spec::state::TakeAnswer;
+use egress_spec::state::Taken;
 use egress_state::place::head;
 use egress_state::place::kept;
 use egress_state::place::left;
@@ -13,18 +22,9 @@ use egress_state::place::offer_fits;
 use egress_state::place::turn;
 use egress_state::survey::free_slot;
 use egress_state::survey::survey;
-use outlet::state::CHANNELS;
-use outlet::state::HELD;
-use outlet::state::OfferAnswer;
-use outlet::state::Offered;
-use outlet::state::SLOT;
-use outlet::state::SLOTS;
-use outlet::state::State;
-use outlet::state::TakeAnswer;
-use outlet::state::Taken;
-use wire::count::OctetCount;
-use wire::refusal::Refusal;
-use words::octet::copy;
+use wire_spec::count::OctetCount;
+use wire_spec::refusal::Refusal;
+use wire_words::octet::copy;
 
 // An outlet that holds nothing. What the memory holds does not matter.
 pub fn open() -> State

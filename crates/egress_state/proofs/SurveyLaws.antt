@@ -9,14 +9,14 @@ use lib.Dec.{eqb, leb, ltb}
 use lib.ListN.{length, getD, set, replicate}
 use lib.Seq.{getD-set-same, getD-set-other}
 use borrow.Author.Tests.{eqb-true, eqb-false, eq-eqb, ne-eqb, ltb-true}
-use Rattle.outlet.specs.declared.state.State.{State}
+use Rattle.egress_spec.specs.declared.state.State.{State}
 use Rattle.egress_state.specs.declared.survey.Seen.{Seen}
 use Rattle.egress_state.specs.Survey.{SeenOf}
-use Rattle.outlet.specs.Step.{admits}
-use Rattle.outlet.specs.Places.{held, slotAt, lengthFits, usedBelow, placeOk, allUpto, channelFits, channelOk, numbersOk, sound}
+use Rattle.egress_spec.specs.Step.{admits}
+use Rattle.egress_spec.specs.Places.{held, slotAt, lengthFits, usedBelow, placeOk, allUpto, channelFits, channelOk, numbersOk, sound}
 use mir.Val.{Fits}
 use mir.Syntax.{w64}
-use Rattle.outlet.proofs.Upto.{and-left, and-right, upto-at, upto-fails, upto-more}
+use Rattle.egress_spec.proofs.Upto.{and-left, and-right, upto-at, upto-fails, upto-more}
 
 -- the slots that are used at the places below `k`
 abbrev pub Marks : State → ℕ → List Bool → Type 0

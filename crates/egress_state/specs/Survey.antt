@@ -3,10 +3,10 @@ use mathlib.Core.Path.{_≡_}
 use mathlib.Core.Bool.{true, false}
 use Prim.Native.Nat.{ℕ, _*_, _≤_, _<_}
 use lib.ListN.{getD}
-use Rattle.outlet.specs.declared.state.State.{State}
-use Rattle.outlet.specs.Queues.{slotCount, slotSize, channels, maxHeld}
-use Rattle.outlet.specs.Places.{slotAt, usedBelow}
-use Rattle.outlet.specs.Step.{admits, headPlace, headLength}
+use Rattle.egress_spec.specs.declared.state.State.{State}
+use Rattle.egress_spec.specs.Queues.{slotCount, slotSize, channels, maxHeld}
+use Rattle.egress_spec.specs.Places.{slotAt, usedBelow}
+use Rattle.egress_spec.specs.Step.{admits, headPlace, headLength}
 use Rattle.egress_state.specs.declared.survey.Seen.{Seen}
 use Rattle.egress_state.specs.declared.place.Stored.{Stored}
 

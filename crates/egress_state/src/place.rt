@@ -5,13 +5,13 @@ ghost use mathlib.Core.Bool.{_&&_};
 ghost use Prim.Native.Nat.{_<_};
 ghost use lib.Dec.{leb};
 ghost use lib.ListN.{getD};
-ghost use Rattle.outlet.specs.Queues as queues;
-ghost use Rattle.outlet.specs.Step.{keptState, turnOf, leftState};
+ghost use Rattle.egress_spec.specs.Queues as queues;
+ghost use Rattle.egress_spec.specs.Step.{keptState, turnOf, leftState};
 ghost use Rattle.egress_state.specs.Survey.{headOf, Heads};
-use outlet::state::CHANNELS;
-use outlet::state::HELD;
-use outlet::state::SLOT;
-use outlet::state::State;
+use egress_spec::state::CHANNELS;
+use egress_spec::state::HELD;
+use egress_spec::state::SLOT;
+use egress_spec::state::State;
 
 // Whether a packet of so many octets can be offered.
 pub fn offer_fits(octets: usize) -> bool

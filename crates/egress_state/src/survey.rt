@@ -4,15 +4,15 @@ ghost use mathlib.Core.Bool.{false};
 ghost use Prim.Native.Nat.{_<_};
 ghost use lib.Dec.{ltb};
 ghost use lib.ListN.{getD};
-ghost use Rattle.outlet.specs.Places.{allUpto, channelFits, heldAt, lengthFits, numbersOk, slotOk};
-ghost use Rattle.outlet.specs.Step.{seek};
+ghost use Rattle.egress_spec.specs.Places.{allUpto, channelFits, heldAt, lengthFits, numbersOk, slotOk};
+ghost use Rattle.egress_spec.specs.Step.{seek};
 ghost use Rattle.egress_state.specs.Survey.{SeenOf};
-use outlet::state::CHANNELS;
-use outlet::state::HELD;
-use outlet::state::MEMORY;
-use outlet::state::SLOT;
-use outlet::state::SLOTS;
-use outlet::state::State;
+use egress_spec::state::CHANNELS;
+use egress_spec::state::HELD;
+use egress_spec::state::MEMORY;
+use egress_spec::state::SLOT;
+use egress_spec::state::SLOTS;
+use egress_spec::state::State;
 
 // Where it is sound, `used` has the slots that are held.
 pub struct Seen {

@@ -8,23 +8,23 @@ use native.Mathlib.Omega.{arith}
 use lib.Dec.{leb}
 use lib.ListN.{length, take, drop, length-append}
 use lib.Seq.{take-at, drop-at}
-use Rattle.wire.specs.declared.refusal.Refusal.{Refusal}
-use Rattle.wire.specs.declared.count.OctetCount.{OctetCount}
-use Rattle.wire.specs.declared.written.Written.the-variants as written
-use Rattle.wire.specs.Bits.{Below, overwrite}
-use Rattle.wire.specs.Result.{Result, refused, accepted, refuse}
-use Rattle.wire.specs.Written.{octetsAfter, writtenOf}
-use Rattle.wire.specs.Cells.{listOf}
-use Rattle.wire.proofs.BitLaws.{below-append}
-use Rattle.wire.proofs.ResultLaws.{accepted-inj, judge-accepts}
-use Rattle.wire.proofs.CellLaws.{lists-length}
-use Rattle.anf.specs.declared.format.Version.the-variants as version
-use Rattle.anf.specs.File.{FieldContent, fileHead, fileHeadSize, writtenVersion, readField, readInto, writeHead, writeField}
-use Rattle.anf.specs.Refuses.{headOf, only, Refuses, WriteRefuses}
-use Rattle.anf.proofs.FileLaws.{IsFile, length-head, below-field, written-read, head-passes, at-end, appended-read}
-use Rattle.anf.proofs.Refusals.{head-octets, read-refuses, write-refuses, begin-refuses, readBefore, old-reader}
-use Rattle.fieldfile.specs.declared.field.FieldRead.the-variants as read
-use Rattle.fieldfile.specs.Answers.{readOf, cellsAfter, readReturns, readLeaves}
+use Rattle.wire_spec.specs.declared.refusal.Refusal.{Refusal}
+use Rattle.wire_spec.specs.declared.count.OctetCount.{OctetCount}
+use Rattle.wire_spec.specs.declared.written.Written.the-variants as written
+use Rattle.wire_spec.specs.Bits.{Below, overwrite}
+use Rattle.wire_spec.specs.Result.{Result, refused, accepted, refuse}
+use Rattle.wire_spec.specs.Written.{octetsAfter, writtenOf}
+use Rattle.wire_spec.specs.Cells.{listOf}
+use Rattle.wire_spec.proofs.BitLaws.{below-append}
+use Rattle.wire_spec.proofs.ResultLaws.{accepted-inj, judge-accepts}
+use Rattle.wire_spec.proofs.CellLaws.{lists-length}
+use Rattle.fieldfile_spec.specs.declared.format.Version.the-variants as version
+use Rattle.fieldfile_spec.specs.File.{FieldContent, fileHead, fileHeadSize, writtenVersion, readField, readInto, writeHead, writeField}
+use Rattle.fieldfile_spec.specs.Refuses.{headOf, only, Refuses, WriteRefuses}
+use Rattle.fieldfile_spec.proofs.FileLaws.{IsFile, length-head, below-field, written-read, head-passes, at-end, appended-read}
+use Rattle.fieldfile_spec.proofs.Refusals.{head-octets, read-refuses, write-refuses, begin-refuses, readBefore, old-reader}
+use Rattle.fieldfile_reader.specs.declared.field.FieldRead.the-variants as read
+use Rattle.fieldfile_reader.specs.Answers.{readOf, cellsAfter, readReturns, readLeaves}
 use Rattle.fieldfile_writer.specs.Entry.{beginReturns, beginLeaves, fieldReturns, fieldLeaves}
 use Rattle.fieldfile_laws.specs.Again.{Wrote, octetsOf, allOctets, ReadBack, ReadOn}
 

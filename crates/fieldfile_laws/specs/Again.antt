@@ -3,12 +3,12 @@ use mathlib.Core.Path.{_≡_}
 use mathlib.Core.List.{List, [], _∷_, _++_}
 use Prim.Native.Nat.{ℕ, _+_, _^_, _<_, _≤_}
 use lib.ListN.{length, take, drop}
-use Rattle.wire.specs.declared.count.OctetCount.{OctetCount}
-use Rattle.wire.specs.declared.written.Written.the-variants as written
-use Rattle.wire.specs.Anc.{Record}
-use Rattle.wire.specs.Cells.{listIn, Lists}
-use Rattle.fieldfile.specs.declared.field.FieldRead.the-variants as read
-use Rattle.fieldfile.specs.Answers.{readReturns, readLeaves}
+use Rattle.wire_spec.specs.declared.count.OctetCount.{OctetCount}
+use Rattle.wire_spec.specs.declared.written.Written.the-variants as written
+use Rattle.wire_spec.specs.Anc.{Record}
+use Rattle.wire_spec.specs.Cells.{listIn, Lists}
+use Rattle.fieldfile_reader.specs.declared.field.FieldRead.the-variants as read
+use Rattle.fieldfile_reader.specs.Answers.{readReturns, readLeaves}
 use Rattle.fieldfile_writer.specs.Entry.{fieldReturns, fieldLeaves}
 
 -- a call of `write_field` that wrote: what it was given, and the octets that it returned

@@ -5,12 +5,12 @@ use mathlib.Core.List.{List, [], _∷_}
 use Prim.Native.Nat.{ℕ, _/_, _%_, _^_, _<_}
 use native.Mathlib.Omega.{arith}
 use lib.ListN.{getD}
-use Rattle.wire.specs.Bits.{toBits, num, octets, fieldBits, Below, pack}
-use Rattle.wire.proofs.BitLaws.{Reads, packed}
-use Rattle.wire.proofs.Window.{below-each}
-use Rattle.wire.proofs.FieldLaws.{four-octets-at}
-use Rattle.anf.specs.File.{writtenVersion, timestampBits, fileFBits, countBits, fieldHeaderSize, fileHead, fieldHeaderFields}
-use Rattle.fieldfile.proofs.HeadFields.{f-at, count-2-at}
+use Rattle.wire_spec.specs.Bits.{toBits, num, octets, fieldBits, Below, pack}
+use Rattle.wire_spec.proofs.BitLaws.{Reads, packed}
+use Rattle.wire_spec.proofs.Window.{below-each}
+use Rattle.wire_spec.proofs.FieldLaws.{four-octets-at}
+use Rattle.fieldfile_spec.specs.File.{writtenVersion, timestampBits, fileFBits, countBits, fieldHeaderSize, fileHead, fieldHeaderFields}
+use Rattle.fieldfile_reader.proofs.HeadFields.{f-at, count-2-at}
 
 -- the first five octets
 pub head-packed : 0x41 ∷ 0x4E ∷ 0x46 ∷ 0 ∷ 2 ∷ [] ≡ fileHead writtenVersion

@@ -7,25 +7,25 @@ use Prim.Native.Nat.{ℕ, _+_, _-_, zero-le}
 use native.Mathlib.Omega.{arith}
 use lib.Dec.{leb}
 use lib.ListN.{length, take, drop}
-use Rattle.wire.specs.declared.refusal.Refusal.{Refusal}
-use Rattle.wire.specs.declared.count.OctetCount.{OctetCount}
-use Rattle.wire.specs.Bits.{pack, overwrite, splice}
-use Rattle.wire.specs.Layout.{rfc8331}
-use Rattle.wire.specs.Result.{Result, refused, accepted, refuse, Checks}
-use Rattle.wire.specs.Anc.{Record, runOctets, runSize}
-use Rattle.wire.specs.Cells.{readList}
-use Rattle.wire.specs.Writing.{maxFieldRecords, maxFieldCells}
-use Rattle.wire.proofs.BitLaws.{length-pack}
-use Rattle.wire.proofs.ListLaws.{splice-append, part-written}
-use Rattle.wire.proofs.WritingLaws.{head-fails, list-fails, limit-fails, all-pass}
-use Rattle.wire.specs.Written.{octetsAfter, writtenOf}
-use Rattle.wire.specs.declared.written.Written.the-variants as written
-use Rattle.anf.specs.File.{writtenVersion, fieldHeaderSize, fieldHeaderFields, fieldOctets, fieldSize, fileFOk, withinLimits, roomChecks, fieldRecords, writeField}
-use Rattle.anf.proofs.FrontLaws.{length-field}
-use Rattle.anf.proofs.WritesLaws.{writes}
-use Rattle.cells.specs.Answers.{listedOf, listOctets}
-use Rattle.cells.specs.declared.check.Listed.the-variants as listed
-use Rattle.cells.proofs.ListedLaws.{Taken, taken, listed-refused}
+use Rattle.wire_spec.specs.declared.refusal.Refusal.{Refusal}
+use Rattle.wire_spec.specs.declared.count.OctetCount.{OctetCount}
+use Rattle.wire_spec.specs.Bits.{pack, overwrite, splice}
+use Rattle.wire_spec.specs.Layout.{rfc8331}
+use Rattle.wire_spec.specs.Result.{Result, refused, accepted, refuse, Checks}
+use Rattle.wire_spec.specs.Anc.{Record, runOctets, runSize}
+use Rattle.wire_spec.specs.Cells.{readList}
+use Rattle.wire_spec.specs.Writing.{maxFieldRecords, maxFieldCells}
+use Rattle.wire_spec.proofs.BitLaws.{length-pack}
+use Rattle.wire_spec.proofs.ListLaws.{splice-append, part-written}
+use Rattle.wire_spec.proofs.WritingLaws.{head-fails, list-fails, limit-fails, all-pass}
+use Rattle.wire_spec.specs.Written.{octetsAfter, writtenOf}
+use Rattle.wire_spec.specs.declared.written.Written.the-variants as written
+use Rattle.fieldfile_spec.specs.File.{writtenVersion, fieldHeaderSize, fieldHeaderFields, fieldOctets, fieldSize, fileFOk, withinLimits, roomChecks, fieldRecords, writeField}
+use Rattle.fieldfile_spec.proofs.FrontLaws.{length-field}
+use Rattle.fieldfile_spec.proofs.WritesLaws.{writes}
+use Rattle.anc_writer.specs.Answers.{listedOf, listOctets}
+use Rattle.anc_writer.specs.declared.check.Listed.the-variants as listed
+use Rattle.anc_writer.proofs.ListedLaws.{Taken, taken, listed-refused}
 
 module _ (f : ℕ) (cells : List ℕ) (room : ℕ) where
   abbrev head : Checks

@@ -2,9 +2,9 @@
 use mathlib.Core.List.{List}
 use Prim.Native.Nat.{ℕ}
 use lib.ListN.{length}
-use Rattle.wire.specs.declared.written.Written.{Written}
-use Rattle.wire.specs.Written.{octetsAfter, writtenOf}
-use Rattle.anf.specs.File.{writeField, writeHead}
+use Rattle.wire_spec.specs.declared.written.Written.{Written}
+use Rattle.wire_spec.specs.Written.{octetsAfter, writtenOf}
+use Rattle.fieldfile_spec.specs.File.{writeField, writeHead}
 
 -- what `begin` returns for these lent octets, and what they then hold
 abbrev pub beginReturns : (out : List ℕ) → Written

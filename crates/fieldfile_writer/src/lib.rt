@@ -6,16 +6,16 @@ ghost use Rattle.fieldfile_writer.specs.Entry.{beginLeaves, beginReturns
 
 pub mod writing;
 
-use anf::format::HEAD_SIZE;
-use anf::format::HEADER_SIZE_2;
-use cells::check::Listed;
-use cells::write::write_run;
-use wire::count::OctetCount;
-use wire::layout::Layout;
-use wire::number::Timestamp;
-use wire::refusal::Refusal;
-use wire::written::Written;
-use words::octet::copy;
+use anc_writer::check::Listed;
+use anc_writer::write::write_run;
+use fieldfile_spec::format::HEAD_SIZE;
+use fieldfile_spec::format::HEADER_SIZE_2;
+use wire_spec::count::OctetCount;
+use wire_spec::layout::Layout;
+use wire_spec::number::Timestamp;
+use wire_spec::refusal::Refusal;
+use wire_spec::written::Written;
+use wire_words::octet::copy;
 use writing::measure;
 use writing::write_header;
 

@@ -2,22 +2,22 @@
 ghost use mathlib.Core.Path.{_≡_};
 ghost use Prim.Native.Nat.{_≤_};
 ghost use lib.ListN.{length};
-ghost use Rattle.cells.specs.Answers.{listedOf};
-ghost use Rattle.wire.specs.Layout.{rfc8331};
-ghost use Rattle.wire.specs.Bits.{overwrite, pack};
-ghost use Rattle.anf.specs.File.{fieldHeaderFields, fieldHeaderSize, fieldRecords, writtenVersion};
-use anf::format::HEADER_SIZE_2;
-use cells::check::Listed;
-use cells::check::Measured;
-use cells::check::check_list;
-use cells::check::fits_behind;
-use cells::check::measure_list;
-use fieldfile::rules::f_ok;
-use fieldfile::rules::within_limits;
-use wire::layout::Layout;
-use wire::number::Timestamp;
-use wire::refusal::Refusal;
-use words::octet::copy;
+ghost use Rattle.anc_writer.specs.Answers.{listedOf};
+ghost use Rattle.wire_spec.specs.Layout.{rfc8331};
+ghost use Rattle.wire_spec.specs.Bits.{overwrite, pack};
+ghost use Rattle.fieldfile_spec.specs.File.{fieldHeaderFields, fieldHeaderSize, fieldRecords, writtenVersion};
+use anc_writer::check::Listed;
+use anc_writer::check::Measured;
+use anc_writer::check::check_list;
+use anc_writer::check::fits_behind;
+use anc_writer::check::measure_list;
+use fieldfile_reader::rules::f_ok;
+use fieldfile_reader::rules::within_limits;
+use fieldfile_spec::format::HEADER_SIZE_2;
+use wire_spec::layout::Layout;
+use wire_spec::number::Timestamp;
+use wire_spec::refusal::Refusal;
+use wire_words::octet::copy;
 
 // 53, 20, 16, 21, 23: the records, and the octets of their ANC data packets.
 pub(crate) fn measure(f: u8, cells: &[u16], room: usize) -> Listed

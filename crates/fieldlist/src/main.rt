@@ -1,20 +1,20 @@
 // Lists the packets and the fields of RTP packets in frames of RFC 4571 (01, "`fieldlist`"), from standard input or from the
 // file that its argument names. The frames and the text are the library's; this program moves octets.
 ghost use lib.ListN.{length};
-ghost use Rattle.turns.specs.Turns.{Ended, Enough};
-use arguments::files::file_at;
-use arguments::files::layout_told;
-use arguments::files::open_input;
-use arguments::options::may_start;
-use frames::MAX_FRAME;
-use listing::session::FIELD_ROOM;
+ghost use Rattle.fieldlist_turns.specs.Turns.{Ended, Enough};
+use fieldlist_session::session::FIELD_ROOM;
+use fieldlist_turns::close;
+use fieldlist_turns::start;
+use fieldlist_turns::turn;
 use program::buffers::is_done;
 use program::buffers::turns_left;
-use turns::close;
-use turns::start;
-use turns::turn;
-use wire::layout::Layout;
-use wire::limit::MAX_FIELD_CELLS;
+use program_arguments::files::file_at;
+use program_arguments::files::layout_told;
+use program_arguments::files::open_input;
+use program_arguments::options::may_start;
+use rtp_frames::MAX_FRAME;
+use wire_spec::layout::Layout;
+use wire_spec::limit::MAX_FIELD_CELLS;
 
 // Octets of the buffers: some frames are read at once, and a field's text may wait while room is left for another's.
 const INPUT_SIZE: usize = 4 * MAX_FRAME;

@@ -1,23 +1,23 @@
 // Files the whole fields of RTP packets in frames of RFC 4571 as a field file (01, "Field file"): `fieldsave [old] FRAMES OUT`. The frames and the fields
 // are the library's; this program moves octets.
 ghost use lib.ListN.{length};
-ghost use Rattle.filing_turns.specs.Turns.{Ended, Enough};
-use arguments::files::create_named;
-use arguments::files::file_at;
-use arguments::files::layout_told;
-use arguments::files::open_named;
-use arguments::options::has_words;
-use arguments::options::may_start;
-use filing::FIELD_ROOM;
-use filing_turns::start;
-use filing_turns::turn;
-use frames::MAX_FRAME;
+ghost use Rattle.fieldsave_turns.specs.Turns.{Ended, Enough};
+use fieldsave_session::FIELD_ROOM;
+use fieldsave_turns::start;
+use fieldsave_turns::turn;
 use libc::STDERR_FILENO;
 use program::buffers::is_done;
 use program::buffers::silent_turns_left;
-use run::buffers::Buffers;
-use wire::layout::Layout;
-use wire::limit::MAX_FIELD_CELLS;
+use program_arguments::files::create_named;
+use program_arguments::files::file_at;
+use program_arguments::files::layout_told;
+use program_arguments::files::open_named;
+use program_arguments::options::has_words;
+use program_arguments::options::may_start;
+use program_spec::buffers::Buffers;
+use rtp_frames::MAX_FRAME;
+use wire_spec::layout::Layout;
+use wire_spec::limit::MAX_FIELD_CELLS;
 
 // Octets of the buffers: some frames are read at once, and a field may wait while room is left for another.
 const INPUT_SIZE: usize = 4 * MAX_FRAME;

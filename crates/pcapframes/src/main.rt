@@ -1,23 +1,23 @@
 // Writes the UDP datagrams of a capture (pcap or pcapng) to one port as frames of RFC 4571: `pcapframes PORT [FILE]`, from standard input where no file is
 // named. What is written is the library's; this program moves octets, and tells on standard error what it left out.
 ghost use lib.ListN.{length};
-ghost use Rattle.capture_turns.specs.Turns.{Ended, Enough};
-use arguments::files::open_named;
-use arguments::options::may_start;
-use capture::format::MAX_ITEM;
-use capture_frames::finish;
-use capture_frames::told::TOLD_ROOM;
-use capture_frames::told::put_told;
-use capture_turns::start;
-use capture_turns::turn;
-use capture_walk::session::Session;
-use frames::MAX_FRAME;
+ghost use Rattle.pcapframes_turns.specs.Turns.{Ended, Enough};
+use capture_spec::format::MAX_ITEM;
 use libc::STDERR_FILENO;
 use libc::STDIN_FILENO;
-use port::Port;
-use port::port_of;
+use pcapframes_session::finish;
+use pcapframes_session::told::TOLD_ROOM;
+use pcapframes_session::told::put_told;
+use pcapframes_spec::session::Session;
+use pcapframes_turns::start;
+use pcapframes_turns::turn;
 use program::buffers::is_done;
 use program::buffers::turns_left;
+use program_arguments::files::open_named;
+use program_arguments::options::may_start;
+use program_port::Port;
+use program_port::port_of;
+use rtp_frames::MAX_FRAME;
 
 // Octets of the buffers: any item and more to read, and some frames that wait to be written together.
 const INPUT_SIZE: usize = 2 * MAX_ITEM;

@@ -11,8 +11,8 @@ use lib.Signed.{leZ}
 use lib.ListN.{length, take, drop}
 use Rattle.io.specs.Counts.{clamped}
 use Rattle.libc.specs.Io.{Moved}
-use Rattle.run.specs.Buffers.{Count, Interrupted}
-use Rattle.run.proofs.BufferLaws.{part-length}
+use Rattle.program_spec.specs.Buffers.{Count, Interrupted}
+use Rattle.program_spec.proofs.BufferLaws.{part-length}
 
 -- the octets that a read says it put, of those from `k` on: they fit
 pub counted : (z y : ℤ) (n k : ℕ) (before after : List ℕ) → y ≡ z → length after ≡ length before → Moved (length (take (length before - k) (drop k before))) z

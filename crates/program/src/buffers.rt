@@ -4,16 +4,16 @@ ghost use Prim.Native.Nat.{_+_, _-_, _^_, _<_, _≤_};
 ghost use mathlib.Core.Bool.{cond};
 ghost use mathlib.Core.Path.{_≡_};
 ghost use lib.ListN.{length};
-ghost use Rattle.run.specs.Buffers.{Flushed, InBounds, Interrupted, ReadMore, Refilled, WrittenOf, advanced, begun, ended, isDone};
-ghost use Rattle.run.specs.Run.{CanStep, Stepped};
+ghost use Rattle.program_spec.specs.Buffers.{Flushed, InBounds, Interrupted, ReadMore, Refilled, WrittenOf, advanced, begun, ended, isDone};
+ghost use Rattle.program_spec.specs.Run.{CanStep, Stepped};
 use crate::progress::end;
 use crate::progress::show;
-use frames::move_to_front;
 use libc::EINTR;
 use libc::STDOUT_FILENO;
-use run::buffers::Buffers;
-use run::buffers::Step;
-use run::buffers::Written;
+use program_spec::buffers::Buffers;
+use program_spec::buffers::Step;
+use program_spec::buffers::Written;
+use rtp_frames::move_to_front;
 
 // Nothing is read; so much text is to be written.
 pub fn begin(filled: usize) -> Buffers

@@ -9,27 +9,27 @@ use native.Mathlib.Omega.{arith}
 use lib.Dec.{leb}
 use lib.ListN.{length, drop, length-append}
 use borrow.Author.Tests.{le-leb, lt-leb}
-use Rattle.wire.specs.declared.refusal.Refusal.{Refusal}
-use Rattle.wire.specs.declared.count.OctetCount.{OctetCount}
-use Rattle.wire.specs.Layout.{rfc8331}
-use Rattle.wire.specs.Words.{wordBits}
-use Rattle.wire.specs.Result.{Result, refused, accepted, refuse, judge, _then_}
-use Rattle.wire.specs.Anc.{Record}
-use Rattle.wire.specs.Cells.{listOf, allBelow, readList}
-use Rattle.wire.proofs.CellLaws.{list-iff, lists-length}
-use Rattle.cells.specs.declared.check.Listed.the-variants as listed
-use Rattle.cells.specs.Answers.{listedOf}
-use Rattle.cells.proofs.ListedLaws.{listed-refused, taken}
-use Rattle.sdi_line.specs.declared.position.Position.{Position}
-use Rattle.sdi_line.specs.declared.answer.WrittenLine.{WrittenLine}
-use Rattle.sdi_line.specs.declared.answer.ReadLine.{ReadLine}
-use Rattle.sdi_line.specs.declared.answer.Found.the-variants as found
-use Rattle.sdi_line.specs.Packets.{stretch, packetsIn}
-use Rattle.sdi_line.specs.Line.{PositionFits, maxLine, lineChecks, lineAfter, writeLine, positionOk, readingChecks, readLine, readLineInto}
-use Rattle.sdi_line.specs.Answers.{writtenOf, readOf, cellsAfter}
-use Rattle.sdi_line.specs.Passes.{foundOf}
-use Rattle.sdi_line.proofs.WalkLaws.{length-cells, stretch-long}
-use Rattle.sdi_line.proofs.PacketIff.{packets-iff}
+use Rattle.wire_spec.specs.declared.refusal.Refusal.{Refusal}
+use Rattle.wire_spec.specs.declared.count.OctetCount.{OctetCount}
+use Rattle.wire_spec.specs.Layout.{rfc8331}
+use Rattle.wire_spec.specs.Words.{wordBits}
+use Rattle.wire_spec.specs.Result.{Result, refused, accepted, refuse, judge, _then_}
+use Rattle.wire_spec.specs.Anc.{Record}
+use Rattle.wire_spec.specs.Cells.{listOf, allBelow, readList}
+use Rattle.wire_spec.proofs.CellLaws.{list-iff, lists-length}
+use Rattle.anc_writer.specs.declared.check.Listed.the-variants as listed
+use Rattle.anc_writer.specs.Answers.{listedOf}
+use Rattle.anc_writer.proofs.ListedLaws.{listed-refused, taken}
+use Rattle.sdi_spec.specs.declared.position.Position.{Position}
+use Rattle.sdi_spec.specs.declared.answer.WrittenLine.{WrittenLine}
+use Rattle.sdi_spec.specs.declared.answer.ReadLine.{ReadLine}
+use Rattle.sdi_spec.specs.declared.answer.Found.the-variants as found
+use Rattle.sdi_spec.specs.Packets.{stretch, packetsIn}
+use Rattle.sdi_spec.specs.Line.{PositionFits, maxLine, lineChecks, lineAfter, writeLine, positionOk, readingChecks, readLine, readLineInto}
+use Rattle.sdi_spec.specs.Answers.{writtenOf, readOf, cellsAfter}
+use Rattle.sdi_spec.specs.Passes.{foundOf}
+use Rattle.sdi_spec.proofs.WalkLaws.{length-cells, stretch-long}
+use Rattle.sdi_spec.proofs.PacketIff.{packets-iff}
 
 -- WRITING
 module _ (line : List ℕ) (start : ℕ) (cells : List ℕ) where

@@ -1,8 +1,8 @@
 // What a refused line is answered.
 ghost use mathlib.Core.Path.{_≡_};
-use sdi_line::answer::ReadLine;
-use sdi_line::answer::WrittenLine;
-use wire::refusal::Refusal;
+use sdi_spec::answer::ReadLine;
+use sdi_spec::answer::WrittenLine;
+use wire_spec::refusal::Refusal;
 
 // Refused as a whole: the index is 0.
 pub(crate) fn refuse_write(number: u8) -> WrittenLine

@@ -2,28 +2,28 @@
 //
 // `write` and `read` are the entry points: they take any line, start and list. They check all before they write anything.
 ghost use mathlib.Core.Path.{_≡_};
-ghost use Rattle.sdi_line.specs.Answers.{readLeaves, readReturns, writeLeaves, writeReturns};
+ghost use Rattle.sdi_spec.specs.Answers.{readLeaves, readReturns, writeLeaves, writeReturns};
 
 mod answer;
 
 use crate::answer::refuse_read;
 use crate::answer::refuse_write;
-use cells::check::Measured;
-use cells::check::check_list;
-use cells::check::measure_list;
-use record::check::words_in_range;
-use record::header::Header;
+use anc_record::check::words_in_range;
+use anc_record::header::Header;
+use anc_writer::check::Measured;
+use anc_writer::check::check_list;
+use anc_writer::check::measure_list;
 use sdi_check::check::PACKET_WORDS;
 use sdi_check::check::check_packets;
 use sdi_check::check::position_fits;
-use sdi_line::answer::Found;
-use sdi_line::answer::ReadLine;
-use sdi_line::answer::WrittenLine;
-use sdi_line::position::Position;
 use sdi_packets::reading::read_packets;
 use sdi_packets::writing::write_packets;
-use wire::layout::Layout;
-use wire::refusal::Refusal;
+use sdi_spec::answer::Found;
+use sdi_spec::answer::ReadLine;
+use sdi_spec::answer::WrittenLine;
+use sdi_spec::position::Position;
+use wire_spec::layout::Layout;
+use wire_spec::refusal::Refusal;
 
 // "Lines hold at most 4,096 words".
 pub const MAX_LINE: usize = 4096;

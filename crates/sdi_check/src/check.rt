@@ -2,24 +2,24 @@
 ghost use mathlib.Core.Path.{_≡_};
 ghost use Prim.Native.Nat.{_+_, _≤_};
 ghost use lib.ListN.{length, take};
-ghost use Rattle.wire.specs.Anc.{areHeaderWords};
-ghost use Rattle.wire.specs.Words.{HeaderTable, isHeaderWord};
-ghost use Rattle.sdi_line.specs.declared.position.Position.{Position};
-ghost use Rattle.sdi_line.specs.Passes.{foundOf, verdictOf};
-ghost use Rattle.sdi_line.specs.Line.{positionOk};
-ghost use Rattle.sdi_line.specs.Packets.{hasFlag, lineCount, packetsIn, sumOk};
-use record::check::words_clear;
-use row_writer::sum::sum_cells;
-use sdi_line::answer::Found;
-use sdi_line::answer::Verdict;
-use sdi_line::position::Position;
-use wire::layout::FLAG_NUMBERS;
-use wire::layout::HEADER_NUMBERS;
-use wire::layout::LINE_NUMBERS;
-use wire::layout::OFFSET_NUMBERS;
-use wire::layout::STREAM_NUMBERS;
-use wire::refusal::Refusal;
-use words::checksum::checksum_word;
+ghost use Rattle.wire_spec.specs.Anc.{areHeaderWords};
+ghost use Rattle.wire_spec.specs.Words.{HeaderTable, isHeaderWord};
+ghost use Rattle.sdi_spec.specs.declared.position.Position.{Position};
+ghost use Rattle.sdi_spec.specs.Passes.{foundOf, verdictOf};
+ghost use Rattle.sdi_spec.specs.Line.{positionOk};
+ghost use Rattle.sdi_spec.specs.Packets.{hasFlag, lineCount, packetsIn, sumOk};
+use anc_record::check::words_clear;
+use sdi_spec::answer::Found;
+use sdi_spec::answer::Verdict;
+use sdi_spec::position::Position;
+use wire_row_writer::sum::sum_cells;
+use wire_spec::layout::FLAG_NUMBERS;
+use wire_spec::layout::HEADER_NUMBERS;
+use wire_spec::layout::LINE_NUMBERS;
+use wire_spec::layout::OFFSET_NUMBERS;
+use wire_spec::layout::STREAM_NUMBERS;
+use wire_spec::refusal::Refusal;
+use wire_words::checksum::checksum_word;
 
 // Words of the flag, those that a packet has behind it beside its user data words, and both.
 pub const FLAG_WORDS: usize = 3;
@@ -123,7 +123,7 @@ fn check_packet(words: &[u16], index: usize, table: &[u16; 256]) -> Verdict
 pub fn check_packets(words: &[u16]) -> Found
     ensures { λ r. ⌜ ((P : Position) → r ≡ foundOf (packetsIn P (now (words .entry)))) ⌝ }
 {
-    let table = words::table::header_words();
+    let table = wire_words::table::header_words();
     let mut rest = words;
     let mut count: usize = 0;
     let mut used: usize = 0;

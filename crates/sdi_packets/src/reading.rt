@@ -2,20 +2,20 @@
 ghost use mathlib.Core.Path.{_≡_};
 ghost use Prim.Native.Nat.{_+_, _≤_};
 ghost use lib.ListN.{length};
-ghost use Rattle.wire.specs.Bits.{overwrite};
-ghost use Rattle.wire.specs.Cells.{cellsOf, headCells};
-ghost use Rattle.wire.specs.Result.{IsAccepted};
-ghost use Rattle.sdi_line.specs.Passes.{foundCells, headOf};
-ghost use Rattle.sdi_line.specs.Line.{PositionFits};
-ghost use Rattle.sdi_line.specs.Packets.{lineCount, lineRecord, packetsIn};
-use record::header::Header;
+ghost use Rattle.wire_spec.specs.Bits.{overwrite};
+ghost use Rattle.wire_spec.specs.Cells.{cellsOf, headCells};
+ghost use Rattle.wire_spec.specs.Result.{IsAccepted};
+ghost use Rattle.sdi_spec.specs.Passes.{foundCells, headOf};
+ghost use Rattle.sdi_spec.specs.Line.{PositionFits};
+ghost use Rattle.sdi_spec.specs.Packets.{lineCount, lineRecord, packetsIn};
+use anc_record::header::Header;
 use sdi_check::check::FLAG_WORDS;
 use sdi_check::check::PACKET_WORDS;
 use sdi_check::check::data_count;
 use sdi_check::check::has_flag;
-use sdi_line::position::Position;
-use wire::layout::HEADER_NUMBERS;
-use wire::limit::READ_INDEX;
+use sdi_spec::position::Position;
+use wire_spec::layout::HEADER_NUMBERS;
+use wire_spec::limit::READ_INDEX;
 
 // Writes the cells before a record's words.
 fn put_head(words: &[u16], position: Position, cells: &mut [u16])

@@ -2,19 +2,19 @@
 ghost use mathlib.Core.Path.{_≡_};
 ghost use Prim.Native.Nat.{_+_, _<_, _≤_};
 ghost use lib.ListN.{length};
-ghost use Rattle.wire.specs.Anc.{WellFormed};
-ghost use Rattle.wire.specs.Bits.{overwrite, splice};
-ghost use Rattle.wire.specs.Cells.{cellCount, cellRecord, headCells, readList};
-ghost use Rattle.wire.specs.Layout.{rfc8331};
-ghost use Rattle.wire.specs.Result.{IsAccepted};
-ghost use Rattle.wire.specs.Words.{HeaderTable, headerNumbers};
-ghost use Rattle.sdi_line.specs.Passes.{frontOf, listStretch, summedAt};
-ghost use Rattle.sdi_line.specs.Packets.{packetWords};
+ghost use Rattle.wire_spec.specs.Anc.{WellFormed};
+ghost use Rattle.wire_spec.specs.Bits.{overwrite, splice};
+ghost use Rattle.wire_spec.specs.Cells.{cellCount, cellRecord, headCells, readList};
+ghost use Rattle.wire_spec.specs.Layout.{rfc8331};
+ghost use Rattle.wire_spec.specs.Result.{IsAccepted};
+ghost use Rattle.wire_spec.specs.Words.{HeaderTable, headerNumbers};
+ghost use Rattle.sdi_spec.specs.Passes.{frontOf, listStretch, summedAt};
+ghost use Rattle.sdi_spec.specs.Packets.{packetWords};
 use crate::reading::copy;
-use record::header::Header;
-use row_writer::sum::sum_cells;
+use anc_record::header::Header;
 use sdi_check::check::PACKET_WORDS;
-use words::checksum::checksum_word;
+use wire_row_writer::sum::sum_cells;
+use wire_words::checksum::checksum_word;
 
 // Writes the flag, DID, SDID and Data_Count.
 fn put_front(did: usize, sdid: usize, n: usize, words: &mut [u16], table: &[u16; 256])
@@ -59,7 +59,7 @@ pub fn write_packets(cells: &[u16], words: &mut [u16])
     requires { ⌜ IsAccepted (readList (now cells)) × (length (listStretch (readList (now cells))) ≤ length (now words)) ⌝ }
     ensures { λ r. ⌜ now (words .exit) ≡ overwrite (listStretch (readList (now (cells .entry)))) (now (words .entry)) ⌝ }
 {
-    let table = words::table::header_words();
+    let table = wire_words::table::header_words();
     let mut rest = cells;
     let mut to: usize = 0;
     while rest.len() > 0 {

@@ -4,10 +4,10 @@
 ghost use mathlib.Core.Path.{_≡_};
 ghost use lib.ListN.{getD};
 ghost use Rattle.sdp_item.specs.Answers.{digitsOf};
-ghost use Rattle.sdp.specs.Reading.{areValue, didSdidOf, digits, hexBehind, itemOf, nameLength, otherOf, startsWith, vpidCodeOf};
-ghost use Rattle.sdp.specs.Text.{decimalBase, decimalMost, digitValue, hexBase, hexMost, isName, isValue, within};
-use sdp::item::Item;
-use sdp::parameters::Vpid;
+ghost use Rattle.sdp_spec.specs.Reading.{areValue, didSdidOf, digits, hexBehind, itemOf, nameLength, otherOf, startsWith, vpidCodeOf};
+ghost use Rattle.sdp_spec.specs.Text.{decimalBase, decimalMost, digitValue, hexBase, hexMost, isName, isValue, within};
+use sdp_spec::item::Item;
+use sdp_spec::parameters::Vpid;
 
 // Digits at the front of a text: the number that they write, and how many they are.
 pub struct Digits {

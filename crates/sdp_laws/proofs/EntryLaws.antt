@@ -7,24 +7,24 @@ use Prim.Native.Nat.{ℕ, _/_, _≤_}
 use native.Mathlib.Omega.{arith}
 use lib.ListN.{length, take, drop}
 use lib.Seq.{take-at, drop-at}
-use Rattle.wire.specs.declared.refusal.Refusal.{Refusal}
-use Rattle.wire.specs.declared.count.OctetCount.{OctetCount}
-use Rattle.wire.specs.declared.written.Written.the-variants as written
-use Rattle.wire.specs.Bits.{Below, overwrite}
-use Rattle.wire.specs.Result.{Result, refused, accepted}
-use Rattle.wire.specs.Written.{octetsAfter, writtenOf}
-use Rattle.sdp.specs.declared.parameters.Parameters.{Parameters}
-use Rattle.sdp.specs.declared.parameters.Vpid.{Vpid}
-use Rattle.sdp.specs.Grammar.{codes, Content, Says}
-use Rattle.sdp.specs.Reading.{readInto}
-use Rattle.sdp.specs.Writing.{writeText}
-use Rattle.sdp.specs.Offence.{Refuses, WriteRefuses}
-use Rattle.sdp.proofs.Acceptance.{room-iff}
-use Rattle.sdp.proofs.RoundTrip.{written-reads}
-use Rattle.sdp.proofs.Refusals.{read-refuses, write-refuses}
-use Rattle.fmtp.specs.declared.Reading.the-variants as reading
-use Rattle.fmtp.specs.Answers.{contentReading, contentPairs, readReturns, readLeaves}
-use Rattle.fmtp_writer.specs.Entry.{writeReturns, writeLeaves}
+use Rattle.wire_spec.specs.declared.refusal.Refusal.{Refusal}
+use Rattle.wire_spec.specs.declared.count.OctetCount.{OctetCount}
+use Rattle.wire_spec.specs.declared.written.Written.the-variants as written
+use Rattle.wire_spec.specs.Bits.{Below, overwrite}
+use Rattle.wire_spec.specs.Result.{Result, refused, accepted}
+use Rattle.wire_spec.specs.Written.{octetsAfter, writtenOf}
+use Rattle.sdp_spec.specs.declared.parameters.Parameters.{Parameters}
+use Rattle.sdp_spec.specs.declared.parameters.Vpid.{Vpid}
+use Rattle.sdp_spec.specs.Grammar.{codes, Content, Says}
+use Rattle.sdp_spec.specs.Reading.{readInto}
+use Rattle.sdp_spec.specs.Writing.{writeText}
+use Rattle.sdp_spec.specs.Offence.{Refuses, WriteRefuses}
+use Rattle.sdp_spec.proofs.Acceptance.{room-iff}
+use Rattle.sdp_spec.proofs.RoundTrip.{written-reads}
+use Rattle.sdp_spec.proofs.Refusals.{read-refuses, write-refuses}
+use Rattle.sdp_reader.specs.declared.Reading.the-variants as reading
+use Rattle.sdp_reader.specs.Answers.{contentReading, contentPairs, readReturns, readLeaves}
+use Rattle.sdp_writer.specs.Entry.{writeReturns, writeLeaves}
 
 -- "Read pairs go into lent octets, DID then SDID": the lent octets begin with the pairs, and the rest is as it was
 pub record Holds (pairs lent after : List ℕ) : Type 0 where

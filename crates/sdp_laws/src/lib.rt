@@ -1,1 +1,1 @@
-// SDP parameters (01, "SDP parameters"), of what `fmtp::read` and `fmtp_writer::write` take and return. In specs/ and proofs/: no code.
+// SDP parameters (01, "SDP parameters"), of what `sdp_reader::read` and `sdp_writer::write` take and return. In specs/ and proofs/: no code.

@@ -1,20 +1,20 @@
 // Reports where the recorded output of an encoder, RTP packets in frames of RFC 4571, breaks the rules (02, K12), from standard input or from the
 // file that its argument names. The frames and the lines are the library's; this program moves octets.
 ghost use lib.ListN.{length};
-ghost use Rattle.report_turns.specs.Turns.{Ended, Enough};
-use arguments::files::file_at;
-use arguments::files::layout_told;
-use arguments::files::open_input;
-use arguments::options::may_start;
-use frames::MAX_FRAME;
+ghost use Rattle.streamcheck_turns.specs.Turns.{Ended, Enough};
 use program::buffers::is_done;
 use program::buffers::turns_left;
-use report::session::LINES_ROOM;
-use report_turns::close;
-use report_turns::start;
-use report_turns::turn;
-use wire::layout::Layout;
-use wire::limit::MAX_PACKET;
+use program_arguments::files::file_at;
+use program_arguments::files::layout_told;
+use program_arguments::files::open_input;
+use program_arguments::options::may_start;
+use rtp_frames::MAX_FRAME;
+use streamcheck_session::session::LINES_ROOM;
+use streamcheck_turns::close;
+use streamcheck_turns::start;
+use streamcheck_turns::turn;
+use wire_spec::layout::Layout;
+use wire_spec::limit::MAX_PACKET;
 
 // Octets of the buffers: some frames are read at once, and lines of many packets wait to be written together.
 const INPUT_SIZE: usize = 4 * MAX_FRAME;

@@ -6,8 +6,8 @@ use Prim.Native.Nat.{ℕ, _+_, _<_, _≤_}
 use native.Mathlib.Nat.{add-zero}
 use native.Mathlib.Omega.{arith}
 use lib.ListN.{length, set, length-append, length-set}
-use Rattle.wire.specs.Bits.{overwrite, splice}
-use Rattle.wire.proofs.ListLaws.{length-splice, splice-append, splice-none, set-splice, splice-set}
+use Rattle.wire_spec.specs.Bits.{overwrite, splice}
+use Rattle.wire_spec.proofs.ListLaws.{length-splice, splice-append, splice-none, set-splice, splice-set}
 
 -- of the octets `all`, to be written to the front of `old`, those of `rest` are left; they go from `to` on
 pub record Left (all old rest now : List ℕ) (to : ℕ) : Type 0 where

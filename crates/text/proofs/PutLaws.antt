@@ -5,8 +5,8 @@ use mathlib.Core.List.{List, [], _++_}
 use Prim.Native.Nat.{ℕ, _≤_}
 use native.Mathlib.Omega.{arith}
 use lib.ListN.{length, length-append}
-use Rattle.wire.specs.Bits.{splice}
-use Rattle.wire.proofs.ListLaws.{length-splice, splice-append, splice-none}
+use Rattle.wire_spec.specs.Bits.{splice}
+use Rattle.wire_spec.proofs.ListLaws.{length-splice, splice-append, splice-none}
 use Rattle.text.specs.Put.{Put}
 
 -- nothing put

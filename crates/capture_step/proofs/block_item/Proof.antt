@@ -7,15 +7,15 @@ use mathlib.Core.List.{List}
 use Prim.Native.Nat.{ℕ, _≤_}
 use lib.ListN.{length}
 use borrow.Author.Tests.{eq-eqb, ne-eqb, le-ltb, lt-ltb}
-use Rattle.capture.specs.declared.state.Order.{Order}
-use Rattle.capture.specs.declared.state.Ordered.{Ordered}
-use Rattle.capture.specs.declared.state.State.{State}
-use Rattle.capture.specs.declared.state.Extent.{Extent}
-use Rattle.capture.specs.declared.state.Extent.the-variants as extent
-use Rattle.capture.specs.declared.state.Item.{Item}
-use Rattle.capture.specs.Numbers.{wordAt}
-use Rattle.capture.specs.Step.{blockExtent, blockItem, bodyItem, leastOf, sectionBy, within}
-use Rattle.capture.proofs.StepLaws.{block-in, whole-in}
+use Rattle.capture_spec.specs.declared.state.Order.{Order}
+use Rattle.capture_spec.specs.declared.state.Ordered.{Ordered}
+use Rattle.capture_spec.specs.declared.state.State.{State}
+use Rattle.capture_spec.specs.declared.state.Extent.{Extent}
+use Rattle.capture_spec.specs.declared.state.Extent.the-variants as extent
+use Rattle.capture_spec.specs.declared.state.Item.{Item}
+use Rattle.capture_spec.specs.Numbers.{wordAt}
+use Rattle.capture_spec.specs.Step.{blockExtent, blockItem, bodyItem, leastOf, sectionBy, within}
+use Rattle.capture_spec.proofs.StepLaws.{block-in, whole-in}
 use Rattle.capture_step.proofs.block_item.Statement.{statement}
 use Rattle.capture_step.proofs.block_item.Tie as tie
 

@@ -4,8 +4,8 @@ use borrow.Author.Needs.{needs}
 use mathlib.Core.Path.{ap}
 use Prim.Native.Nat.{ℕ, _%_}
 use borrow.Author.Tests.{le-ltb, lt-ltb}
-use Rattle.capture.specs.declared.state.Container.the-variants as container
-use Rattle.capture.specs.declared.state.Item.the-variants as item
+use Rattle.capture_spec.specs.declared.state.Container.the-variants as container
+use Rattle.capture_spec.specs.declared.state.Item.the-variants as item
 use Rattle.capture_step.proofs.head_item.Statement.{statement}
 use Rattle.capture_step.proofs.head_item.Tie as tie
 

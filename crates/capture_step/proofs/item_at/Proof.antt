@@ -5,11 +5,11 @@ use mathlib.Core.Path.{_≡_, ap, sym, subst, _∙_}
 use mathlib.Core.List.{List}
 use Prim.Native.Nat.{ℕ}
 use lib.ListN.{length}
-use Rattle.capture.specs.declared.state.Container.{Container}
-use Rattle.capture.specs.declared.state.Item.{Item}
-use Rattle.capture.specs.declared.state.State.{State}
-use Rattle.capture.specs.Step.{Fits, stepIn, stepOf}
-use Rattle.capture.proofs.StepLaws.{step-fits}
+use Rattle.capture_spec.specs.declared.state.Container.{Container}
+use Rattle.capture_spec.specs.declared.state.Item.{Item}
+use Rattle.capture_spec.specs.declared.state.State.{State}
+use Rattle.capture_spec.specs.Step.{Fits, stepIn, stepOf}
+use Rattle.capture_spec.proofs.StepLaws.{step-fits}
 use Rattle.capture_step.proofs.item_at.Statement.{statement}
 use Rattle.capture_step.proofs.item_at.Tie as tie
 

@@ -4,11 +4,11 @@ use borrow.Author.Needs.{needs}
 use mathlib.Core.Path.{ap, sym, _∙_}
 use Prim.Native.Nat.{ℕ, _-_}
 use lib.ListN.{length}
-use Rattle.capture.specs.declared.state.Extent.{Extent}
-use Rattle.capture.specs.declared.state.Item.{Item}
-use Rattle.capture.specs.declared.state.Item.the-variants as item
-use Rattle.capture.specs.Step.{recordExtent, within}
-use Rattle.capture.proofs.StepLaws.{record-in, whole-in}
+use Rattle.capture_spec.specs.declared.state.Extent.{Extent}
+use Rattle.capture_spec.specs.declared.state.Item.{Item}
+use Rattle.capture_spec.specs.declared.state.Item.the-variants as item
+use Rattle.capture_spec.specs.Step.{recordExtent, within}
+use Rattle.capture_spec.proofs.StepLaws.{record-in, whole-in}
 use Rattle.capture_step.proofs.record_item.Statement.{statement}
 use Rattle.capture_step.proofs.record_item.Tie as tie
 

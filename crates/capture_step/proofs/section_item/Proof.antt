@@ -2,7 +2,7 @@
 -- By its order.
 use borrow.Author.Needs.{needs}
 use mathlib.Core.Path.{ap, _∙_}
-use Rattle.capture.specs.Step.{sectionHead}
+use Rattle.capture_spec.specs.Step.{sectionHead}
 use Rattle.capture_step.proofs.section_item.Statement.{statement}
 use Rattle.capture_step.proofs.section_item.Tie as tie
 

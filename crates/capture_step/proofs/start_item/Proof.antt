@@ -3,10 +3,10 @@
 use borrow.Author.Needs.{needs}
 use mathlib.Core.Path.{ap, _∙_}
 use borrow.Author.Tests.{eq-eqb, ne-eqb, le-ltb, lt-ltb}
-use Rattle.capture.specs.declared.state.Ordered.{Ordered}
-use Rattle.capture.specs.declared.state.Order.the-variants as order
-use Rattle.capture.specs.Numbers.{wordAt}
-use Rattle.capture.specs.Step.{headBy, sectionBy}
+use Rattle.capture_spec.specs.declared.state.Ordered.{Ordered}
+use Rattle.capture_spec.specs.declared.state.Order.the-variants as order
+use Rattle.capture_spec.specs.Numbers.{wordAt}
+use Rattle.capture_spec.specs.Step.{headBy, sectionBy}
 use Rattle.capture_step.proofs.start_item.Statement.{statement}
 use Rattle.capture_step.proofs.start_item.Tie as tie
 

@@ -6,7 +6,7 @@ use native.Mathlib.Omega.{arith}
 use lib.ListN.{length, getD, length-take, length-drop}
 use borrow.Author.Needs.{needs}
 use borrow.Author.Tests.{not-true, not-false}
-use Rattle.outlet.specs.Step.{admits}
+use Rattle.egress_spec.specs.Step.{admits}
 use Rattle.egress.proofs.OfferLaws.{seen, unseen, unsound-64, channel-60, size-61, full-62, Passed, passed, copied-whole}
 use Rattle.egress.proofs.offer.Statement.{statement}
 use Rattle.egress.proofs.offer.Tie as tie

@@ -5,7 +5,7 @@ use Prim.Native.Nat.{ℕ, _+_, _*_, _≤_, _<_}
 use native.Mathlib.Omega.{arith}
 use lib.ListN.{length, getD}
 use borrow.Author.Needs.{needs}
-use Rattle.outlet.specs.Step.{admits}
+use Rattle.egress_spec.specs.Step.{admits}
 use Rattle.egress_state.specs.Survey.{Heads, headOf}
 use Rattle.egress.proofs.OfferLaws.{seen, unseen, admits-size}
 use Rattle.egress.proofs.TakeLaws.{turn-heads, starts, unsound-64, nothing-63, room-23, handed-whole}

@@ -6,9 +6,9 @@ use mathlib.Core.List.{List}
 use Prim.Native.Nat.{ℕ}
 use borrow.Author.Tests.{le-leb, lt-leb}
 use lib.ListN.{length}
-use Rattle.wire.specs.Bits.{overwrite}
-use Rattle.anf.specs.File.{fileHeadSize}
-use Rattle.wire.specs.declared.written.Written.the-variants as written
+use Rattle.wire_spec.specs.Bits.{overwrite}
+use Rattle.fieldfile_spec.specs.File.{fileHeadSize}
+use Rattle.wire_spec.specs.declared.written.Written.the-variants as written
 use Rattle.fieldfile_writer.proofs.HeadOctets.{head-packed}
 use Rattle.fieldfile_writer.proofs.begin.Statement.{statement}
 use Rattle.fieldfile_writer.proofs.begin.Tie as tie

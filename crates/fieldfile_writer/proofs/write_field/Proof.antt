@@ -5,14 +5,14 @@ use mathlib.Core.Path.{_≡_, ap, sym, subst, _∙_}
 use Prim.Native.Nat.{ℕ, _+_, _≤_}
 use native.Mathlib.Omega.{arith}
 use lib.ListN.{length, length-take, length-drop}
-use Rattle.wire.specs.Layout.{rfc8331}
-use Rattle.wire.specs.Result.{IsAccepted}
-use Rattle.wire.proofs.AncLaws.{length-run}
-use Rattle.cells.specs.Answers.{listOctets, listRefusal}
-use Rattle.anf.specs.File.{writtenVersion, fieldHeaderSize, fieldRecords}
-use Rattle.wire.specs.declared.written.Written.the-variants as written
-use Rattle.cells.proofs.ListedLaws.{Taken, taken, listed-refused}
-use Rattle.anf.proofs.WritesLaws.{small, Writes, writes}
+use Rattle.wire_spec.specs.Layout.{rfc8331}
+use Rattle.wire_spec.specs.Result.{IsAccepted}
+use Rattle.wire_spec.proofs.AncLaws.{length-run}
+use Rattle.anc_writer.specs.Answers.{listOctets, listRefusal}
+use Rattle.fieldfile_spec.specs.File.{writtenVersion, fieldHeaderSize, fieldRecords}
+use Rattle.wire_spec.specs.declared.written.Written.the-variants as written
+use Rattle.anc_writer.proofs.ListedLaws.{Taken, taken, listed-refused}
+use Rattle.fieldfile_spec.proofs.WritesLaws.{small, Writes, writes}
 use Rattle.fieldfile_writer.proofs.WriteLaws.{written-whole, written-length}
 use Rattle.fieldfile_writer.proofs.write_field.Statement.{statement}
 use Rattle.fieldfile_writer.proofs.write_field.Tie as tie

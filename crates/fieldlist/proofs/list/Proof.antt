@@ -1,18 +1,18 @@
 -- `list` makes turn after turn, and then writes the last lines.
--- Invariant: the turns so far are a run, with as many left as there must be (`run` `TurnLaws`); the buffers keep their sizes.
+-- Invariant: the turns so far are a run, with as many left as there must be (`program_spec` `TurnLaws`); the buffers keep their sizes.
 use borrow.Author.Needs.{needs}
 use mathlib.Core.Path.{_≡_, refl, sym, subst, _∙_}
 use mathlib.Core.List.{[]}
 use native.Mathlib.Nat.{le-refl}
 use Prim.Native.Nat.{ℕ, _≤_}
 use lib.ListN.{length}
-use Rattle.run.specs.Run.{at, turning}
-use Rattle.run.proofs.RunLaws.{bounds, still-enough}
-use Rattle.run.proofs.TurnLaws.{Sofar, fewer, first-turn, next-turn}
-use Rattle.lines.specs.Room.{lineRoom}
-use Rattle.turns.specs.Turns.{Enough, program}
-use Rattle.turns.proofs.RunLaws.{ended}
-use Rattle.turns.proofs.TurnLaws.{room-for-line}
+use Rattle.program_spec.specs.Run.{at, turning}
+use Rattle.program_spec.proofs.RunLaws.{bounds, still-enough}
+use Rattle.program_spec.proofs.TurnLaws.{Sofar, fewer, first-turn, next-turn}
+use Rattle.fieldlist_lines.specs.Room.{lineRoom}
+use Rattle.fieldlist_turns.specs.Turns.{Enough, program}
+use Rattle.fieldlist_turns.proofs.RunLaws.{ended}
+use Rattle.fieldlist_turns.proofs.TurnLaws.{room-for-line}
 use Rattle.fieldlist.proofs.list.Statement.{statement}
 use Rattle.fieldlist.proofs.list.Tie as tie
 

@@ -3,8 +3,8 @@
 use borrow.Author.Needs.{needs}
 use mathlib.Core.Path.{sym}
 use native.Mathlib.Omega.{arith}
-use Rattle.run.proofs.RunLaws.{still-enough, zeros}
-use Rattle.turns.specs.Turns.{Enough}
+use Rattle.program_spec.proofs.RunLaws.{still-enough, zeros}
+use Rattle.fieldlist_turns.specs.Turns.{Enough}
 use Rattle.fieldlist.proofs.main.Statement.{statement}
 use Rattle.fieldlist.proofs.main.Tie as tie
 

@@ -1,14 +1,14 @@
 -- `file` makes turn after turn.
--- Invariant: the turns so far are a run, with as many left as there must be (`run` `TurnLaws`); the buffers keep their sizes.
+-- Invariant: the turns so far are a run, with as many left as there must be (`program_spec` `TurnLaws`); the buffers keep their sizes.
 use borrow.Author.Needs.{needs}
 use mathlib.Core.Path.{_≡_, refl, _∙_}
 use mathlib.Core.List.{[]}
 use lib.ListN.{length}
-use Rattle.run.specs.Run.{at, turning}
-use Rattle.run.proofs.RunLaws.{bounds, still-enough}
-use Rattle.run.proofs.TurnLaws.{Sofar, fewer, first-turn, next-turn}
-use Rattle.filing_turns.specs.Turns.{Enough, program}
-use Rattle.filing_turns.proofs.RunLaws.{ended}
+use Rattle.program_spec.specs.Run.{at, turning}
+use Rattle.program_spec.proofs.RunLaws.{bounds, still-enough}
+use Rattle.program_spec.proofs.TurnLaws.{Sofar, fewer, first-turn, next-turn}
+use Rattle.fieldsave_turns.specs.Turns.{Enough, program}
+use Rattle.fieldsave_turns.proofs.RunLaws.{ended}
 use Rattle.fieldsave.proofs.file.Statement.{statement}
 use Rattle.fieldsave.proofs.file.Tie as tie
 

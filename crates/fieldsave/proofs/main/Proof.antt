@@ -3,8 +3,8 @@
 use borrow.Author.Needs.{needs}
 use mathlib.Core.Path.{sym}
 use native.Mathlib.Omega.{arith}
-use Rattle.run.proofs.RunLaws.{still-enough, zeros}
-use Rattle.filing_turns.specs.Turns.{Enough}
+use Rattle.program_spec.proofs.RunLaws.{still-enough, zeros}
+use Rattle.fieldsave_turns.specs.Turns.{Enough}
 use Rattle.fieldsave.proofs.main.Statement.{statement}
 use Rattle.fieldsave.proofs.main.Tie as tie
 

@@ -1,20 +1,20 @@
 -- `extract` makes turn after turn, until the input ends or the walk is over.
--- Invariant: the turns so far are a run, with as many left as there must be (`run` `TurnLaws`); the buffers keep their sizes.
+-- Invariant: the turns so far are a run, with as many left as there must be (`program_spec` `TurnLaws`); the buffers keep their sizes.
 use borrow.Author.Needs.{needs}
 use mathlib.Core.Path.{_≡_, refl, ap, sym, subst, _∙_}
 use mathlib.Core.List.{List, []}
 use Prim.Native.Nat.{ℕ}
 use lib.ListN.{length}
-use Rattle.run.specs.Run.{Started, at, turning}
-use Rattle.run.proofs.BufferLaws.{short}
-use Rattle.run.proofs.RunLaws.{bounds}
-use Rattle.run.proofs.StepLaws.{first-put, text-put}
-use Rattle.run.proofs.TurnLaws.{Sofar, fewer, first-turn, next-turn}
-use Rattle.capture_walk.specs.Session.{begun, frameWalk, lastOf}
-use Rattle.capture_turns.specs.declared.Run.{Run}
-use Rattle.capture_turns.specs.Turns.{started}
-use Rattle.capture_turns.proofs.RunLaws.{countable, ended}
-use Rattle.capture_turns.proofs.TurnLaws.{still-enough}
+use Rattle.program_spec.specs.Run.{Started, at, turning}
+use Rattle.program_spec.proofs.BufferLaws.{short}
+use Rattle.program_spec.proofs.RunLaws.{bounds}
+use Rattle.program_spec.proofs.StepLaws.{first-put, text-put}
+use Rattle.program_spec.proofs.TurnLaws.{Sofar, fewer, first-turn, next-turn}
+use Rattle.pcapframes_spec.specs.Session.{begun, frameWalk, lastOf}
+use Rattle.pcapframes_turns.specs.declared.Run.{Run}
+use Rattle.pcapframes_turns.specs.Turns.{started}
+use Rattle.pcapframes_turns.proofs.RunLaws.{countable, ended}
+use Rattle.pcapframes_turns.proofs.TurnLaws.{still-enough}
 use Rattle.pcapframes.proofs.extract.Statement.{statement}
 use Rattle.pcapframes.proofs.extract.Tie as tie
 

@@ -1,13 +1,13 @@
--- `run` lends buffers that hold what `extract` asks.
+-- `program_spec` lends buffers that hold what `extract` asks.
 -- By their sizes; the length of a long array comes by a law, and is not counted.
 use borrow.Author.Needs.{needs}
 use mathlib.Core.Path.{_≡_, sym}
 use Prim.Native.Nat.{ℕ, _≤_}
 use native.Mathlib.Omega.{arith}
 use lib.ListN.{length, replicate, length-replicate}
-use Rattle.frames.specs.Frames.{maxFrame}
-use Rattle.capture.specs.Numbers.{maxItem}
-use Rattle.capture_turns.specs.Turns.{Enough}
+use Rattle.rtp_frames.specs.Frames.{maxFrame}
+use Rattle.capture_spec.specs.Numbers.{maxItem}
+use Rattle.pcapframes_turns.specs.Turns.{Enough}
 use Rattle.pcapframes.proofs.run.Statement.{statement}
 use Rattle.pcapframes.proofs.run.Tie as tie
 

@@ -7,17 +7,17 @@ use mathlib.Core.List.{List}
 use Prim.Native.Nat.{ℕ, _+_, _^_, _≤_}
 use native.Mathlib.Omega.{arith}
 use lib.ListN.{length, drop, length-drop}
-use Rattle.wire.specs.Bits.{overwrite}
-use Rattle.wire.specs.Words.{wordBits}
-use Rattle.wire.specs.Result.{refused, accepted, refuse, IsAccepted}
-use Rattle.wire.specs.Cells.{listOf, allBelow}
-use Rattle.wire.proofs.ListLaws.{part-all}
-use Rattle.sdi_line.specs.declared.answer.ReadLine.the-variants as readLine
-use Rattle.sdi_line.specs.Packets.{packetsIn}
-use Rattle.sdi_line.specs.Line.{positionOk}
-use Rattle.sdi_line.specs.Passes.{foundOf, foundCells}
-use Rattle.sdi_line.proofs.CodeLaws.{passed, failed}
-use Rattle.sdi_line.proofs.LineIff.{position-iff}
+use Rattle.wire_spec.specs.Bits.{overwrite}
+use Rattle.wire_spec.specs.Words.{wordBits}
+use Rattle.wire_spec.specs.Result.{refused, accepted, refuse, IsAccepted}
+use Rattle.wire_spec.specs.Cells.{listOf, allBelow}
+use Rattle.wire_spec.proofs.ListLaws.{part-all}
+use Rattle.sdi_spec.specs.declared.answer.ReadLine.the-variants as readLine
+use Rattle.sdi_spec.specs.Packets.{packetsIn}
+use Rattle.sdi_spec.specs.Line.{positionOk}
+use Rattle.sdi_spec.specs.Passes.{foundOf, foundCells}
+use Rattle.sdi_spec.proofs.CodeLaws.{passed, failed}
+use Rattle.sdi_spec.proofs.LineIff.{position-iff}
 use Rattle.sdi.proofs.EntryLaws.{read-is, read-70, read-71, read-20, read-73, read-packet-refused, read-14, read-fits, FoundThere, found-there}
 use Rattle.sdi.proofs.read.Statement.{statement}
 use Rattle.sdi.proofs.read.Tie as tie

@@ -6,15 +6,15 @@ use mathlib.Core.List.{List}
 use Prim.Native.Nat.{ℕ, _+_, _-_, _*_, _≤_}
 use native.Mathlib.Omega.{arith}
 use lib.ListN.{length, take, drop, length-drop}
-use Rattle.wire.specs.Bits.{overwrite}
-use Rattle.wire.specs.Result.{refused, accepted, refuse, IsAccepted}
-use Rattle.wire.specs.Cells.{readList}
-use Rattle.wire.proofs.ListLaws.{part-all, part-written}
-use Rattle.cells.specs.Answers.{listRefusal}
-use Rattle.cells.proofs.ListedLaws.{measured-is, unmeasured}
-use Rattle.sdi_line.specs.declared.answer.WrittenLine.the-variants as writtenLine
-use Rattle.sdi_line.specs.Packets.{stretch}
-use Rattle.sdi_line.specs.Passes.{listStretch}
+use Rattle.wire_spec.specs.Bits.{overwrite}
+use Rattle.wire_spec.specs.Result.{refused, accepted, refuse, IsAccepted}
+use Rattle.wire_spec.specs.Cells.{readList}
+use Rattle.wire_spec.proofs.ListLaws.{part-all, part-written}
+use Rattle.anc_writer.specs.Answers.{listRefusal}
+use Rattle.anc_writer.proofs.ListedLaws.{measured-is, unmeasured}
+use Rattle.sdi_spec.specs.declared.answer.WrittenLine.the-variants as writtenLine
+use Rattle.sdi_spec.specs.Packets.{stretch}
+use Rattle.sdi_spec.specs.Passes.{listStretch}
 use Rattle.sdi.proofs.EntryLaws.{written-is, write-70, write-71, write-list, write-72, write-fits, Counted, counted}
 use Rattle.sdi.proofs.write.Statement.{statement}
 use Rattle.sdi.proofs.write.Tie as tie

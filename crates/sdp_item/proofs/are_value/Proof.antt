@@ -5,8 +5,8 @@ use mathlib.Core.Path.{_≡_, sym, _∙_}
 use Prim.Native.Nat.{_≤_, _-_}
 use lib.ListN.{length, drop}
 use borrow.Author.Tests.{not-true, not-false}
-use Rattle.sdp.specs.Reading.{areValue}
-use Rattle.sdp.proofs.ItemLaws.{value-holds, value-fails, value-ends}
+use Rattle.sdp_spec.specs.Reading.{areValue}
+use Rattle.sdp_spec.proofs.ItemLaws.{value-holds, value-fails, value-ends}
 use Rattle.sdp_item.proofs.are_value.Statement.{statement}
 use Rattle.sdp_item.proofs.are_value.Tie as tie
 

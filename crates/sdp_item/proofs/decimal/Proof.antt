@@ -8,9 +8,9 @@ use native.Mathlib.Omega.{arith}
 use lib.ListN.{drop, getD}
 use lib.Seq.{getD-drop}
 use Rattle.sdp_item.specs.Answers.{digitsOf}
-use Rattle.sdp.specs.Text.{digitValue, number, decimalBase, decimalMost}
-use Rattle.sdp.specs.Reading.{digits}
-use Rattle.sdp.proofs.ItemLaws.{digits-none, digits-more, digits-one, digits-two}
+use Rattle.sdp_spec.specs.Text.{digitValue, number, decimalBase, decimalMost}
+use Rattle.sdp_spec.specs.Reading.{digits}
+use Rattle.sdp_spec.proofs.ItemLaws.{digits-none, digits-more, digits-one, digits-two}
 use Rattle.sdp_item.proofs.decimal.Statement.{statement}
 use Rattle.sdp_item.proofs.decimal.Tie as tie
 

@@ -8,13 +8,13 @@ use Prim.Native.Nat.{ℕ, _+_, _-_, _<_, _≤_}
 use native.Mathlib.Omega.{arith}
 use lib.ListN.{length, take, drop, length-drop}
 use borrow.Author.Tests.{lt-ltb, le-ltb, eq-eqb, ne-eqb, not-true, not-false}
-use Rattle.wire.proofs.ListLaws.{part-all}
+use Rattle.wire_spec.proofs.ListLaws.{part-all}
 use Rattle.sdp_item.specs.declared.Digits.{Digits}
-use Rattle.sdp.specs.declared.item.Item.the-variants.{DidSdid, Malformed}
+use Rattle.sdp_spec.specs.declared.item.Item.the-variants.{DidSdid, Malformed}
 use Rattle.sdp_item.specs.Answers.{digitsOf}
-use Rattle.sdp.specs.Text.{openWord, commaWord, closeWord, number, hexBase}
-use Rattle.sdp.specs.Reading.{startsWith, hexBehind, behind, didSdidOf}
-use Rattle.sdp.proofs.ItemLaws.{hex-behind, behind-octet}
+use Rattle.sdp_spec.specs.Text.{openWord, commaWord, closeWord, number, hexBase}
+use Rattle.sdp_spec.specs.Reading.{startsWith, hexBehind, behind, didSdidOf}
+use Rattle.sdp_spec.proofs.ItemLaws.{hex-behind, behind-octet}
 use Rattle.sdp_item.proofs.did_sdid.Statement.{statement}
 use Rattle.sdp_item.proofs.did_sdid.Tie as tie
 

@@ -4,8 +4,8 @@ use borrow.Author.Needs.{needs}
 use mathlib.Core.Path.{sym, _∙_}
 use Prim.Native.Nat.{_≤_}
 use native.Mathlib.Omega.{arith}
-use Rattle.sdp.specs.Text.{digitValue}
-use Rattle.sdp.proofs.ItemLaws.{within-true}
+use Rattle.sdp_spec.specs.Text.{digitValue}
+use Rattle.sdp_spec.proofs.ItemLaws.{within-true}
 use Rattle.sdp_item.proofs.digit_value.Statement.{statement}
 use Rattle.sdp_item.proofs.digit_value.Tie as tie
 

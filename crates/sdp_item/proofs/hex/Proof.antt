@@ -7,9 +7,9 @@ use Prim.Native.Nat.{ℕ, _+_, _*_, _≤_, _<_}
 use native.Mathlib.Omega.{arith}
 use lib.ListN.{getD}
 use Rattle.sdp_item.specs.Answers.{digitsOf}
-use Rattle.sdp.specs.Text.{digitValue, number, hexBase, hexMost}
-use Rattle.sdp.specs.Reading.{digits}
-use Rattle.sdp.proofs.ItemLaws.{digits-none, digits-one, digits-two}
+use Rattle.sdp_spec.specs.Text.{digitValue, number, hexBase, hexMost}
+use Rattle.sdp_spec.specs.Reading.{digits}
+use Rattle.sdp_spec.proofs.ItemLaws.{digits-none, digits-one, digits-two}
 use Rattle.sdp_item.proofs.hex.Statement.{statement}
 use Rattle.sdp_item.proofs.hex.Tie as tie
 

@@ -6,11 +6,11 @@ use mathlib.Core.List.{List}
 use Prim.Native.Nat.{ℕ}
 use lib.ListN.{length}
 use borrow.Author.Tests.{not-true, not-false}
-use Rattle.wire.proofs.ListLaws.{part-all}
+use Rattle.wire_spec.proofs.ListLaws.{part-all}
 use Rattle.sdp_item.specs.Answers.{digitsOf}
-use Rattle.sdp.specs.Text.{number, hexBase, hexMost}
-use Rattle.sdp.specs.Reading.{digits, hexBehind}
-use Rattle.sdp.proofs.ItemLaws.{starts-length}
+use Rattle.sdp_spec.specs.Text.{number, hexBase, hexMost}
+use Rattle.sdp_spec.specs.Reading.{digits, hexBehind}
+use Rattle.sdp_spec.proofs.ItemLaws.{starts-length}
 use Rattle.sdp_item.proofs.hex_behind.Statement.{statement}
 use Rattle.sdp_item.proofs.hex_behind.Tie as tie
 

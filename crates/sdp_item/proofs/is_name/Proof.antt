@@ -1,7 +1,7 @@
 -- `is_name` tells octets of a name.
 -- By the three ranges.
 use borrow.Author.Needs.{needs}
-use Rattle.sdp.specs.Text.{isName}
+use Rattle.sdp_spec.specs.Text.{isName}
 use Rattle.sdp_item.proofs.is_name.Statement.{statement}
 use Rattle.sdp_item.proofs.is_name.Tie as tie
 

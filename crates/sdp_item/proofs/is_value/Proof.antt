@@ -1,7 +1,7 @@
 -- `is_value` tells octets of a value.
 -- By the definition.
 use mathlib.Core.Path.{refl}
-use Rattle.sdp.specs.Text.{isValue}
+use Rattle.sdp_spec.specs.Text.{isValue}
 use Rattle.sdp_item.proofs.is_value.Statement.{statement}
 use Rattle.sdp_item.proofs.is_value.Tie as tie
 

@@ -7,8 +7,8 @@ use native.Mathlib.Nat.{zero-add}
 use native.Mathlib.Omega.{arith}
 use lib.ListN.{length, drop}
 use borrow.Author.Tests.{not-true, not-false}
-use Rattle.sdp.specs.Reading.{nameLength}
-use Rattle.sdp.proofs.ItemLaws.{name-next, name-stops, name-ends}
+use Rattle.sdp_spec.specs.Reading.{nameLength}
+use Rattle.sdp_spec.proofs.ItemLaws.{name-next, name-stops, name-ends}
 use Rattle.sdp_item.proofs.name_length.Statement.{statement}
 use Rattle.sdp_item.proofs.name_length.Tie as tie
 

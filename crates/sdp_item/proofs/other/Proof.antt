@@ -9,11 +9,11 @@ use native.Mathlib.Omega.{arith}
 use lib.Dec.{ltb, eqb}
 use lib.ListN.{length, take, drop, getD}
 use borrow.Author.Tests.{lt-ltb, le-ltb, eq-eqb, ne-eqb, not-true, not-false}
-use Rattle.wire.proofs.ListLaws.{part-all}
-use Rattle.sdp.specs.declared.item.Item.the-variants.{Other, Malformed}
-use Rattle.sdp.specs.Text.{equalsSign}
-use Rattle.sdp.specs.Reading.{nameLength, areValue, otherOf}
-use Rattle.sdp.proofs.ItemLaws.{name-inside}
+use Rattle.wire_spec.proofs.ListLaws.{part-all}
+use Rattle.sdp_spec.specs.declared.item.Item.the-variants.{Other, Malformed}
+use Rattle.sdp_spec.specs.Text.{equalsSign}
+use Rattle.sdp_spec.specs.Reading.{nameLength, areValue, otherOf}
+use Rattle.sdp_spec.proofs.ItemLaws.{name-inside}
 use Rattle.sdp_item.proofs.other.Statement.{statement}
 use Rattle.sdp_item.proofs.other.Tie as tie
 

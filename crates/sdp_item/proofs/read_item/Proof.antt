@@ -3,10 +3,10 @@
 use borrow.Author.Needs.{needs}
 use mathlib.Core.Path.{_≡_, ap, sym, _∙_}
 use mathlib.Core.Bool.{true, false}
-use Rattle.wire.proofs.ListLaws.{part-all}
-use Rattle.sdp.specs.Text.{didSdidWord, vpidCodeWord}
-use Rattle.sdp.specs.Reading.{startsWith, didSdidOf, vpidCodeOf, itemOf}
-use Rattle.sdp.proofs.ItemLaws.{starts-length}
+use Rattle.wire_spec.proofs.ListLaws.{part-all}
+use Rattle.sdp_spec.specs.Text.{didSdidWord, vpidCodeWord}
+use Rattle.sdp_spec.specs.Reading.{startsWith, didSdidOf, vpidCodeOf, itemOf}
+use Rattle.sdp_spec.proofs.ItemLaws.{starts-length}
 use Rattle.sdp_item.proofs.read_item.Statement.{statement}
 use Rattle.sdp_item.proofs.read_item.Tie as tie
 

@@ -5,8 +5,8 @@ use mathlib.Core.Path.{_≡_, sym, _∙_}
 use Prim.Native.Nat.{_≤_, _-_}
 use native.Mathlib.Omega.{arith}
 use lib.ListN.{length, drop}
-use Rattle.sdp.specs.Reading.{startsWith}
-use Rattle.sdp.proofs.ItemLaws.{starts-short, starts-same, starts-differs, starts-end}
+use Rattle.sdp_spec.specs.Reading.{startsWith}
+use Rattle.sdp_spec.proofs.ItemLaws.{starts-short, starts-same, starts-differs, starts-end}
 use Rattle.sdp_item.proofs.starts_with.Statement.{statement}
 use Rattle.sdp_item.proofs.starts_with.Tie as tie
 

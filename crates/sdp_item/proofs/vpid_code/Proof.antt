@@ -8,10 +8,10 @@ use native.Mathlib.Omega.{arith}
 use lib.ListN.{length}
 use borrow.Author.Tests.{lt-ltb, le-ltb, le-leb, lt-leb, eq-eqb, ne-eqb}
 use Rattle.sdp_item.specs.declared.Digits.{Digits}
-use Rattle.sdp.specs.declared.item.Item.the-variants.{VpidCode, Malformed}
+use Rattle.sdp_spec.specs.declared.item.Item.the-variants.{VpidCode, Malformed}
 use Rattle.sdp_item.specs.Answers.{digitsOf}
-use Rattle.sdp.specs.Text.{number, decimalBase, decimalMost, maxCode}
-use Rattle.sdp.specs.Reading.{digits, vpidCodeOf}
+use Rattle.sdp_spec.specs.Text.{number, decimalBase, decimalMost, maxCode}
+use Rattle.sdp_spec.specs.Reading.{digits, vpidCodeOf}
 use Rattle.sdp_item.proofs.vpid_code.Statement.{statement}
 use Rattle.sdp_item.proofs.vpid_code.Tie as tie
 

@@ -1,5 +1,5 @@
 -- `report` makes turn after turn, and then writes the last line.
--- Invariant: the turns so far are a run, with as many left as there must be (`run` `TurnLaws`); the buffers keep their sizes.
+-- Invariant: the turns so far are a run, with as many left as there must be (`program_spec` `TurnLaws`); the buffers keep their sizes.
 use borrow.Author.Needs.{needs}
 use mathlib.Core.Path.{_≡_, refl, ap, sym, subst, _∙_}
 use mathlib.Core.List.{List, []}
@@ -7,16 +7,16 @@ use native.Mathlib.Omega.{arith}
 use native.Mathlib.Nat.{le-refl}
 use Prim.Native.Nat.{ℕ, _+_, _^_, _<_, _≤_}
 use lib.ListN.{length}
-use Rattle.run.specs.Run.{Started, at, turning}
-use Rattle.run.proofs.RunLaws.{bounds, still-enough}
-use Rattle.run.proofs.StepLaws.{first-put, text-put}
-use Rattle.run.proofs.TurnLaws.{Sofar, fewer, first-turn, next-turn}
-use Rattle.wire.specs.Layout.{Layout}
-use Rattle.report.specs.Answers.{begun}
-use Rattle.report_lines.specs.Lines.{linesRoom}
-use Rattle.report_turns.specs.declared.Run.{Run}
-use Rattle.report_turns.specs.Turns.{Enough, program, started}
-use Rattle.report_turns.proofs.RunLaws.{ended, index-made}
+use Rattle.program_spec.specs.Run.{Started, at, turning}
+use Rattle.program_spec.proofs.RunLaws.{bounds, still-enough}
+use Rattle.program_spec.proofs.StepLaws.{first-put, text-put}
+use Rattle.program_spec.proofs.TurnLaws.{Sofar, fewer, first-turn, next-turn}
+use Rattle.wire_spec.specs.Layout.{Layout}
+use Rattle.streamcheck_session.specs.Answers.{begun}
+use Rattle.streamcheck_lines.specs.Lines.{linesRoom}
+use Rattle.streamcheck_turns.specs.declared.Run.{Run}
+use Rattle.streamcheck_turns.specs.Turns.{Enough, program, started}
+use Rattle.streamcheck_turns.proofs.RunLaws.{ended, index-made}
 use Rattle.streamcheck.proofs.report.Statement.{statement}
 use Rattle.streamcheck.proofs.report.Tie as tie
 

@@ -2,7 +2,7 @@
 -- By the copy's contract, over the octets from that place on.
 use borrow.Author.Needs.{needs}
 use mathlib.Core.Path.{refl}
-use Rattle.wire.proofs.ListLaws.{part-written}
+use Rattle.wire_spec.proofs.ListLaws.{part-written}
 use Rattle.text.proofs.put.Statement.{statement}
 use Rattle.text.proofs.put.Tie as tie
 

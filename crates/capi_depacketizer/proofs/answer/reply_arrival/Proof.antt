@@ -2,8 +2,8 @@
 -- By the answer of the library.
 use borrow.Author.Needs.{needs}
 use mathlib.Core.Path.{ap, sym, _∙_}
-use Rattle.wire.specs.Bits.{overwrite}
-use Rattle.stream.specs.declared.state.Answer.{Answer}
+use Rattle.wire_spec.specs.Bits.{overwrite}
+use Rattle.depacketizer_spec.specs.declared.state.Answer.{Answer}
 use Rattle.capi_depacketizer.specs.Rows.{arrivalReply}
 use Rattle.capi_depacketizer.proofs.answer.reply_arrival.Statement.{statement}
 use Rattle.capi_depacketizer.proofs.answer.reply_arrival.Tie as tie

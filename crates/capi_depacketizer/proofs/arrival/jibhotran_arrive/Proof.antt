@@ -5,19 +5,19 @@ use mathlib.Core.Path.{_≡_, ap, sym, _∙_}
 use mathlib.Core.Bool.{true}
 use borrow.Author.Tests.{not-true, not-false, le-leb, lt-leb}
 use lib.ListN.{length}
-use Rattle.wire.specs.Bits.{overwrite}
-use Rattle.wire.specs.Layout.{Layout}
-use Rattle.stream.specs.Step.{step}
+use Rattle.wire_spec.specs.Bits.{overwrite}
+use Rattle.wire_spec.specs.Layout.{Layout}
+use Rattle.depacketizer_spec.specs.Step.{step}
 use Rattle.depacketizer.specs.Answers.{arrivalOf}
 use Rattle.depacketizer.specs.declared.state.Arrival.{Arrival}
-use Rattle.state_row.specs.declared.state.Restored.{Restored}
-use Rattle.boundary.specs.Rows.{answerSize, lastLayout, layoutOf}
+use Rattle.capi_state.specs.declared.state.Restored.{Restored}
+use Rattle.capi_answer.specs.Rows.{answerSize, lastLayout, layoutOf}
 use Rattle.capi_depacketizer.specs.Calls.{Arrived, arrive, arrivedAt, rowsFit, stateAfter}
 use Rattle.capi_depacketizer.specs.Rows.{arrivalReply}
-use Rattle.state_row.specs.State.{stateSize}
+use Rattle.capi_state.specs.State.{stateSize}
 use Prim.Native.Nat.{_≤_}
-use Rattle.state_row.specs.declared.state.Restored.the-variants as restored
-use Rattle.state_row.specs.State.{numbersOf}
+use Rattle.capi_state.specs.declared.state.Restored.the-variants as restored
+use Rattle.capi_state.specs.State.{numbersOf}
 use Rattle.capi_depacketizer.proofs.RowLaws.{rows-long}
 use Rattle.capi_depacketizer.proofs.arrival.jibhotran_arrive.Statement.{statement}
 use Rattle.capi_depacketizer.proofs.arrival.jibhotran_arrive.Tie as tie

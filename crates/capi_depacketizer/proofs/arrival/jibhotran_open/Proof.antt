@@ -6,12 +6,12 @@ use mathlib.Core.Bool.{true}
 use Prim.Native.Nat.{_≤_}
 use borrow.Author.Tests.{not-true, not-false}
 use lib.ListN.{length}
-use Rattle.wire.specs.Bits.{overwrite}
+use Rattle.wire_spec.specs.Bits.{overwrite}
 use Rattle.depacketizer.specs.declared.state.Opened.{Opened}
-use Rattle.boundary.specs.Rows.{answerSize}
+use Rattle.capi_answer.specs.Rows.{answerSize}
 use Rattle.capi_depacketizer.specs.Calls.{openedIn, openedNumbers, openedReply, rowsFit}
-use Rattle.state_row.specs.State.{stateSize}
-use Rattle.state_row.specs.State.{stateIn}
+use Rattle.capi_state.specs.State.{stateSize}
+use Rattle.capi_state.specs.State.{stateIn}
 use Rattle.capi_depacketizer.proofs.RowLaws.{rows-long}
 use Rattle.capi_depacketizer.proofs.arrival.jibhotran_open.Statement.{statement}
 use Rattle.capi_depacketizer.proofs.arrival.jibhotran_open.Tie as tie

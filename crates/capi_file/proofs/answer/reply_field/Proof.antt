@@ -2,8 +2,8 @@
 -- By the answer.
 use borrow.Author.Needs.{needs}
 use mathlib.Core.Path.{ap, sym, _∙_}
-use Rattle.fieldfile.specs.declared.field.FieldRead.{FieldRead}
-use Rattle.wire.specs.Bits.{overwrite}
+use Rattle.fieldfile_reader.specs.declared.field.FieldRead.{FieldRead}
+use Rattle.wire_spec.specs.Bits.{overwrite}
 use Rattle.capi_file.specs.Rows.{fieldReply}
 use Rattle.capi_file.proofs.answer.reply_field.Statement.{statement}
 use Rattle.capi_file.proofs.answer.reply_field.Tie as tie

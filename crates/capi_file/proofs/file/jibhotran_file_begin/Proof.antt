@@ -4,9 +4,9 @@ use borrow.Author.Needs.{needs}
 use mathlib.Core.Path.{ap, _∙_}
 use borrow.Author.Tests.{le-leb, lt-leb}
 use lib.ListN.{length}
-use Rattle.wire.specs.declared.written.Written.{Written}
-use Rattle.wire.specs.Bits.{overwrite}
-use Rattle.boundary.specs.Rows.{answerSize, writtenReply}
+use Rattle.wire_spec.specs.declared.written.Written.{Written}
+use Rattle.wire_spec.specs.Bits.{overwrite}
+use Rattle.capi_answer.specs.Rows.{answerSize, writtenReply}
 use Rattle.capi_file.proofs.file.jibhotran_file_begin.Statement.{statement}
 use Rattle.capi_file.proofs.file.jibhotran_file_begin.Tie as tie
 

@@ -4,9 +4,9 @@ use borrow.Author.Needs.{needs}
 use mathlib.Core.Path.{ap, _∙_}
 use borrow.Author.Tests.{le-leb, lt-leb}
 use lib.ListN.{length}
-use Rattle.wire.specs.Bits.{overwrite}
-use Rattle.fieldfile.specs.declared.field.FieldRead.{FieldRead}
-use Rattle.boundary.specs.Rows.{answerSize}
+use Rattle.wire_spec.specs.Bits.{overwrite}
+use Rattle.fieldfile_reader.specs.declared.field.FieldRead.{FieldRead}
+use Rattle.capi_answer.specs.Rows.{answerSize}
 use Rattle.capi_file.specs.Rows.{fieldReply}
 use Rattle.capi_file.proofs.file.jibhotran_file_read.Statement.{statement}
 use Rattle.capi_file.proofs.file.jibhotran_file_read.Tie as tie

@@ -4,9 +4,9 @@ use borrow.Author.Needs.{needs}
 use mathlib.Core.Path.{ap, _∙_}
 use borrow.Author.Tests.{le-leb, lt-leb}
 use lib.ListN.{length}
-use Rattle.wire.specs.Bits.{overwrite}
-use Rattle.sdi_line.specs.declared.answer.ReadLine.{ReadLine}
-use Rattle.boundary.specs.Rows.{answerSize}
+use Rattle.wire_spec.specs.Bits.{overwrite}
+use Rattle.sdi_spec.specs.declared.answer.ReadLine.{ReadLine}
+use Rattle.capi_answer.specs.Rows.{answerSize}
 use Rattle.capi_file.specs.Rows.{lineFoundReply}
 use Rattle.capi_file.proofs.line.jibhotran_line_read.Statement.{statement}
 use Rattle.capi_file.proofs.line.jibhotran_line_read.Tie as tie

@@ -2,8 +2,8 @@
 -- By the answer.
 use borrow.Author.Needs.{needs}
 use mathlib.Core.Path.{ap, sym, _∙_}
-use Rattle.reader.specs.declared.packet.TolerantRead.{TolerantRead}
-use Rattle.wire.specs.Bits.{overwrite}
+use Rattle.rtp_reader.specs.declared.packet.TolerantRead.{TolerantRead}
+use Rattle.wire_spec.specs.Bits.{overwrite}
 use Rattle.capi_packet.specs.Rows.{packetReply}
 use Rattle.capi_packet.proofs.answer.reply_read.Statement.{statement}
 use Rattle.capi_packet.proofs.answer.reply_read.Tie as tie

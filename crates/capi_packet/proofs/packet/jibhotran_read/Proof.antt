@@ -6,11 +6,11 @@ use mathlib.Core.List.{List}
 use Prim.Native.Nat.{ℕ, _≤_}
 use borrow.Author.Tests.{le-leb, lt-leb}
 use lib.ListN.{length}
-use Rattle.wire.specs.Layout.{Layout}
-use Rattle.wire.specs.Bits.{overwrite}
-use Rattle.reader.specs.Entry.{tolerantReturns, tolerantLeaves}
-use Rattle.reader.specs.declared.packet.TolerantRead.{TolerantRead}
-use Rattle.boundary.specs.Rows.{answerSize, lastLayout, layoutOf}
+use Rattle.wire_spec.specs.Layout.{Layout}
+use Rattle.wire_spec.specs.Bits.{overwrite}
+use Rattle.rtp_reader.specs.Entry.{tolerantReturns, tolerantLeaves}
+use Rattle.rtp_reader.specs.declared.packet.TolerantRead.{TolerantRead}
+use Rattle.capi_answer.specs.Rows.{answerSize, lastLayout, layoutOf}
 use Rattle.capi_packet.specs.Calls.{readCells, readReply}
 use Rattle.capi_packet.specs.Rows.{packetReply}
 use Rattle.capi_packet.proofs.packet.jibhotran_read.Statement.{statement}

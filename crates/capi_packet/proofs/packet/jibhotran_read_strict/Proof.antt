@@ -4,12 +4,12 @@ use borrow.Author.Needs.{needs}
 use mathlib.Core.Path.{ap, _∙_}
 use borrow.Author.Tests.{le-leb, lt-leb}
 use lib.ListN.{length}
-use Rattle.wire.specs.Layout.{Layout}
-use Rattle.wire.specs.Bits.{overwrite}
-use Rattle.wire.specs.Packet.{readInto}
-use Rattle.rtp.specs.Answers.{readOf, cellsAfter}
-use Rattle.reader.specs.Answers.{strictOf}
-use Rattle.boundary.specs.Rows.{answerSize, lastLayout}
+use Rattle.wire_spec.specs.Layout.{Layout}
+use Rattle.wire_spec.specs.Bits.{overwrite}
+use Rattle.wire_spec.specs.Packet.{readInto}
+use Rattle.rtp_strict_reader.specs.Answers.{readOf, cellsAfter}
+use Rattle.rtp_reader.specs.Answers.{strictOf}
+use Rattle.capi_answer.specs.Rows.{answerSize, lastLayout}
 use Rattle.capi_packet.specs.Rows.{packetReply}
 use Rattle.capi_packet.proofs.packet.jibhotran_read_strict.Statement.{statement}
 use Rattle.capi_packet.proofs.packet.jibhotran_read_strict.Tie as tie

@@ -4,12 +4,12 @@ use borrow.Author.Needs.{needs}
 use mathlib.Core.Path.{ap, _∙_}
 use borrow.Author.Tests.{le-leb, lt-leb}
 use lib.ListN.{length}
-use Rattle.wire.specs.Layout.{Layout}
-use Rattle.wire.specs.Bits.{overwrite}
-use Rattle.wire.specs.Writing.{writeContent}
-use Rattle.wire.specs.Written.{octetsAfter, writtenOf}
-use Rattle.packetizer.specs.Answers.{contentOf}
-use Rattle.boundary.specs.Rows.{answerSize, lastLayout, writtenReply}
+use Rattle.wire_spec.specs.Layout.{Layout}
+use Rattle.wire_spec.specs.Bits.{overwrite}
+use Rattle.wire_spec.specs.Writing.{writeContent}
+use Rattle.wire_spec.specs.Written.{octetsAfter, writtenOf}
+use Rattle.rtp_writer.specs.Answers.{contentOf}
+use Rattle.capi_answer.specs.Rows.{answerSize, lastLayout, writtenReply}
 use Rattle.capi_packet.specs.Calls.{headOf}
 use Rattle.capi_packet.proofs.packet.jibhotran_write.Statement.{statement}
 use Rattle.capi_packet.proofs.packet.jibhotran_write.Tie as tie

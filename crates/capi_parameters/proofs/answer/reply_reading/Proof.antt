@@ -2,8 +2,8 @@
 -- By the answer.
 use borrow.Author.Needs.{needs}
 use mathlib.Core.Path.{ap, sym, _∙_}
-use Rattle.fmtp.specs.declared.Reading.{Reading}
-use Rattle.wire.specs.Bits.{overwrite}
+use Rattle.sdp_reader.specs.declared.Reading.{Reading}
+use Rattle.wire_spec.specs.Bits.{overwrite}
 use Rattle.capi_parameters.specs.Rows.{parametersReply}
 use Rattle.capi_parameters.proofs.answer.reply_reading.Statement.{statement}
 use Rattle.capi_parameters.proofs.answer.reply_reading.Tie as tie

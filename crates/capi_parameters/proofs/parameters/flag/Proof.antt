@@ -1,6 +1,6 @@
 -- `flag` gives 1 for a yes, and 0 for a no.
 use mathlib.Core.Path.{ap, sym}
-use Rattle.wire.specs.Bits.{bit}
+use Rattle.wire_spec.specs.Bits.{bit}
 use Rattle.capi_parameters.proofs.parameters.flag.Statement.{statement}
 use Rattle.capi_parameters.proofs.parameters.flag.Tie as tie
 

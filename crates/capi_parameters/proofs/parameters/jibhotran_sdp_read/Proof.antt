@@ -4,9 +4,9 @@ use borrow.Author.Needs.{needs}
 use mathlib.Core.Path.{ap, _∙_}
 use borrow.Author.Tests.{le-leb, lt-leb}
 use lib.ListN.{length}
-use Rattle.wire.specs.Bits.{overwrite}
-use Rattle.fmtp.specs.declared.Reading.{Reading}
-use Rattle.boundary.specs.Rows.{answerSize}
+use Rattle.wire_spec.specs.Bits.{overwrite}
+use Rattle.sdp_reader.specs.declared.Reading.{Reading}
+use Rattle.capi_answer.specs.Rows.{answerSize}
 use Rattle.capi_parameters.specs.Rows.{parametersReply}
 use Rattle.capi_parameters.proofs.parameters.jibhotran_sdp_read.Statement.{statement}
 use Rattle.capi_parameters.proofs.parameters.jibhotran_sdp_read.Tie as tie

@@ -2,7 +2,7 @@
 -- By the contracts of `wanted` and `flag`.
 use borrow.Author.Needs.{needs}
 use mathlib.Core.Path.{ap, _∙_}
-use Rattle.wire.specs.Bits.{bit}
+use Rattle.wire_spec.specs.Bits.{bit}
 use Rattle.capi_parameters.proofs.parameters.jibhotran_wanted.Statement.{statement}
 use Rattle.capi_parameters.proofs.parameters.jibhotran_wanted.Tie as tie
 

@@ -35,14 +35,14 @@ use denote.Triple.Spec.{Meets, tripleOf}
 use denote.Triple.Table.{entered, cited}
 use denote.Triple.Walked.{says, Stays, stay-none, stay-none-slice, walkOf, AllGo, goes-none, goes-none-slice, Walks, ends-at, walked, walk-meets}
 use denote.Exit.{yes}
-use Rattle.wire.specs.Bits.{bit}
-use Rattle.filter.specs.Wanted.{wantedOf}
-use Rattle.filter.specs.declared.DidSdid.{DidSdid}
-use Rattle.filter.proofs.DidSdid as T
-use Rattle.filter.proofs.wanted_of as wanted
-use Rattle.filter.proofs.wanted_of.Symbol as wanted-def
-use Rattle.filter.proofs.wanted_of.Symbol.{name as #filter·wanted-of}
-use Rattle.filter.proofs.wanted_of.Met as wanted-thm
+use Rattle.wire_spec.specs.Bits.{bit}
+use Rattle.anc_filter.specs.Wanted.{wantedOf}
+use Rattle.anc_filter.specs.declared.DidSdid.{DidSdid}
+use Rattle.anc_filter.proofs.DidSdid as T
+use Rattle.anc_filter.proofs.wanted_of as wanted
+use Rattle.anc_filter.proofs.wanted_of.Symbol as wanted-def
+use Rattle.anc_filter.proofs.wanted_of.Symbol.{name as #anc-filter·wanted-of}
+use Rattle.anc_filter.proofs.wanted_of.Met as wanted-thm
 use Rattle.capi_parameters.proofs.parameters.flag as flag
 use Rattle.capi_parameters.proofs.parameters.flag.Symbol as flag-def
 use Rattle.capi_parameters.proofs.parameters.flag.Symbol.{name as #capi·flag}
@@ -121,7 +121,7 @@ module _ {M : Type 1} (𝓤 : URA M) (H : Heap 𝓤) (A : Atoms 𝓤) (W : Given
       move ! (1 ∷ []) $ frame ! $ nothing ! $ move ! (2 ∷ 0 ∷ []) $ fjoin ! $
       owned ! u8 (Is u8) (uint-makes 𝓤 H A W w8) s _ (refl, gs) $ fjoin ! $ owned ! u8 (Is u8) (uint-makes 𝓤 H A W w8) d _ (refl, gd) $ fjoin ! $ frame ! $ done !
 
-  walk : (𝓣 : Tables 𝓤 H) → Triple 𝓤 (𝓣 .C #filter·wanted-of) (Wanted 𝓤 H A mem run) → Triple 𝓤 (𝓣 .C #capi·flag) (Flag 𝓤 H A mem run)
+  walk : (𝓣 : Tables 𝓤 H) → Triple 𝓤 (𝓣 .C #anc-filter·wanted-of) (Wanted 𝓤 H A mem run) → Triple 𝓤 (𝓣 .C #capi·flag) (Flag 𝓤 H A mem run)
       → ent 𝓤 (onEntry 𝓤 H A fn.signature (κ, tt) (q, tt) (d, (s, (ref, tt))) at) (WpFn 𝓤 H (𝓣 .C) (𝓣 .Λ) code.function (vint w8 d ∷ vint w8 s ∷ v ∷ []) Post)
   walk 𝓣 known-wanted known-flag =
       qed W (raw (onEntry 𝓤 H A fn.signature (κ, tt) (q, tt) (d, (s, (ref, tt))) at) ∷ []) ∵ enter ! (𝓣 .C) (𝓣 .Λ) code.function (vint w8 d ∷ vint w8 s ∷ v ∷ []) _ $
@@ -146,7 +146,7 @@ module _ {M : Type 1} (𝓤 : URA M) (H : Heap 𝓤) (A : Atoms 𝓤) (W : Given
       move ! (11 ∷ 12 ∷ []) $ free1 ! $ move ! (9 ∷ 10 ∷ []) $ free1 ! $ move ! (7 ∷ 8 ∷ []) $ free1 ! $ move ! (5 ∷ 6 ∷ []) $ free1 ! $ move ! (3 ∷ 4 ∷ []) $ free1 ! $ free0 ! $
       by ! (exits r u′ (e₂ ∙ ap bit e₁)))))))))))))))
 
-module _ {M : Type 1} (𝓤 : URA M) (H : Heap 𝓤) (A : Atoms 𝓤) (W : Given 𝓤 H A) (mem : Memory → SProp 𝓤) (run : Routine → Fun 𝓤) (𝓣 : Tables 𝓤 H) (known-wanted : Triple 𝓤 (𝓣 .C #filter·wanted-of) (Wanted 𝓤 H A mem run)) (known-flag : Triple 𝓤 (𝓣 .C #capi·flag) (Flag 𝓤 H A mem run)) where
+module _ {M : Type 1} (𝓤 : URA M) (H : Heap 𝓤) (A : Atoms 𝓤) (W : Given 𝓤 H A) (mem : Memory → SProp 𝓤) (run : Routine → Fun 𝓤) (𝓣 : Tables 𝓤 H) (known-wanted : Triple 𝓤 (𝓣 .C #anc-filter·wanted-of) (Wanted 𝓤 H A mem run)) (known-flag : Triple 𝓤 (𝓣 .C #capi·flag) (Flag 𝓤 H A mem run)) where
   fn-walks : Walks 𝓤 H A fn.ended stayed (WpFn 𝓤 H (𝓣 .C) (𝓣 .Λ) code.function) (fn.clauses 𝓤 H A mem run)
   fn-walks = walked 𝓤 H A fn.ended stayed (fn.clauses 𝓤 H A mem run) (WpFn 𝓤 H (𝓣 .C) (𝓣 .Λ) code.function) (λ κs. (uint-vals w8, (uint-vals w8, (slice-vals, tt)))) (λ κs. (uint-tells w8, (uint-tells w8, (shr-slice-tells (named 0) (κs .0) R, tt))))
       (λ κs qs bounds a g are. via 𝓤 _ (fst∗ 𝓤 _ (emp 𝓤)) (walk 𝓤 H A W mem run (κs .0) (qs .0) (a .0) (a .1 .0) (a .1 .1 .0) (are .0 .1) (are .1 .0 .1) (are .1 .1 .0 .0 .1 .0) 𝓣 known-wanted known-flag))
@@ -163,5 +163,5 @@ jibhotran-wanted-of-spec 𝓤 H 𝓜 𝓖 𝓡 =
     entered 𝓤 H (tripleOf 𝓤 H (𝓖 .A) fn.signature (fn.spec 𝓤 H (𝓖 .A) (𝓜 .mem) (𝓡 .run)))
     (tables 𝓤 H 𝓜 𝓡 code.env .C) (tables 𝓤 H 𝓜 𝓡 code.env .Λ) #capi·wanted-of code.function (code.unfolded 𝓤 H 𝓜 𝓡)
     (fn-meets 𝓤 H (𝓖 .A) (givenOf 𝓤 H 𝓜 𝓖) (𝓜 .mem) (𝓡 .run) (tablesOf 𝓤 H 𝓜 (tables 𝓤 H 𝓜 𝓡 code.env))
-    (cited 𝓤 H (Wanted 𝓤 H (𝓖 .A) (𝓜 .mem) (𝓡 .run)) 𝓜 𝓡 code.env #filter·wanted-of wanted-def.routine code.calls-filter·wanted-of (wanted-thm.met 𝓤 H 𝓜 𝓖 𝓡))
+    (cited 𝓤 H (Wanted 𝓤 H (𝓖 .A) (𝓜 .mem) (𝓡 .run)) 𝓜 𝓡 code.env #anc-filter·wanted-of wanted-def.routine code.calls-anc-filter·wanted-of (wanted-thm.met 𝓤 H 𝓜 𝓖 𝓡))
     (cited 𝓤 H (Flag 𝓤 H (𝓖 .A) (𝓜 .mem) (𝓡 .run)) 𝓜 𝓡 code.env #capi·flag flag-def.routine code.calls-capi-parameters·parameters·flag (flag-thm.met 𝓤 H 𝓜 𝓖 𝓡)))

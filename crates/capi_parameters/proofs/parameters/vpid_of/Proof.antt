@@ -2,7 +2,7 @@
 -- By the test against the largest code.
 use borrow.Author.Needs.{needs}
 use borrow.Author.Tests.{le-leb, lt-leb}
-use Rattle.sdp.specs.Text.{maxCode}
+use Rattle.sdp_spec.specs.Text.{maxCode}
 use Rattle.capi_parameters.proofs.parameters.vpid_of.Statement.{statement}
 use Rattle.capi_parameters.proofs.parameters.vpid_of.Tie as tie
 

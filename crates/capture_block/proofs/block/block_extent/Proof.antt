@@ -6,7 +6,7 @@ use native.Mathlib.Omega.{arith}
 use borrow.Author.Tests.{eq-eqb, ne-eqb, le-ltb, lt-ltb, leb-true, not-true, not-false}
 use lib.Dec.{eqb, leb}
 use Prim.Native.Nat.{_%_}
-use Rattle.capture.proofs.StepLaws.{and-left}
+use Rattle.capture_spec.proofs.StepLaws.{and-left}
 use Rattle.capture_block.proofs.block.block_extent.Statement.{statement}
 use Rattle.capture_block.proofs.block.block_extent.Tie as tie
 

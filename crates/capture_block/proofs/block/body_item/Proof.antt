@@ -5,8 +5,8 @@ use mathlib.Core.Path.{ap, _∙_}
 use Prim.Native.Nat.{ℕ}
 use native.Mathlib.Omega.{arith}
 use borrow.Author.Tests.{eq-eqb, ne-eqb}
-use Rattle.capture.specs.Step.{enhancedItem}
-use Rattle.capture.proofs.StepLaws.{least}
+use Rattle.capture_spec.specs.Step.{enhancedItem}
+use Rattle.capture_spec.proofs.StepLaws.{least}
 use Rattle.capture_block.proofs.block.body_item.Statement.{statement}
 use Rattle.capture_block.proofs.block.body_item.Tie as tie
 

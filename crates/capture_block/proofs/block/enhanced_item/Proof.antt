@@ -3,7 +3,7 @@
 use borrow.Author.Needs.{needs}
 use mathlib.Core.Path.{ap, _∙_}
 use Prim.Native.Nat.{ℕ, _-_}
-use Rattle.capture.specs.Step.{packetFrom}
+use Rattle.capture_spec.specs.Step.{packetFrom}
 use Rattle.capture_block.proofs.block.enhanced_item.Statement.{statement}
 use Rattle.capture_block.proofs.block.enhanced_item.Tie as tie
 

@@ -2,7 +2,7 @@
 -- By the test.
 use borrow.Author.Needs.{needs}
 use borrow.Author.Tests.{le-ltb, lt-ltb}
-use Rattle.capture.specs.declared.state.Item.the-variants as item
+use Rattle.capture_spec.specs.declared.state.Item.the-variants as item
 use Rattle.capture_block.proofs.block.interface_item.Statement.{statement}
 use Rattle.capture_block.proofs.block.interface_item.Tie as tie
 

@@ -1,7 +1,7 @@
 -- `half_at` is the number of two octets.
 -- In either order.
 use borrow.Author.Needs.{needs}
-use Rattle.capture.specs.Numbers.{halfAt}
+use Rattle.capture_spec.specs.Numbers.{halfAt}
 use Rattle.capture_block.proofs.number.half_at.Statement.{statement}
 use Rattle.capture_block.proofs.number.half_at.Tie as tie
 

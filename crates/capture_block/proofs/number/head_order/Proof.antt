@@ -2,7 +2,7 @@
 -- By the number in both.
 use borrow.Author.Needs.{needs}
 use mathlib.Core.Path.{ap, _∙_}
-use Rattle.capture.specs.Numbers.{isMagic, ordering}
+use Rattle.capture_spec.specs.Numbers.{isMagic, ordering}
 use Rattle.capture_block.proofs.number.head_order.Statement.{statement}
 use Rattle.capture_block.proofs.number.head_order.Tie as tie
 

@@ -3,7 +3,7 @@
 use borrow.Author.Needs.{needs}
 use mathlib.Core.Path.{_∙_}
 use lib.Dec.{eqb}
-use Rattle.capture.specs.Numbers.{orderMagic, ordering}
+use Rattle.capture_spec.specs.Numbers.{orderMagic, ordering}
 use Rattle.capture_block.proofs.number.section_order.Statement.{statement}
 use Rattle.capture_block.proofs.number.section_order.Tie as tie
 

@@ -1,7 +1,7 @@
 -- `word_at` is the number of four octets.
 -- In either order.
 use borrow.Author.Needs.{needs}
-use Rattle.capture.specs.Numbers.{wordAt}
+use Rattle.capture_spec.specs.Numbers.{wordAt}
 use Rattle.capture_block.proofs.number.word_at.Statement.{statement}
 use Rattle.capture_block.proofs.number.word_at.Tie as tie
 

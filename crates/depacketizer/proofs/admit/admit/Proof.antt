@@ -4,13 +4,13 @@ use borrow.Author.Needs.{needs}
 use mathlib.Core.Path.{_≡_, ap, sym, _∙_}
 use mathlib.Core.Bool.{Bool}
 use mathlib.Core.List.{[], _∷_}
-use Rattle.wire.specs.Packet.{readContent}
-use Rattle.rtp.specs.Answers.{summaryOf}
-use Rattle.rtp.specs.declared.packet.Summary.{Summary}
-use Rattle.rtp.specs.declared.packet.Checked.the-variants as checked
-use Rattle.rtp.proofs.ReadLaws.{refused-is, Found, found, summary-is}
+use Rattle.wire_spec.specs.Packet.{readContent}
+use Rattle.rtp_strict_reader.specs.Answers.{summaryOf}
+use Rattle.rtp_strict_reader.specs.declared.packet.Summary.{Summary}
+use Rattle.rtp_strict_reader.specs.declared.packet.Checked.the-variants as checked
+use Rattle.rtp_strict_reader.proofs.ReadLaws.{refused-is, Found, found, summary-is}
 use Rattle.depacketizer.specs.declared.admit.Stage.the-variants as stage
-use Rattle.stream.specs.Step.{sound, openedChecks}
+use Rattle.depacketizer_spec.specs.Step.{sound, openedChecks}
 use Rattle.depacketizer.specs.Answers.{stageOf, stageRefusal}
 use Rattle.depacketizer.proofs.AdmitLaws.{told, unread, read}
 use Rattle.depacketizer.proofs.admit.admit.Statement.{statement}

@@ -6,8 +6,8 @@ use mathlib.Core.Bool.{false}
 use Prim.Native.Nat.{_+_, _<_}
 use native.Mathlib.Omega.{arith}
 use borrow.Author.Tests.{not-true, not-false}
-use Rattle.wire.specs.Writing.{maxFieldCells}
-use Rattle.stream.specs.Step.{fits}
+use Rattle.wire_spec.specs.Writing.{maxFieldCells}
+use Rattle.depacketizer_spec.specs.Step.{fits}
 use Rattle.depacketizer.proofs.DecideLaws.{over-cells}
 use Rattle.depacketizer.proofs.decide.join.Statement.{statement}
 use Rattle.depacketizer.proofs.decide.join.Tie as tie

@@ -2,9 +2,9 @@
 -- By the variant that each arm is told.
 use borrow.Author.Needs.{needs}
 use mathlib.Core.Path.{_≡_, ap, sym, _∙_}
-use Rattle.stream.specs.declared.state.State.{State}
-use Rattle.stream.specs.declared.state.Answer.the-variants as answer
-use Rattle.freshness.specs.declared.place.Freshness.{Freshness}
+use Rattle.depacketizer_spec.specs.declared.state.State.{State}
+use Rattle.depacketizer_spec.specs.declared.state.Answer.the-variants as answer
+use Rattle.depacketizer_sequence.specs.declared.place.Freshness.{Freshness}
 use Rattle.depacketizer.specs.declared.state.Arrival.{Arrival}
 use Rattle.depacketizer.specs.Answers.{refusedOf}
 use Rattle.depacketizer.proofs.state.refuse.Statement.{statement}

@@ -8,8 +8,8 @@ use Prim.Native.Nat.{ℕ, zero, suc, _≤_, _-_, _+_, _<_}
 use native.Mathlib.Omega.{arith}
 use lib.ListN.{getD}
 use borrow.Author.Tests.{lt-ltb, le-ltb}
-use Rattle.outlet.specs.Queues.{behind}
-use Rattle.outlet.specs.Step.{turnOf}
+use Rattle.egress_spec.specs.Queues.{behind}
+use Rattle.egress_spec.specs.Step.{turnOf}
 use Rattle.egress_state.proofs.place.turn.Statement.{statement}
 use Rattle.egress_state.proofs.place.turn.Tie as tie
 

@@ -9,7 +9,7 @@ use native.Mathlib.Numerals.{add-one}
 use native.Mathlib.Omega.{arith}
 use lib.ListN.{getD}
 use borrow.Author.Tests.{not-true, not-false}
-use Rattle.outlet.specs.Step.{seek}
+use Rattle.egress_spec.specs.Step.{seek}
 use Rattle.egress_state.proofs.survey.free_slot.Statement.{statement}
 use Rattle.egress_state.proofs.survey.free_slot.Tie as tie
 

@@ -7,8 +7,8 @@ use Prim.Native.Nat.{ℕ, _≤_, _-_, _+_, _<_}
 use native.Mathlib.Omega.{arith}
 use lib.Dec.{ltb}
 use borrow.Author.Tests.{lt-ltb, le-ltb, not-true, not-false}
-use Rattle.outlet.specs.Places.{allUpto, channelOk, numbersOk}
-use Rattle.outlet.proofs.Upto.{upto-fails, upto-more, upto-none}
+use Rattle.egress_spec.specs.Places.{allUpto, channelOk, numbersOk}
+use Rattle.egress_spec.proofs.Upto.{upto-fails, upto-more, upto-none}
 use Rattle.egress_state.proofs.survey.numbers_fit.Statement.{statement}
 use Rattle.egress_state.proofs.survey.numbers_fit.Tie as tie
 

@@ -7,8 +7,8 @@ use Prim.Native.Nat.{ℕ, _≤_, _-_, _+_, _<_}
 use native.Mathlib.Omega.{arith}
 use lib.Dec.{ltb}
 use borrow.Author.Tests.{not-true, not-false}
-use Rattle.outlet.specs.Places.{allUpto, slotOk}
-use Rattle.outlet.proofs.Upto.{upto-fails, upto-more, upto-none}
+use Rattle.egress_spec.specs.Places.{allUpto, slotOk}
+use Rattle.egress_spec.proofs.Upto.{upto-fails, upto-more, upto-none}
 use Rattle.egress_state.proofs.survey.slots_fit.Statement.{statement}
 use Rattle.egress_state.proofs.survey.slots_fit.Tie as tie
 

@@ -9,10 +9,10 @@ use native.Mathlib.Omega.{arith}
 use lib.Dec.{ltb}
 use lib.ListN.{length, length-set}
 use borrow.Author.Tests.{not-true, not-false}
-use Rattle.outlet.specs.Places.{allUpto, placeOk, numbersOk, held, slotAt, lengthFits, usedBelow}
+use Rattle.egress_spec.specs.Places.{allUpto, placeOk, numbersOk, held, slotAt, lengthFits, usedBelow}
 use Rattle.egress_state.proofs.SurveyLaws.{Marks, no-marks, unfit, twice, fit, free, marks-free, marks-held, Fit, fits-below, refuses-memory, refuses-numbers, refuses-place, passes}
-use Rattle.outlet.proofs.PlaceLaws.{head-fits, slot-fits}
-use Rattle.outlet.proofs.Upto.{upto-more, upto-none}
+use Rattle.egress_spec.proofs.PlaceLaws.{head-fits, slot-fits}
+use Rattle.egress_spec.proofs.Upto.{upto-more, upto-none}
 use Rattle.egress_state.proofs.survey.survey.Statement.{statement}
 use Rattle.egress_state.proofs.survey.survey.Tie as tie
 

@@ -4,12 +4,12 @@ use borrow.Author.Needs.{needs}
 use mathlib.Core.Path.{_≡_, ap, sym, _∙_}
 use mathlib.Core.Bool.{true}
 use borrow.Author.Tests.{not-true, not-false}
-use Rattle.wire.specs.Cells.{readList}
-use Rattle.anf.specs.File.{fileFOk}
-use Rattle.wire.specs.Layout.{rfc8331}
-use Rattle.cells.specs.Answers.{listedOf}
-use Rattle.cells.specs.declared.check.Listed.the-variants as listed
-use Rattle.cells.proofs.ListedLaws.{measured-is, unmeasured}
+use Rattle.wire_spec.specs.Cells.{readList}
+use Rattle.fieldfile_spec.specs.File.{fileFOk}
+use Rattle.wire_spec.specs.Layout.{rfc8331}
+use Rattle.anc_writer.specs.Answers.{listedOf}
+use Rattle.anc_writer.specs.declared.check.Listed.the-variants as listed
+use Rattle.anc_writer.proofs.ListedLaws.{measured-is, unmeasured}
 use Rattle.fieldfile_writer.proofs.WriteLaws.{refused-f, refused-list, over-limit, no-room, all-fit}
 use Rattle.fieldfile_writer.proofs.writing.measure.Statement.{statement}
 use Rattle.fieldfile_writer.proofs.writing.measure.Tie as tie

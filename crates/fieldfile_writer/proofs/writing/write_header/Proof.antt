@@ -4,7 +4,7 @@ use borrow.Author.Needs.{needs}
 use mathlib.Core.Path.{ap, _∙_}
 use mathlib.Core.List.{List}
 use Prim.Native.Nat.{ℕ}
-use Rattle.wire.specs.Bits.{overwrite}
+use Rattle.wire_spec.specs.Bits.{overwrite}
 use Rattle.fieldfile_writer.proofs.writing.write_header.Statement.{statement}
 use Rattle.fieldfile_writer.proofs.writing.write_header.Tie as tie
 

@@ -5,10 +5,10 @@ use mathlib.Core.Path.{refl, ap, sym, subst}
 use native.Mathlib.Omega.{arith}
 use Prim.Native.Nat.{_+_, _^_, _<_}
 use lib.ListN.{length}
-use Rattle.run.specs.declared.buffers.Buffers.{Buffers}
-use Rattle.run.specs.declared.buffers.Step.{Step}
-use Rattle.run.specs.Buffers.{Flushed}
-use Rattle.run.specs.Run.{CanStep, Stepped}
+use Rattle.program_spec.specs.declared.buffers.Buffers.{Buffers}
+use Rattle.program_spec.specs.declared.buffers.Step.{Step}
+use Rattle.program_spec.specs.Buffers.{Flushed}
+use Rattle.program_spec.specs.Run.{CanStep, Stepped}
 use Rattle.program.proofs.buffers.after_step.Statement.{statement}
 use Rattle.program.proofs.buffers.after_step.Tie as tie
 

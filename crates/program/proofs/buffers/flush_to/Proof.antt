@@ -6,8 +6,8 @@ use mathlib.Core.Bool.{true, false}
 use native.Mathlib.Omega.{arith}
 use lib.ListN.{length, take}
 use lib.Seq.{length-take-le}
-use Rattle.run.specs.declared.buffers.Written.{Written}
-use Rattle.run.specs.Buffers.{WrittenOf}
+use Rattle.program_spec.specs.declared.buffers.Written.{Written}
+use Rattle.program_spec.specs.Buffers.{WrittenOf}
 use Rattle.program.proofs.buffers.flush_to.Statement.{statement}
 use Rattle.program.proofs.buffers.flush_to.Tie as tie
 

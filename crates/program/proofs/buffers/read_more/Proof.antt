@@ -13,8 +13,8 @@ use lib.Seq.{length-take-le}
 use mir.Facts.{toZ-ofZ}
 use mir.Syntax.{w64}
 use mir.Val.{toZ, ofZ}
-use Rattle.run.specs.Buffers.{Interrupted}
-use Rattle.run.proofs.BufferLaws.{part-moved}
+use Rattle.program_spec.specs.Buffers.{Interrupted}
+use Rattle.program_spec.proofs.BufferLaws.{part-moved}
 use Rattle.program.proofs.ReadLaws.{counted}
 use Rattle.program.proofs.buffers.read_more.Statement.{statement}
 use Rattle.program.proofs.buffers.read_more.Tie as tie

@@ -4,7 +4,7 @@ use borrow.Author.Needs.{needs}
 use mathlib.Core.Path.{refl, sym, subst}
 use mathlib.Core.Bool.{Bool}
 use borrow.Author.Tests.{not-true, not-false}
-use Rattle.run.specs.Buffers.{ReadOn}
+use Rattle.program_spec.specs.Buffers.{ReadOn}
 use Rattle.program.proofs.buffers.refill_to.Statement.{statement}
 use Rattle.program.proofs.buffers.refill_to.Tie as tie
 

@@ -9,11 +9,11 @@ use native.Mathlib.Omega.{arith}
 use borrow.Author.Tests.{le-leb, lt-leb}
 use lib.Dec.{leb}
 use lib.ListN.{length, take, drop}
-use Rattle.wire.specs.Anc.{areHeaderWords}
-use Rattle.wire.specs.Words.{allClear}
-use Rattle.sdi_line.specs.declared.answer.Verdict.the-variants as verdict
-use Rattle.sdi_line.specs.Packets.{lineCount, userWords, packetChecks}
-use Rattle.sdi_line.proofs.CodeLaws.{passed, failed}
+use Rattle.wire_spec.specs.Anc.{areHeaderWords}
+use Rattle.wire_spec.specs.Words.{allClear}
+use Rattle.sdi_spec.specs.declared.answer.Verdict.the-variants as verdict
+use Rattle.sdi_spec.specs.Packets.{lineCount, userWords, packetChecks}
+use Rattle.sdi_spec.proofs.CodeLaws.{passed, failed}
 use Rattle.sdi_check.proofs.check.check_packet.Statement.{statement}
 use Rattle.sdi_check.proofs.check.check_packet.Tie as tie
 

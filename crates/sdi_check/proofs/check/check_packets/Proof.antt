@@ -8,11 +8,11 @@ use Prim.Native.Nat.{ℕ, _+_, _≤_}
 use native.Mathlib.Nat.{zero-add}
 use native.Mathlib.Omega.{arith}
 use lib.ListN.{length, drop, length-drop}
-use Rattle.sdi_line.specs.declared.position.Position.{Position}
-use Rattle.sdi_line.specs.Packets.{hasFlag, packetsFrom, packetsIn}
-use Rattle.sdi_line.specs.Passes.{foundOf, verdictOf}
-use Rattle.wire.proofs.ListLaws.{part-all}
-use Rattle.sdi_line.proofs.WalkLaws.{tally, tally-none, tally-ends, tally-refused, tally-next, Taken, taken, flag-long}
+use Rattle.sdi_spec.specs.declared.position.Position.{Position}
+use Rattle.sdi_spec.specs.Packets.{hasFlag, packetsFrom, packetsIn}
+use Rattle.sdi_spec.specs.Passes.{foundOf, verdictOf}
+use Rattle.wire_spec.proofs.ListLaws.{part-all}
+use Rattle.sdi_spec.proofs.WalkLaws.{tally, tally-none, tally-ends, tally-refused, tally-next, Taken, taken, flag-long}
 use Rattle.sdi_check.proofs.check.check_packets.Statement.{statement}
 use Rattle.sdi_check.proofs.check.check_packets.Tie as tie
 

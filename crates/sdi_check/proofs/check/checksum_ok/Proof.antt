@@ -1,7 +1,7 @@
 -- `checksum_ok` tests the checksum word.
 -- By the words that are summed.
 use borrow.Author.Needs.{needs}
-use Rattle.sdi_line.proofs.CodeLaws.{sum-test}
+use Rattle.sdi_spec.proofs.CodeLaws.{sum-test}
 use Rattle.sdi_check.proofs.check.checksum_ok.Statement.{statement}
 use Rattle.sdi_check.proofs.check.checksum_ok.Tie as tie
 

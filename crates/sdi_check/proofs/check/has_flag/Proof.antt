@@ -2,7 +2,7 @@
 -- By the definition.
 use borrow.Author.Needs.{needs}
 use borrow.Author.Tests.{le-leb, lt-leb}
-use Rattle.sdi_line.specs.Packets.{hasFlag}
+use Rattle.sdi_spec.specs.Packets.{hasFlag}
 use Rattle.sdi_check.proofs.check.has_flag.Statement.{statement}
 use Rattle.sdi_check.proofs.check.has_flag.Tie as tie
 

@@ -2,7 +2,7 @@
 -- Each return knows the tests of the words before it.
 use borrow.Author.Needs.{needs}
 use mathlib.Core.Bool.{and-true}
-use Rattle.sdi_line.proofs.CodeLaws.{headers-test, passed, failed}
+use Rattle.sdi_spec.proofs.CodeLaws.{headers-test, passed, failed}
 use Rattle.sdi_check.proofs.check.header_words_ok.Statement.{statement}
 use Rattle.sdi_check.proofs.check.header_words_ok.Tie as tie
 

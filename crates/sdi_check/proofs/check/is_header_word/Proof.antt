@@ -5,7 +5,7 @@ use mathlib.Core.Path.{ap}
 use Prim.Native.Nat.{ℕ, _%_}
 use native.Mathlib.Omega.{arith}
 use lib.Dec.{eqb}
-use Rattle.wire.specs.Words.{headerNumbers}
+use Rattle.wire_spec.specs.Words.{headerNumbers}
 use Rattle.sdi_check.proofs.check.is_header_word.Statement.{statement}
 use Rattle.sdi_check.proofs.check.is_header_word.Tie as tie
 

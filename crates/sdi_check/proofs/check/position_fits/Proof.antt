@@ -1,7 +1,7 @@
 -- `position_fits` tests the position's fields.
 -- By the definition.
 use mathlib.Core.Path.{refl}
-use Rattle.sdi_line.specs.Line.{positionOk}
+use Rattle.sdi_spec.specs.Line.{positionOk}
 use Rattle.sdi_check.proofs.check.position_fits.Statement.{statement}
 use Rattle.sdi_check.proofs.check.position_fits.Tie as tie
 

@@ -7,8 +7,8 @@ use native.Mathlib.Numerals.{add-one}
 use native.Mathlib.Omega.{arith}
 use lib.ListN.{length, drop, length-set}
 use lib.Seq.{drop-cons, drop-length}
-use Rattle.wire.specs.Bits.{overwrite, splice}
-use Rattle.wire.proofs.ListLaws.{splice-set, splice-none}
+use Rattle.wire_spec.specs.Bits.{overwrite, splice}
+use Rattle.wire_spec.proofs.ListLaws.{splice-set, splice-none}
 use Rattle.sdi_packets.proofs.reading.copy.Statement.{statement}
 use Rattle.sdi_packets.proofs.reading.copy.Tie as tie
 

@@ -4,7 +4,7 @@ use borrow.Author.Needs.{needs}
 use native.Mathlib.Omega.{arith}
 use lib.ListN.{length-set}
 use lib.Seq.{sets-eq}
-use Rattle.sdi_line.specs.Passes.{headOf}
+use Rattle.sdi_spec.specs.Passes.{headOf}
 use Rattle.sdi_packets.proofs.reading.put_head.Statement.{statement}
 use Rattle.sdi_packets.proofs.reading.put_head.Tie as tie
 

@@ -7,11 +7,11 @@ use Prim.Native.Nat.{ℕ, _+_, _-_}
 use native.Mathlib.Omega.{arith}
 use mathlib.Core.Path.{refl}
 use lib.ListN.{length, take, drop}
-use Rattle.wire.specs.Bits.{overwrite}
-use Rattle.wire.specs.Cells.{headCells}
-use Rattle.sdi_line.specs.Packets.{userWords}
-use Rattle.sdi_line.specs.Passes.{headOf}
-use Rattle.sdi_line.proofs.CodeLaws.{two-parts, head-cells}
+use Rattle.wire_spec.specs.Bits.{overwrite}
+use Rattle.wire_spec.specs.Cells.{headCells}
+use Rattle.sdi_spec.specs.Packets.{userWords}
+use Rattle.sdi_spec.specs.Passes.{headOf}
+use Rattle.sdi_spec.proofs.CodeLaws.{two-parts, head-cells}
 use Rattle.sdi_packets.proofs.reading.read_packet.Statement.{statement}
 use Rattle.sdi_packets.proofs.reading.read_packet.Tie as tie
 

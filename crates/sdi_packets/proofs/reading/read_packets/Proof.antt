@@ -7,12 +7,12 @@ use mathlib.Core.List.{List}
 use Prim.Native.Nat.{ℕ, _+_, _-_, _≤_}
 use native.Mathlib.Omega.{arith}
 use lib.ListN.{length, take, drop, length-drop}
-use Rattle.wire.specs.Bits.{overwrite}
-use Rattle.wire.specs.Cells.{headCells, cellsOf}
-use Rattle.wire.proofs.ListLaws.{part-all, part-written}
-use Rattle.sdi_line.specs.Packets.{hasFlag, lineCount, lineRecord, packetsIn}
-use Rattle.sdi_line.specs.Passes.{foundCells}
-use Rattle.sdi_line.proofs.WalkLaws.{ToRead, ReadNext, to-read-all, to-read-none, read-next, flag-long}
+use Rattle.wire_spec.specs.Bits.{overwrite}
+use Rattle.wire_spec.specs.Cells.{headCells, cellsOf}
+use Rattle.wire_spec.proofs.ListLaws.{part-all, part-written}
+use Rattle.sdi_spec.specs.Packets.{hasFlag, lineCount, lineRecord, packetsIn}
+use Rattle.sdi_spec.specs.Passes.{foundCells}
+use Rattle.sdi_spec.proofs.WalkLaws.{ToRead, ReadNext, to-read-all, to-read-none, read-next, flag-long}
 use Rattle.sdi_packets.proofs.reading.read_packets.Statement.{statement}
 use Rattle.sdi_packets.proofs.reading.read_packets.Tie as tie
 

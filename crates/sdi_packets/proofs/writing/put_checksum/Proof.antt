@@ -6,10 +6,10 @@ use mathlib.Core.List.{[], _∷_}
 use Prim.Native.Nat.{ℕ, _+_, _-_}
 use native.Mathlib.Omega.{arith}
 use lib.ListN.{take, drop}
-use Rattle.wire.specs.Bits.{splice}
-use Rattle.wire.specs.Words.{sumLow, checksumWord}
-use Rattle.wire.proofs.ListLaws.{set-splice}
-use Rattle.sdi_line.proofs.CodeLaws.{summed-word}
+use Rattle.wire_spec.specs.Bits.{splice}
+use Rattle.wire_spec.specs.Words.{sumLow, checksumWord}
+use Rattle.wire_spec.proofs.ListLaws.{set-splice}
+use Rattle.sdi_spec.proofs.CodeLaws.{summed-word}
 use Rattle.sdi_packets.proofs.writing.put_checksum.Statement.{statement}
 use Rattle.sdi_packets.proofs.writing.put_checksum.Tie as tie
 

@@ -4,7 +4,7 @@ use borrow.Author.Needs.{needs}
 use native.Mathlib.Omega.{arith}
 use lib.ListN.{length-set}
 use lib.Seq.{sets-eq}
-use Rattle.sdi_line.specs.Passes.{frontOf}
+use Rattle.sdi_spec.specs.Passes.{frontOf}
 use Rattle.sdi_packets.proofs.writing.put_front.Statement.{statement}
 use Rattle.sdi_packets.proofs.writing.put_front.Tie as tie
 

@@ -6,10 +6,10 @@ use mathlib.Core.List.{List, _++_}
 use Prim.Native.Nat.{ℕ, _+_, _-_}
 use native.Mathlib.Omega.{arith}
 use lib.ListN.{length, take, drop}
-use Rattle.wire.specs.Bits.{overwrite}
-use Rattle.wire.specs.Cells.{headCells, cellCount, cellRecord}
-use Rattle.sdi_line.specs.Passes.{frontOf, summedAt}
-use Rattle.sdi_line.proofs.CodeLaws.{two-parts, packet-written, Named, named}
+use Rattle.wire_spec.specs.Bits.{overwrite}
+use Rattle.wire_spec.specs.Cells.{headCells, cellCount, cellRecord}
+use Rattle.sdi_spec.specs.Passes.{frontOf, summedAt}
+use Rattle.sdi_spec.proofs.CodeLaws.{two-parts, packet-written, Named, named}
 use Rattle.sdi_packets.proofs.writing.write_packet.Statement.{statement}
 use Rattle.sdi_packets.proofs.writing.write_packet.Tie as tie
 

@@ -5,13 +5,13 @@ use mathlib.Core.Path.{_≡_, refl, ap, sym, _∙_, subst₃}
 use Prim.Native.Nat.{ℕ, _+_, _-_, _<_, _≤_}
 use native.Mathlib.Omega.{arith}
 use lib.ListN.{length, take, drop, length-drop}
-use Rattle.wire.specs.Bits.{overwrite}
-use Rattle.wire.specs.Words.{headerNumbers}
-use Rattle.wire.specs.Cells.{headCells, cellCount, cellRecord, rest, readList}
-use Rattle.wire.proofs.ListLaws.{part-all, part-written}
-use Rattle.sdi_line.specs.Packets.{packetWords}
-use Rattle.sdi_line.specs.Passes.{listStretch}
-use Rattle.sdi_line.proofs.WalkLaws.{ToWrite, WriteNext, to-write-all, to-write-none, write-next}
+use Rattle.wire_spec.specs.Bits.{overwrite}
+use Rattle.wire_spec.specs.Words.{headerNumbers}
+use Rattle.wire_spec.specs.Cells.{headCells, cellCount, cellRecord, rest, readList}
+use Rattle.wire_spec.proofs.ListLaws.{part-all, part-written}
+use Rattle.sdi_spec.specs.Packets.{packetWords}
+use Rattle.sdi_spec.specs.Passes.{listStretch}
+use Rattle.sdi_spec.proofs.WalkLaws.{ToWrite, WriteNext, to-write-all, to-write-none, write-next}
 use Rattle.sdi_packets.proofs.writing.write_packets.Statement.{statement}
 use Rattle.sdi_packets.proofs.writing.write_packets.Tie as tie
 

@@ -8,26 +8,26 @@ use mathlib.Core.Logic.{_⊎_, inl, inr, ⊎-elim}
 use Prim.Native.Nat.{ℕ, _+_, _-_, _≤_}
 use native.Mathlib.Omega.{arith}
 use lib.ListN.{length, take, drop, length-take, length-drop}
-use Rattle.wire.specs.Bits.{splice}
-use Rattle.wire.specs.Result.{Result, accepted}
-use Rattle.wire.specs.Cells.{listIn, listOf}
-use Rattle.wire.specs.Packet.{Content, readContent}
-use Rattle.wire.proofs.CellLaws.{length-in}
-use Rattle.wire.proofs.ListLaws.{part-written, length-splice}
-use Rattle.rtp.specs.Answers.{checkedOf, cellsAfterIn, summaryOf}
-use Rattle.rtp.specs.declared.packet.Outline.{Outline}
-use Rattle.rtp.specs.declared.packet.Summary.{Summary}
-use Rattle.rtp.specs.declared.packet.Checked.the-variants as checked
-use Rattle.rtp.proofs.ReadLaws.{Found, found, summary-is}
-use Rattle.stream.specs.declared.state.State.{State}
+use Rattle.wire_spec.specs.Bits.{splice}
+use Rattle.wire_spec.specs.Result.{Result, accepted}
+use Rattle.wire_spec.specs.Cells.{listIn, listOf}
+use Rattle.wire_spec.specs.Packet.{Content, readContent}
+use Rattle.wire_spec.proofs.CellLaws.{length-in}
+use Rattle.wire_spec.proofs.ListLaws.{part-written, length-splice}
+use Rattle.rtp_strict_reader.specs.Answers.{checkedOf, cellsAfterIn, summaryOf}
+use Rattle.rtp_strict_reader.specs.declared.packet.Outline.{Outline}
+use Rattle.rtp_strict_reader.specs.declared.packet.Summary.{Summary}
+use Rattle.rtp_strict_reader.specs.declared.packet.Checked.the-variants as checked
+use Rattle.rtp_strict_reader.proofs.ReadLaws.{Found, found, summary-is}
+use Rattle.depacketizer_spec.specs.declared.state.State.{State}
 use denote.Enum.Declared.{tagOf}
-use Rattle.freshness.specs.declared.place.Freshness.{Freshness}
-use Rattle.freshness.specs.declared.place.Freshness.the-variants as freshness
-use Rattle.freshness.proofs.place.Freshness.{the-type}
-use Rattle.stream.specs.Step.{Step, step, gathered, lost, carried, follow, sound, admission}
-use Rattle.freshness.specs.Answers.{freshnessOf}
+use Rattle.depacketizer_sequence.specs.declared.place.Freshness.{Freshness}
+use Rattle.depacketizer_sequence.specs.declared.place.Freshness.the-variants as freshness
+use Rattle.depacketizer_sequence.proofs.place.Freshness.{the-type}
+use Rattle.depacketizer_spec.specs.Step.{Step, step, gathered, lost, carried, follow, sound, admission}
+use Rattle.depacketizer_sequence.specs.Answers.{freshnessOf}
 use Rattle.depacketizer.specs.Answers.{carriedBy, decisionOf, afterOf, arrivalOf, refusedOf}
-use Rattle.stream.proofs.StepLaws.{passed, step-admitted}
+use Rattle.depacketizer_spec.proofs.StepLaws.{passed, step-admitted}
 use Rattle.depacketizer.proofs.AdmitLaws.{isFresh, packet-refused}
 use Rattle.depacketizer.proofs.DecideLaws.{Sound}
 use Rattle.depacketizer.proofs.ArriveLaws.{refused-step, fresh-sound, fresh-step, fresh-room}

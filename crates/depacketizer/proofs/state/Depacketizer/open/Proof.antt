@@ -3,8 +3,8 @@
 use borrow.Author.Needs.{needs}
 use mathlib.Core.Path.{ap}
 use borrow.Author.Tests.{lt-leb, le-leb}
-use Rattle.wire.specs.Writing.{maxType}
-use Rattle.stream.specs.declared.state.State.{State}
+use Rattle.wire_spec.specs.Writing.{maxType}
+use Rattle.depacketizer_spec.specs.declared.state.State.{State}
 use Rattle.depacketizer.specs.declared.state.Opened.the-variants as opened
 use Rattle.depacketizer.proofs.state.Depacketizer.open.Statement.{statement}
 use Rattle.depacketizer.proofs.state.Depacketizer.open.Tie as tie

@@ -1,0 +1,63 @@
+-- The outlet's state as a row of 145 numbers: heads, counts, slots and lengths, channel by channel, and the next channel (02, K10).
+use mathlib.Core.Bool.{Bool, true, _&&_}
+use mathlib.Core.List.{List, [], _∷_, _++_}
+use Prim.Native.Nat.{ℕ, _+_, _-_, _^_}
+use lib.Dec.{leb}
+use lib.ListN.{getD, take, drop}
+use Rattle.egress_spec.specs.declared.state.State.{State}
+use Rattle.egress_spec.specs.Queues.{channels, slotCount}
+
+-- where the counts, the slots, the lengths and the next channel stand
+abbrev pub countsAt : ℕ
+countsAt = channels
+
+abbrev pub slotsAt : ℕ
+slotsAt = countsAt + channels
+
+abbrev pub lengthsAt : ℕ
+lengthsAt = slotsAt + slotCount
+
+abbrev pub nextAt : ℕ
+nextAt = lengthsAt + slotCount
+
+-- numbers that a state needs
+abbrev pub rowSize : ℕ
+rowSize = nextAt + 1
+
+-- so many numbers of a row from an index on
+abbrev pub part : List ℕ → (at count : ℕ) → List ℕ
+part row at n = take n (drop at row)
+
+-- the numbers of a row as a state
+abbrev pub stateAt : List ℕ → State
+stateAt row =
+    record {
+      heads = part row 0 channels;
+      counts = part row countsAt channels;
+      slots = part row slotsAt slotCount;
+      lengths = part row lengthsAt slotCount;
+      next = getD row nextAt 0;
+    }
+
+-- the numbers of a state
+abbrev pub numbersOf : State → List ℕ
+numbersOf s = (((s .heads ++ s .counts) ++ s .slots) ++ s .lengths) ++ (s .next ∷ [])
+
+-- the largest numbers of 8 and of 16 bits
+abbrev pub max8 : ℕ
+max8 = 2 ^ 8 - 1
+
+abbrev pub max16 : ℕ
+max16 = 2 ^ 16 - 1
+
+-- each number is at most `most`
+unfoldable pub allFit : ℕ → List ℕ → Bool
+allFit most [] = true
+allFit most (n ∷ ns) = leb n most && allFit most ns
+
+-- "a number out of range": is each one that its value can have
+abbrev pub fits : State → Bool
+fits s = allFit max8 (s .heads) && (allFit max8 (s .counts) && (allFit max8 (s .slots) && (allFit max16 (s .lengths) && leb (s .next) max8)))
+
+abbrev pub isState : List ℕ → Bool
+isState row = fits (stateAt row)

@@ -1,5 +1,0 @@
-// Whether a packet of a stream keeps the rules (02, K12): `conformance`'s step as code.
-//
-// `packet::check_packet` takes a packet's octets.
-pub mod packet;
-pub mod step;

@@ -1,0 +1,120 @@
+-- A turn of one file keeps what is to come of it, whatever still comes.
+-- By what the turn was: octets were read, octets were scanned, or nothing was done.
+use mathlib.Core.Path.{_≡_, refl, ap, sym, _∙_, subst}
+use mathlib.Core.Bool.{Bool, true, false, true≢false, _&&_}
+use mathlib.Core.Logic.{_⊎_, inl, inr}
+use mathlib.Core.List.{List, [], _++_, append-assoc}
+use Prim.Native.Nat.{ℕ, _+_, _-_, _≤_}
+use native.Mathlib.Omega.{arith}
+use borrow.Author.Tests.{ltb-false}
+use lib.Dec.{ltb}
+use lib.ListN.{length, take, drop, drop-of-length-le, length-drop, take-append-drop}
+use lib.Seq.{drop-append-le}
+use Rattle.wire_spec.specs.Layout.{rfc8331}
+use Rattle.wire_spec.specs.Writing.{maxFieldCells}
+use Rattle.wire_spec.proofs.ResultLaws.{and-true}
+use Rattle.fieldfile_scan_spec.specs.Window.{AtHand, mostSize}
+use Rattle.fieldfile_scan_spec.proofs.Examples.{window}
+use Rattle.fielddiff_rest.specs.Rest.{Standing, restOf}
+use Rattle.fieldfile_scan.specs.declared.state.State.{State}
+use Rattle.fieldfile_scan.specs.declared.state.State.the-variants as state
+use Rattle.fieldfile_scan.specs.Scan.{Reachable, scan, storeThen}
+use Rattle.program_spec.proofs.BufferLaws.{length-here, part-behind}
+use Rattle.fielddiff_side.specs.declared.Side.{Side}
+use Rattle.fielddiff_side.specs.declared.Standing.{Standing as Held}
+use Rattle.fielddiff_side.specs.declared.Standing.the-variants as held
+use Rattle.fielddiff_side.specs.Side.{Advanced, HeldReachable, InSide, Kept, MayCome, ReadMore, StandsAs, behindTurn, isReading, isShort, readIn, reads, scans, stays, unscanned, usedOf, windowSize}
+use Rattle.fielddiff_side.proofs.ScanLaws.{Went, scan-steps, scan-went}
+
+module _ (d : Side) (input : List ℕ) (inside : InSide d (length input)) where
+  pub here-long : length (unscanned d input) ≡ d .end - d .at
+  here-long = length-here input (d .at) (d .end) (inside .0) (inside .1)
+
+  -- nothing was read
+  pub none-read : readIn d d input ≡ []
+  none-read = drop-of-length-le (unscanned d input) {i = d .end - d .at} (omega (arith, here-long))
+
+  pub idle-advanced : (store : List ℕ) → HeldReachable (d .standing) → isReading (d .standing) ≡ false → Advanced d input store d input store
+  idle-advanced store reach still =
+      record {
+        step = stays still refl;
+        bounds = inside;
+        reach = reach;
+        keeps =
+            λ x h. record {
+              to = x;
+              stands = h;
+              comes = λ s m. subst (λ (z : List ℕ). MayCome d (z ++ s)) (sym none-read) m;
+              same = λ s m. ap (λ (z : List ℕ). restOf x (unscanned d input ++ (z ++ s))) none-read;
+            };
+      }
+
+  -- more was
+  pub read-advanced : (store : List ℕ) (r : Side) (input′ : List ℕ) → HeldReachable (d .standing) → isShort d ≡ true → ReadMore d input r input′ → Advanced d input store r input′ store
+  read-advanced store r input′ reach short t =
+      record {
+        step = reads short t;
+        bounds = t .bounds;
+        reach = subst HeldReachable (sym (t .standing)) reach;
+        keeps =
+            λ x h. record {
+              to = x;
+              stands = subst (λ (z : Held). StandsAs z store x) (sym (t .standing)) h;
+              comes = λ s m e. absurd (true≢false (sym (and-true (d .more) (ltb (d .end - d .at) windowSize) short .0) ∙ e));
+              same = λ s m. ap (restOf x) (sym (append-assoc (unscanned d input) (readIn d r input′) s) ∙ ap (λ (z : List ℕ). z ++ s) (sym parts));
+            };
+      }
+    where
+      parts : unscanned r input′ ≡ unscanned d input ++ readIn d r input′
+      parts =
+          sym (take-append-drop (d .end - d .at) (unscanned r input′))
+          ∙ ap (λ (z : List ℕ). z ++ drop (d .end - d .at) (unscanned r input′)) (ap (λ (n : ℕ). take n (unscanned r input′)) (sym here-long) ∙ t .octets)
+
+  -- a turn uses octets that are at hand
+  pub turn-fits : (st : State) → Reachable st → d .at + usedOf (scan st (unscanned d input)) ≤ d .end
+  turn-fits st reach = let z = scan-steps st (unscanned d input) reach .fits in omega (arith, z, here-long, inside .0)
+
+  -- a turn was made
+  module _ (st : State) (store : List ℕ) (room : maxFieldCells ≤ length store) (is : d .standing ≡ held.Reading st) (reach : Reachable st) (long : isShort d ≡ false) where
+    fits : usedOf (scan st (unscanned d input)) ≤ d .end - d .at
+    fits = let z = scan-steps st (unscanned d input) reach .fits in omega (arith, z, here-long)
+
+    behind : unscanned (behindTurn d (scan st (unscanned d input))) input ≡ drop (usedOf (scan st (unscanned d input))) (unscanned d input)
+    behind = part-behind input (d .at) (d .end) (inside .0) (inside .1) (usedOf (scan st (unscanned d input))) (turn-fits st reach)
+
+    nothing : readIn d (behindTurn d (scan st (unscanned d input))) input ≡ []
+    nothing =
+        ap (drop (d .end - d .at)) behind
+        ∙ drop-of-length-le (drop (usedOf (scan st (unscanned d input))) (unscanned d input)) {i = d .end - d .at}
+        (omega (arith, length-drop (usedOf (scan st (unscanned d input))) (unscanned d input), here-long))
+
+    -- the octets at hand are enough
+    at-hand : (s : List ℕ) → MayCome d s → AtHand (mostSize rfc8331) (unscanned d input) (unscanned d input ++ s)
+    at-hand s m = record { behind = s; starts = refl; enough = go (d .more) refl }
+      where
+        go : (b : Bool) → d .more ≡ b → (mostSize rfc8331 ≤ length (unscanned d input)) ⊎ (s ≡ [])
+        go false e = inr (m e)
+        go true e =
+            let l : ltb (d .end - d .at) windowSize ≡ false = ap (λ (b : Bool). b && ltb (d .end - d .at) windowSize) (sym e) ∙ long in
+            inl (omega (arith, ltb-false (d .end - d .at) windowSize l, window, here-long))
+
+    pub scan-advanced : Advanced d input store (behindTurn d (scan st (unscanned d input))) input (storeThen st (unscanned d input) store)
+    scan-advanced =
+        record {
+          step = scans st is long refl;
+          bounds = (turn-fits st reach, inside .1);
+          reach = scan-steps st (unscanned d input) reach .reach;
+          keeps = λ x h. kept x (scan-went st store (unscanned d input) x room (subst (λ (z : Held). StandsAs z store x) is h));
+        }
+      where
+        kept : (x : Standing) → Went (scan st (unscanned d input)) (unscanned d input) (storeThen st (unscanned d input) store) x → Kept d input x (behindTurn d (scan st (unscanned d input))) input (storeThen st (unscanned d input) store)
+        kept x t =
+            record {
+              to = t .to;
+              stands = t .stands;
+              comes = λ s m. subst (λ (z : List ℕ). MayCome d (z ++ s)) (sym nothing) m;
+              same =
+                  λ s m. ap (λ (z : List ℕ). restOf x (unscanned d input ++ (z ++ s))) nothing
+                  ∙ t .same (unscanned d input ++ s) (at-hand s m)
+                  ∙ ap (restOf (t .to)) (drop-append-le (usedOf (scan st (unscanned d input))) (unscanned d input) s (omega (arith, fits, here-long)) ∙ ap (λ (z : List ℕ). z ++ s) (sym behind));
+            }

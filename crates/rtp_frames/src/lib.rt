@@ -1,0 +1,52 @@
+// Frames on a stream of octets (RFC 4571, section 2).
+ghost use mathlib.Core.Path.{_≡_};
+ghost use Prim.Native.Nat.{_≤_};
+ghost use lib.ListN.{drop, length};
+ghost use Rattle.wire_spec.specs.Bits.{overwrite};
+ghost use Rattle.rtp_frames.specs.Answers.{frontOf};
+ghost use Rattle.rtp_frames.specs.Frames.{front};
+use wire_spec::limit::MAX_PACKET;
+use wire_words::octet::pair_at;
+
+// Octets of a frame's length.
+pub const LENGTH_SIZE: usize = 2;
+
+// Octets of the longest frame.
+pub const MAX_FRAME: usize = LENGTH_SIZE + MAX_PACKET;
+
+// What stands at the front: a frame with a packet of so many octets, one that is broken off, or nothing.
+pub enum Front {
+    Packet(usize),
+    Cut,
+    End,
+}
+
+// The frame at the front of the octets.
+pub fn frame_at(octets: &[u8]) -> Front
+    ensures { λ r. ⌜ r ≡ frontOf (front (now (octets .entry))) ⌝ }
+{
+    if octets.len() == 0 {
+        return Front::End;
+    }
+    if octets.len() < LENGTH_SIZE {
+        return Front::Cut;
+    }
+    let size = pair_at(octets, 0);
+    if octets.len() - LENGTH_SIZE < size {
+        return Front::Cut;
+    }
+    Front::Packet(size)
+}
+
+// Moves the octets from `at` on to the front; `at` must lie within them.
+pub fn move_to_front(octets: &mut [u8], at: usize)
+    requires { ⌜ at ≤ length (now octets) ⌝ }
+    ensures { λ r. ⌜ now (octets .exit) ≡ overwrite (drop at (now (octets .entry))) (now (octets .entry)) ⌝ }
+{
+    let count = octets.len() - at;
+    let mut k: usize = 0;
+    while k < count {
+        octets[k] = octets[at + k];
+        k += 1;
+    }
+}
