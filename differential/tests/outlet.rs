@@ -1,12 +1,13 @@
 //! The shared outlet (02, K10) through both sides, state and memory handed on
-//! from call to call: long random runs, states damaged number by number, full
-//! and empty outlets, one channel flooding while seven trickle.
+//! from call to call: long random runs, states damaged number by number and
+//! at every border, full and empty outlets, one channel flooding while seven
+//! trickle. What `egress_example` prints of the borders is compared too.
 
 use std::collections::{BTreeMap, VecDeque};
 
 use differential::call::{compare, Call, Lent, Memory};
 use differential::{ANSWER, OUTLET_MEMORY, OUTLET_PACKET, OUTLET_STATE, ROW};
-use reference::outlet::{open, State};
+use reference::outlet::{open, take, State};
 use reference::random::{outlet_calls, outlet_case, outlet_memory, outlet_state};
 use reference::random::{OutletCall, Random};
 
@@ -334,6 +335,129 @@ fn states_damaged_number_by_number() {
     }
     println!("{unsound} {passed}");
     assert!(unsound > 10_000 && passed > 1_000);
+}
+
+/// Four packets of five octets in the first four places of each channel, place
+/// k with slot k.
+fn half_held() -> State {
+    let mut state = open();
+    for (channel, ring) in state.channels.iter_mut().enumerate() {
+        ring.count = 4;
+        ring.lengths = [5; HELD];
+        for place in 0..HELD {
+            ring.slots[place] = (HELD * channel + place) as u8;
+        }
+    }
+    state
+}
+
+/// Whether 64 refuses a number at that place of the row of `half_held`, by
+/// 02's words: "over eight held, a held length outside 1 to 1,024 .. or a
+/// number out of range". A slot is one of 64, held or not, a ring starts at one
+/// of eight places; of a place that holds nothing a length counts only if it
+/// does not fit 16 bits.
+fn is_refused(at: usize, number: u64) -> bool {
+    let is_held = |place: usize| place % HELD < 4;
+    match at {
+        0..8 => number > 7,
+        8..16 => number > 8,
+        16..80 => number > 63,
+        80..144 if is_held(at - 80) => !(1..=1_024).contains(&number),
+        80..144 => number > 65_535,
+        _ => number > 7,
+    }
+}
+
+/// Every number of a row from C, at the last number that passes and the first
+/// that does not, and past eight, 16 and 32 bits; places held and not.
+#[test]
+fn every_number_at_its_border() {
+    let mut r = Random::new(1_007);
+    let sound = Outlet::of(&half_held(), outlet_memory(&mut r, OUTLET_MEMORY));
+    let (mut refused, mut passed) = (0, 0);
+    for at in 0..OUTLET_STATE {
+        let borders: &[u64] = match at {
+            0..8 | 144 => &[0, 7, 8, 255, 256],
+            8..16 => &[0, 8, 9, 255, 256],
+            16..80 => &[63, 64, 200, 255, 256],
+            _ => &[0, 1, 1_024, 1_025, 65_535, 65_536],
+        };
+        for &number in borders.iter().chain(&[1 << 32, u64::MAX]) {
+            let expected = is_refused(at, number);
+            for call in [
+                OutletCall::Take {
+                    room: OUTLET_PACKET,
+                },
+                OutletCall::Offer {
+                    channel: 7,
+                    octets: vec![1, 2, 3],
+                },
+            ] {
+                let (mut state, memory) = (sound.state.clone(), sound.memory.clone());
+                state[at] = number;
+                let answer = Outlet { state, memory }.call(&call, &mut r);
+                let is_64 = answer == Answer::Refused(64);
+                assert_eq!(is_64, expected, "{at}: {number}: {answer:?}");
+            }
+            refused += usize::from(expected);
+            passed += usize::from(!expected);
+        }
+    }
+    println!("{refused} {passed}");
+    assert!(refused > 500 && passed > 300);
+}
+
+/// The same borders from Rattle: a line for a number, a mark for each place of
+/// the state where it was put, `x` if 64 refuses it.
+#[test]
+fn borders_from_rattle() {
+    let memory = vec![0; OUTLET_MEMORY];
+    let mark = |state: &State| {
+        let refused = take(*state, &memory, &mut [0; OUTLET_PACKET]);
+        let is_64 = refused.is_err_and(|refusal| refusal.number == 64);
+        if is_64 {
+            'x'
+        } else {
+            '.'
+        }
+    };
+    let mut expected = String::new();
+    let mut line = |kind: &str, number: u64, places: usize, put: &dyn Fn(&mut State, usize)| {
+        let marks = (0..places).map(|place| {
+            let mut state = half_held();
+            put(&mut state, place);
+            mark(&state)
+        });
+        let marks: String = marks.collect();
+        expected += &format!("{kind} {number} {marks}\n");
+    };
+    for head in [0, 7, 8, 255] {
+        line("head", head, 8, &|state, at| {
+            state.channels[at].head = head as u8
+        });
+    }
+    for count in [0, 8, 9, 255] {
+        line("count", count, 8, &|state, at| {
+            state.channels[at].count = count as u8
+        });
+    }
+    for next in [0, 7, 8, 255] {
+        line("next", next, 1, &|state, _| state.next = next as u8);
+    }
+    for slot in [63, 64, 255] {
+        line("slot", slot, 64, &|state, at| {
+            state.channels[at / HELD].slots[at % HELD] = slot as u8;
+        });
+    }
+    for length in [0, 1, 1_024, 1_025, 65_535] {
+        line("length", length, 64, &|state, at| {
+            state.channels[at / HELD].lengths[at % HELD] = length as u16;
+        });
+    }
+    // `rt check` holds the program to this file.
+    let printed = include_str!("../../crates/example_egress/stdout");
+    assert!(printed.ends_with(&expected), "{expected}");
+    assert_eq!(expected.lines().count(), 20);
 }
 
 /// A row that is too short is 255 before all else, and nothing is written.

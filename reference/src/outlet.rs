@@ -17,7 +17,8 @@ pub const MEMORY: usize = SLOTS * SLOT;
 pub const ROW: usize = 2 * CHANNELS + 2 * CHANNELS * PLACES + 1;
 
 /// A channel's ring of places: `count` packets from `head` on, around the end.
-/// The places that hold none may be anything.
+/// Of a place that holds none the length may be anything, the slot any of the
+/// 64.
 #[derive(Clone, Copy, Debug, PartialEq, Eq)]
 pub struct Channel {
     pub head: u8,

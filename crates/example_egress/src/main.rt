@@ -1,5 +1,8 @@
 // The story of version one (00): channel 3 pushes a caption reload, and the other channels offer one packet each. With the shared outlet the reload
-// fills its own eight places and no others, and each channel is served in its turn. Every call and its answer is printed.
+// fills its own eight places and no others, and each channel is served in its turn. Every call and its answer is printed. Then the states that 64 refuses
+// (`borders`).
+mod borders;
+
 use egress_spec::state::CHANNELS;
 use egress_spec::state::MEMORY;
 use egress_spec::state::OfferAnswer;
@@ -88,4 +91,5 @@ fn main() {
     let waiting = trickle(full, &mut memory);
     serve(waiting, 10, &mut memory);
     take(egress::open(), &memory);
+    borders::show(&memory);
 }
