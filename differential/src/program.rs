@@ -55,13 +55,13 @@ pub fn from_file(command: &mut Command, input: &[u8], path: &Path) -> Output {
     output
 }
 
-/// A write that fails is told, once, and ends the run: it does not wait for
+/// A write that fails is reported once, and ends the run: it does not wait for
 /// more of its input.
 pub fn unwritable(name: &str, input: &[u8]) {
-    told_once(&mut Command::new(program(name)), input);
+    reported_once(name, &mut Command::new(program(name)), input);
 }
 
-pub fn told_once(command: &mut Command, input: &[u8]) {
+pub fn reported_once(name: &str, command: &mut Command, input: &[u8]) {
     let full = fs::OpenOptions::new()
         .write(true)
         .open("/dev/full")
@@ -78,7 +78,8 @@ pub fn told_once(command: &mut Command, input: &[u8]) {
     let output = child.wait_with_output().unwrap();
     drop(pipe);
     let errors = String::from_utf8_lossy(&output.stderr);
-    assert_eq!(errors, "write: No space left on device\n");
+    let full = format!("{name}: standard output: No space left on device\n");
+    assert_eq!(errors, full);
 }
 
 /// The first line that differs is told, and no more of it than fits.

@@ -8,7 +8,7 @@ use std::fs;
 use std::path::{Path, PathBuf};
 use std::process::{Command, Stdio};
 
-use differential::program::{program, same, told_once};
+use differential::program::{program, reported_once, same};
 use reference::fielddiff;
 use reference::file::Version;
 use reference::random::{anc_of, file_field, file_pair, record, Random};
@@ -130,6 +130,7 @@ fn output_that_cannot_be_written() {
         let paths = [path("diff-full-l"), path("diff-full-r")];
         fs::write(&paths[0], left).unwrap();
         fs::write(&paths[1], right).unwrap();
-        told_once(Command::new(program(FIELDDIFF)).args(&paths), &[]);
+        let mut command = Command::new(program(FIELDDIFF));
+        reported_once(FIELDDIFF, command.args(&paths), &[]);
     }
 }

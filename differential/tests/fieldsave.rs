@@ -209,7 +209,7 @@ fn a_full_disk() {
             .output()
             .unwrap();
         let told = String::from_utf8_lossy(&output.stderr).into_owned();
-        assert_eq!(told, "write: File too large\n");
+        assert_eq!(told, format!("fieldsave: {name}: File too large\n"));
         let filed = fs::read(folder.join(name)).unwrap();
         assert!(filed.len() < whole.len() && whole.starts_with(&filed));
         let (fields, end) = read_back(&filed);
@@ -252,22 +252,26 @@ fn arguments() {
     let few = "fieldsave: too few arguments, see --help\n";
     let many = "fieldsave: too many arguments, see --help\n";
     let long = "x".repeat(5_000);
+    let failed = |what: &str| format!("fieldsave: {what}\n");
     for (arguments, told) in [
         (&[][..], few),
         (&["frames"], few),
         (&["old", "frames"], few),
         (&["frames", "out", "more"], many),
         (&["old", "frames", "out", "more"], many),
-        (&["missing", "out"], "missing: No such file or directory\n"),
-        (&["directory", "out"], "directory: Is a directory\n"),
-        (&[&long, "out"], "path: File name too long\n"),
-        (&["frames", &long], "path: File name too long\n"),
-        (&["frames", "there"], "there: File exists\n"),
-        (&["frames", "frames"], "frames: File exists\n"),
-        (&["frames", "directory"], "directory: File exists\n"),
+        (
+            &["missing", "out"],
+            &failed("missing: No such file or directory"),
+        ),
+        (&["directory", "out"], &failed("directory: Is a directory")),
+        (&[&long, "out"], &failed("path: File name too long")),
+        (&["frames", &long], &failed("path: File name too long")),
+        (&["frames", "there"], &failed("there: File exists")),
+        (&["frames", "frames"], &failed("frames: File exists")),
+        (&["frames", "directory"], &failed("directory: File exists")),
         (
             &["frames", "missing/out"],
-            "missing/out: No such file or directory\n",
+            &failed("missing/out: No such file or directory"),
         ),
         (&["frames", "-x"], "-x: unknown option, see --help\n"),
     ] {

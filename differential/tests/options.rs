@@ -15,6 +15,9 @@ const PROGRAMS: [&str; 5] = [
     "pcapframes",
 ];
 
+/// A field file without fields.
+const VERSION_2: [u8; 5] = *b"ANF\x00\x02";
+
 fn folder(name: &str) -> PathBuf {
     let folder = Path::new(env!("CARGO_TARGET_TMPDIR")).join(name);
     let _ = fs::remove_dir_all(&folder);
@@ -165,39 +168,48 @@ fn names_like_options() {
     }
 }
 
-/// `fielddiff` reads what cannot be opened as empty (02, K14), and tells it.
+/// `fielddiff` reads what cannot be opened as empty (02, K14), on either side
+/// and on both, and a directory too. The reason is reported by name.
 #[test]
 fn files_that_cannot_be_read() {
     let folder = folder("options-files");
     fs::create_dir(folder.join("directory")).unwrap();
-    fs::write(folder.join("there"), [0]).unwrap();
+    fs::write(folder.join("there"), VERSION_2).unwrap();
     let longest = "x/".repeat(2_047) + "y";
     let (long, longer) = ("x".repeat(4_096), "x".repeat(5_000));
-    let missing = "missing: No such file or directory\n".to_string();
-    let too_long = "File name too long\n";
-    for (file, told) in [
-        ("missing", missing),
-        (&longest, format!("{longest}: No such file or directory\n")),
-        (&long, format!("{long}: {too_long}")),
-        (&longer, format!("path: {too_long}")),
+    for (file, reason) in [
+        ("missing", "missing: No such file or directory"),
+        (&longest, &format!("{longest}: No such file or directory")),
+        (&long, &format!("{long}: File name too long")),
+        (&longer, "path: File name too long"),
+        ("directory", "directory: Is a directory"),
+        ("", ": No such file or directory"),
     ] {
         for name in ["fieldlist", "streamcheck"] {
+            let told = format!("{name}: {reason}\n");
             refuses(name, &[file], &folder, &told);
             refuses(name, &["old", file], &folder, &told);
         }
+        let told = format!("pcapframes: {reason}\n");
         refuses("pcapframes", &["1", file], &folder, &told);
-        let left = ("0 refused 50 50\n".to_string(), told);
-        assert_eq!(texts(run("fielddiff", &[file, "there"], &folder)), left);
-        assert_eq!(texts(run("fielddiff", &["there", file], &folder)), left);
+        let told = format!("fielddiff: {reason}\n");
+        for (left, right, list) in [
+            (file, "there", "0 refused 50 -\n"),
+            ("there", file, "0 refused - 50\n"),
+        ] {
+            let expected = (list.to_string(), told.clone());
+            assert_eq!(texts(run("fielddiff", &[left, right], &folder)), expected);
+        }
+        let missing = "fielddiff: missing: No such file or directory\n";
+        for (left, right, told) in [
+            (file, file, format!("{told}{told}")),
+            (file, "missing", format!("{told}{missing}")),
+            ("missing", file, format!("{missing}{told}")),
+        ] {
+            let expected = ("0 refused 50 50\n".to_string(), told);
+            assert_eq!(texts(run("fielddiff", &[left, right], &folder)), expected);
+        }
     }
-    let told = "directory: Is a directory\n";
-    refuses("pcapframes", &["1", "directory"], &folder, told);
-    for name in ["fieldlist", "streamcheck"] {
-        refuses(name, &["directory"], &folder, told);
-        refuses(name, &["old", "directory"], &folder, told);
-    }
-    refuses("fielddiff", &["directory", "there"], &folder, told);
-    refuses("fielddiff", &["there", "directory"], &folder, told);
 }
 
 /// What is shown on a terminal, of which `script` makes one.

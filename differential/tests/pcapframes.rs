@@ -239,7 +239,7 @@ fn words() {
     );
 }
 
-/// A write that fails is told, once.
+/// A write that fails is reported once.
 #[test]
 fn unwritable() {
     let full = fs::OpenOptions::new()
@@ -260,7 +260,8 @@ fn unwritable() {
         .output()
         .unwrap();
     let errors = String::from_utf8_lossy(&output.stderr).into_owned();
-    assert_eq!(errors, "write: No space left on device\n");
+    let full = "pcapframes: standard output: No space left on device\n";
+    assert_eq!(errors, full);
 }
 
 const UDP: u8 = 17;

@@ -129,7 +129,7 @@ fn arguments() {
     fs::remove_dir_all(&folder).unwrap();
 }
 
-/// A file that cannot be opened is told on standard error, and nothing else.
+/// A file that cannot be opened is named on standard error, and nothing else.
 #[test]
 fn no_such_file() {
     let output = Command::new(program(STREAMCHECK))
@@ -138,7 +138,11 @@ fn no_such_file() {
         .output()
         .unwrap();
     assert!(output.stdout.is_empty());
-    assert!(String::from_utf8_lossy(&output.stderr).starts_with("no such file: "));
+    let errors = String::from_utf8_lossy(&output.stderr).into_owned();
+    assert_eq!(
+        errors,
+        "streamcheck: no such file: No such file or directory\n"
+    );
 }
 
 /// The first finding already cannot be written.

@@ -15,7 +15,7 @@ fn name(path: &[u8]) {
 fn show(left: &[u8], right: &[u8]) {
     name(left);
     name(right);
-    compare(open_sample(left), open_sample(right));
+    compare(open_sample(left), open_sample(right), left, right);
 }
 
 fn both(left: &[u8], right: &[u8]) {

@@ -5,6 +5,7 @@ ghost use mathlib.Core.Path.{_≡_};
 ghost use Prim.Native.Nat.{_+_, _^_, _<_, _≤_};
 ghost use lib.ListN.{length};
 ghost use Rattle.fielddiff_turn.specs.Turns.{Bounds, Ended, Enough, Now, Stands, Turned, textRoom};
+use fielddiff_side::Side;
 use fielddiff_side::advance;
 use fielddiff_side::is_reading;
 use fielddiff_turn::Phase;
@@ -12,13 +13,15 @@ use fielddiff_turn::Run;
 use fielddiff_turn::TEXT_ROOM;
 use fielddiff_turn::close;
 use fielddiff_turn::flush;
-use fielddiff_turn::is_whole;
 use fielddiff_turn::print_places;
 use fielddiff_turn::start;
 use fielddiff_turn::turn_records;
 use fielddiff_turn::with_left;
 use fielddiff_turn::with_right;
 use program::buffers::turns_left;
+use program::progress::is_watched;
+use program_arguments::failures::fail_to_read;
+use program_arguments::failures::fail_to_write;
 use wire_spec::limit::MAX_FIELD_CELLS;
 
 const INPUT_SIZE: usize = 65536;
@@ -79,18 +82,36 @@ pub fn turn(
     }
 }
 
-// Prints the differences of two files, each open for reading, or not open and read as empty; whether all was written.
+// `failed` lasts for one turn, so that a read that failed is reported once. Nothing is called between that read and this, so errno is still its own.
+fn report_read(side: Side, name: &[u8]) {
+    if side.failed {
+        fail_to_read(b"fielddiff", name);
+    }
+}
+
+fn report_reads(run: Run, left_name: &[u8], right_name: &[u8]) {
+    let left = run.left;
+    let right = run.right;
+    report_read(left, left_name);
+    report_read(right, right_name);
+}
+
+// Prints the differences of two files, each open for reading, or not open and read as empty. Where the run stands at the end says whether all was
+// written.
 pub fn compare_within(
     left_fd: i32,
     right_fd: i32,
     lopen: bool,
     ropen: bool,
+    watched: bool,
+    left_name: &[u8],
+    right_name: &[u8],
     lread: &mut [u8],
     rread: &mut [u8],
     lstore: &mut [u16],
     rstore: &mut [u16],
     out: &mut [u8],
-) -> bool
+) -> Run
     requires { ⌜ Enough (length (now lread)) (length (now rread)) (length (now lstore)) (length (now rstore)) (length (now out)) ⌝ }
     ensures { λ r. ⌜ Ended lopen ropen (now (lread .exit)) (now (rread .exit)) (now (lstore .exit)) (now (rstore .exit)) (now (out .exit)) r ⌝ }
 {
@@ -98,27 +119,35 @@ pub fn compare_within(
     let mut turns = u64::MAX;
     while turns > 0 {
         run = turn(left_fd, right_fd, run, lread, rread, lstore, rstore, out);
-        turns = turns_left(turns, run.open);
+        turns = turns_left(turns, run.open, watched);
+        report_reads(run, left_name, right_name);
     }
-    is_whole(close(run, out))
+    close(run, out)
 }
 
-// Prints the differences of two files, each open for reading, or -1 and read as empty.
-pub fn compare(left_fd: i32, right_fd: i32) {
+// Prints the differences of two files of these names, each open for reading, or -1 and read as empty. Text that still waits at the end is text whose
+// write failed.
+pub fn compare(left_fd: i32, right_fd: i32, left_name: &[u8], right_name: &[u8]) {
     let mut lread = [0u8; INPUT_SIZE];
     let mut rread = [0u8; INPUT_SIZE];
     let mut lstore = [0u16; MAX_FIELD_CELLS];
     let mut rstore = [0u16; MAX_FIELD_CELLS];
     let mut out = [0u8; TEXT_SIZE];
-    compare_within(
+    let after = compare_within(
         left_fd,
         right_fd,
         left_fd >= 0,
         right_fd >= 0,
+        is_watched(true),
+        left_name,
+        right_name,
         &mut lread,
         &mut rread,
         &mut lstore,
         &mut rstore,
         &mut out,
     );
+    if after.filled > 0 {
+        fail_to_write(b"fielddiff", b"");
+    }
 }

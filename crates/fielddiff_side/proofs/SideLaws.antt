@@ -1,13 +1,15 @@
 -- A turn of one file keeps what is to come of it, whatever still comes.
 -- By what the turn was: octets were read, octets were scanned, or nothing was done.
 use mathlib.Core.Path.{_≡_, refl, ap, sym, _∙_, subst}
-use mathlib.Core.Bool.{Bool, true, false, true≢false, _&&_}
+use mathlib.Core.Bool.{Bool, true, false, true≢false, not, _&&_, _||_}
 use mathlib.Core.Logic.{_⊎_, inl, inr}
 use mathlib.Core.List.{List, [], _++_, append-assoc}
-use Prim.Native.Nat.{ℕ, _+_, _-_, _≤_}
+use Prim.Native.Nat.{ℕ, _+_, _-_, _<_, _≤_}
 use native.Mathlib.Omega.{arith}
-use borrow.Author.Tests.{ltb-false}
-use lib.Dec.{ltb}
+use borrow.Author.Tests.{eq-eqb, ltb-false, ltb-true, ne-eqb}
+use lib.Dec.{eqb, ltb}
+use lib.IntN.{ℤ, pos, negsuc}
+use lib.Signed.{ltZ}
 use lib.ListN.{length, take, drop, drop-of-length-le, length-drop, take-append-drop}
 use lib.Seq.{drop-append-le}
 use Rattle.wire_spec.specs.Layout.{rfc8331}
@@ -19,16 +21,50 @@ use Rattle.fielddiff_rest.specs.Rest.{Standing, restOf}
 use Rattle.fieldfile_scan.specs.declared.state.State.{State}
 use Rattle.fieldfile_scan.specs.declared.state.State.the-variants as state
 use Rattle.fieldfile_scan.specs.Scan.{Reachable, scan, storeThen}
+use Rattle.program_spec.specs.Buffers.{Count}
 use Rattle.program_spec.proofs.BufferLaws.{length-here, part-behind}
 use Rattle.fielddiff_side.specs.declared.Side.{Side}
 use Rattle.fielddiff_side.specs.declared.Standing.{Standing as Held}
 use Rattle.fielddiff_side.specs.declared.Standing.the-variants as held
-use Rattle.fielddiff_side.specs.Side.{Advanced, HeldReachable, InSide, Kept, MayCome, ReadMore, StandsAs, behindTurn, isReading, isShort, readIn, reads, scans, stays, unscanned, usedOf, windowSize}
+use Rattle.fielddiff_side.specs.Side.{Advanced, HeldReachable, InSide, Kept, MayCome, ReadMore, StandsAs, behindTurn, isAtStart, isBroken, isReading, isShort, isUnread, readIn, reads, scans, stays, unscanned, usedOf, windowSize}
 use Rattle.fielddiff_side.proofs.ScanLaws.{Went, scan-steps, scan-went}
+
+-- a read that failed put nothing
+failed-count : (z : ℤ) (n : ℕ) → Count z n → ltZ z (pos 0) ≡ true → n ≡ 0
+failed-count (pos k) n c f = absurd (omega (arith, ltb-true k 0 f))
+failed-count (negsuc k) n c f = c
+
+and-false : (b : Bool) → (b && false) ≡ false
+and-false true = refl
+and-false false = refl
+
+or-true : (b : Bool) → (b || true) ≡ true
+or-true true = refl
+or-true false = refl
 
 module _ (d : Side) (input : List ℕ) (inside : InSide d (length input)) where
   pub here-long : length (unscanned d input) ≡ d .end - d .at
   here-long = length-here input (d .at) (d .end) (inside .0) (inside .1)
+
+  -- A FILE WHOSE FIRST READ FAILS reads as empty: no octet of it is at hand, none is to come, and the comparison goes on
+  pub first-read-fails : (r : Side) (input′ : List ℕ) (t : ReadMore d input r input′) → d .standing ≡ held.Reading state.Start → d .at ≡ d .end
+      → ltZ (t .answer) (pos 0) ≡ true → t .interrupted ≡ false → (unscanned r input′ ≡ []) × (r .more ≡ false) × (isBroken r ≡ false)
+  first-read-fails r input′ t s e f i =
+      let none : t .count ≡ 0 = failed-count (t .answer) (t .count) (t .counts) f in
+      let first : isUnread d ≡ true = λ j. isAtStart (s j) && eq-eqb (d .end - d .at) 0 (omega (arith, e)) j in
+      let over : r .more ≡ false = t .goes-on ∙ (λ j. ltb 0 (none j) || (f j && (i j || not (first j)))) in
+      let empty : r .end - r .at ≡ 0 = omega (arith, t .size, e, none) in
+      (ap (λ (n : ℕ). take n (drop (r .at) input′)) empty, over, ap (λ (b : Bool). r .failed && b) over ∙ and-false (r .failed))
+
+  -- one whose read fails later is broken: there may be more of it, and the comparison ends
+  pub later-read-fails : (r : Side) (input′ : List ℕ) (t : ReadMore d input r input′) → d .at < d .end
+      → ltZ (t .answer) (pos 0) ≡ true → t .interrupted ≡ false → isBroken r ≡ true
+  later-read-fails r input′ t h f i =
+      let some : eqb (d .end - d .at) 0 ≡ false = ne-eqb (d .end - d .at) 0 (λ q. omega (arith, q, h)) in
+      let later : isUnread d ≡ false = ap (λ (b : Bool). isAtStart (d .standing) && b) some ∙ and-false (isAtStart (d .standing)) in
+      let fails : r .failed ≡ true = t .fails ∙ (λ j. f j && not (i j)) in
+      let more : r .more ≡ true = t .goes-on ∙ (λ j. ltb 0 (t .count) || (f j && (i j || not (later j)))) ∙ or-true (ltb 0 (t .count)) in
+      λ j. fails j && more j
 
   -- nothing was read
   pub none-read : readIn d d input ≡ []

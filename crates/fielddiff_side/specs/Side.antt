@@ -58,6 +58,23 @@ MayCome d s = d .more ≡ false → s ≡ []
 abbrev pub isShort : Side → Bool
 isShort d = d .more && ltb (d .end - d .at) windowSize
 
+-- the file's head is not scanned yet
+abbrev pub isAtStart : Held → Bool
+isAtStart (held.Reading state.Start) = true
+isAtStart (held.Reading (state.Between v)) = false
+isAtStart (held.Reading (state.Within p)) = false
+isAtStart (held.Field k v) = false
+isAtStart held.Ended = false
+isAtStart (held.Refused n) = false
+
+-- nothing of the file is read yet
+abbrev pub isUnread : Side → Bool
+isUnread d = isAtStart (d .standing) && eqb (d .end - d .at) 0
+
+-- a read failed behind octets that were read: what is to come of the file is not known
+abbrev pub isBroken : Side → Bool
+isBroken d = d .failed && d .more
+
 abbrev pub isReading : Held → Bool
 isReading (held.Reading st) = true
 isReading (held.Field k v) = false
@@ -126,8 +143,8 @@ HeldReachable (held.Field k v) = Unit {0}
 HeldReachable held.Ended = Unit {0}
 HeldReachable (held.Refused n) = Unit {0}
 
--- more is read behind what was left; there may be more where something was, or where the read failed; a failure is kept, but where a signal interrupted
--- the read, which is then tried again
+-- more is read behind what was left; there may be more if something was, or if the read failed. A failure is kept, unless a signal interrupted the read,
+-- which is then tried again. A file whose first read fails cannot be read at all: like one that cannot be opened, it "reads as empty" (02, K14)
 pub record ReadMore (d : Side) (input : List ℕ) (r : Side) (input′ : List ℕ) : Type 0 where
   pub answer : ℤ
   pub count : ℕ
@@ -135,9 +152,10 @@ pub record ReadMore (d : Side) (input : List ℕ) (r : Side) (input′ : List �
   pub standing : r .standing ≡ d .standing
   pub bounds : InSide r (length input′)
   pub octets : Begins (unscanned r input′) (unscanned d input)
+  pub size : r .end - r .at ≡ d .end - d .at + count
   pub counts : Count answer count
   pub signal : Interrupted answer interrupted
-  pub goes-on : r .more ≡ (ltb 0 count || ltZ answer (pos 0))
+  pub goes-on : r .more ≡ (ltb 0 count || (ltZ answer (pos 0) && (interrupted || not (isUnread d))))
   pub fails : r .failed ≡ (ltZ answer (pos 0) && not interrupted)
 
 -- WHAT A TURN OF A FILE DOES: more is read where fewer octets are at hand than any turn needs, and else these are scanned; a file that is not being read stays

@@ -5,7 +5,7 @@ ghost use Prim.Native.Nat.{_-_, _<_, _≤_};
 ghost use lib.ListN.{length};
 ghost use Rattle.wire_spec.specs.Writing.{maxFieldCells};
 ghost use Rattle.fieldfile_scan.specs.Scan.{Reachable, scan, storeThen};
-ghost use Rattle.fielddiff_side.specs.Side.{Advanced, HeldReachable, InSide, ReadMore, behindTurn, isReading, isShort, nextHeld, nextSide, opened, placeOf, stoodAs, unscanned, usedOf, windowSize};
+ghost use Rattle.fielddiff_side.specs.Side.{Advanced, HeldReachable, InSide, ReadMore, behindTurn, isAtStart, isReading, isShort, nextHeld, nextSide, opened, placeOf, stoodAs, unscanned, usedOf, windowSize};
 use fielddiff_lines::place::Found;
 use fielddiff_lines::place::Place;
 use fieldfile_scan::state::Scanned;
@@ -27,7 +27,8 @@ pub enum Standing {
     Refused(u8),
 }
 
-// The octets from `at` to `end` of the input are still to be scanned; `more` may follow; `failed`: a read did.
+// The octets from `at` to `end` of the input are still to be scanned; `more` may follow; `failed`: the last turn was a read, and it failed. If `more` may
+// follow a read that failed, it failed in the middle of the file.
 pub struct Side {
     pub standing: Standing,
     pub at: usize,
@@ -49,7 +50,29 @@ pub fn start(open: bool) -> Side
     }
 }
 
-// Moves what is left to the front, and reads more behind it. There must be room, as a read without any is like one at the end.
+// Whether the file's head is not scanned yet.
+fn is_at_start(standing: Standing) -> bool
+    ensures { λ r. ⌜ r ≡ isAtStart standing ⌝ }
+{
+    match standing {
+        Standing::Reading(state) => {
+            match state {
+                State::Start => true,
+                State::Between(_) => false,
+                State::Within(_) => false,
+            }
+        }
+        Standing::Field {
+            found: _,
+            version: _,
+        } => false,
+        Standing::Ended => false,
+        Standing::Refused(_) => false,
+    }
+}
+
+// Moves what is left to the front, and reads more behind it. There must be room, as a read without any is like one at the end. A file whose first read
+// fails reads as empty.
 fn read_more(fd: i32, side: Side, input: &mut [u8]) -> Side
     requires { ⌜ InSide side (length (now input)) ⌝ }
     requires { ⌜ side .end - side .at < length (now input) ⌝ }
@@ -63,11 +86,12 @@ fn read_more(fd: i32, side: Side, input: &mut [u8]) -> Side
     let got = libc::read(fd, &mut input[rest..]);
     let n = io::count(got, &input[rest..]);
     let interrupted = is_interrupted(got);
+    let unread = is_at_start(standing) & (rest == 0);
     Side {
         standing,
         at: 0,
         end: rest + n,
-        more: (n > 0) | (got < 0),
+        more: (n > 0) | ((got < 0) & (interrupted | !unread)),
         failed: (got < 0) & !interrupted,
     }
 }

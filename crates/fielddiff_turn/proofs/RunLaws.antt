@@ -18,7 +18,7 @@ use Rattle.fielddiff_rest.proofs.FromLaws.{from-0}
 use Rattle.program_spec.specs.Buffers.{Begins}
 use Rattle.program_spec.specs.Turns.{LastTurn, Passed, started as no-turn, turned, turnsOf}
 use Rattle.program_spec.proofs.TurnLaws.{Prints, always, counts-turns, run-prints}
-use Rattle.fielddiff_side.specs.Side.{MayCome, opened, unscanned}
+use Rattle.fielddiff_side.specs.Side.{MayCome, isBroken, opened, unscanned}
 use Rattle.fielddiff_turn.specs.declared.Run.{Run}
 use Rattle.fielddiff_turn.specs.declared.Phase.{Phase}
 use Rattle.fielddiff_turn.specs.declared.Phase.the-variants as phase
@@ -89,8 +89,8 @@ step-closes : (v : Run) (leftInput rightInput leftStore rightStore : List ℕ) (
     → v .«open» ≡ true → Step v leftInput rightInput leftStore rightStore r leftInput′ rightInput′ → r .«open» ≡ false → Closes r
 step-closes v a b c d r a′ b′ o (turns.writes h f) e = flush-closes v r o h f e
 step-closes v a b c d r a′ b′ o (turns.rests h f) e = turns.list (ap (λ (x : Run). isOver (x .phase)) (f .is) ∙ h)
-step-closes v a b c d r a′ b′ o (turns.leftOn h s is) e = turns.left (not-false (r .left .failed) (sym (ap (λ (x : Run). x .«open») is) ∙ e))
-step-closes v a b c d r a′ b′ o (turns.rightOn h s is) e = turns.right (not-false (r .right .failed) (sym (ap (λ (x : Run). x .«open») is) ∙ e))
+step-closes v a b c d r a′ b′ o (turns.leftOn h s is) e = turns.left (not-false (isBroken (r .left)) (sym (ap (λ (x : Run). x .«open») is) ∙ e))
+step-closes v a b c d r a′ b′ o (turns.rightOn h s is) e = turns.right (not-false (isBroken (r .right)) (sym (ap (λ (x : Run). x .«open») is) ∙ e))
 step-closes v a b c d r a′ b′ o (turns.places h is) e =
     turns.list (ap (λ (x : Run). isOver (x .phase)) is ∙ not-false _ (sym (ap (λ (x : Run). x .«open») is) ∙ e))
 step-closes v a b c d r a′ b′ o (turns.next q h ne is) e = absurd (true≢false (sym (ap (λ (x : Run). x .«open») is) ∙ e))
@@ -102,11 +102,11 @@ run-closes e no-turn q = absurd (true≢false (sym (ap (λ (v : Run). v .«open�
 run-closes e (turned {a = a} {b = b} p o t) q =
     step-closes (a .run) (a .leftInput) (a .rightInput) (a .leftStore) (a .rightStore) (b .run) (b .leftInput) (b .rightInput) o (t .step) q
 
--- while a run is open its list has not ended, and no read failed
+-- while a run is open its list has not ended, and no read failed in the middle of a file
 record Goes (v : Run) : Type 0 where
   pub list : isOver (v .phase) ≡ false
-  pub left : v .left .failed ≡ false
-  pub right : v .right .failed ≡ false
+  pub left : isBroken (v .left) ≡ false
+  pub right : isBroken (v .right) ≡ false
 
 not-true : (b : Bool) → not b ≡ true → b ≡ false
 not-true true e = absurd (true≢false (sym e))
@@ -141,12 +141,13 @@ failed-goes e no-turn w = absurd w
 failed-goes e (turned {a = a} {b = b} p o t) (f, q) = (flushed-goes (a .run) (b .run) f (run-goes e p o), q)
 
 -- A WRITE THAT FAILED IS NOT TRIED AGAIN: nothing more is written, and the run says that not all was
-pub run-stops : {lo ro whole : Bool} {leftInput rightInput leftStore rightStore out : List ℕ} (e : Ended lo ro leftInput rightInput leftStore rightStore out whole)
-    → LastTurn turning WriteFailed (e .passed) → (e .after ≡ e .before) × (whole ≡ false)
-run-stops {whole = whole} e w = go (failed-goes (e .starts) (e .passed) w) (e .closed)
+pub run-stops : {lo ro : Bool} {after : Run} {leftInput rightInput leftStore rightStore out : List ℕ}
+    (e : Ended lo ro leftInput rightInput leftStore rightStore out after)
+    → LastTurn turning WriteFailed (e .passed) → (after ≡ e .before) × (isWhole after ≡ false)
+run-stops {after = after} e w = go (failed-goes (e .starts) (e .passed) w) (e .closed)
   where
-    go : Goes (e .before) × (e .before .«open» ≡ false) → Closed (e .before) (e .after) → (e .after ≡ e .before) × (whole ≡ false)
-    go (g, o) (turns.stuck s is) = (is, e .answer ∙ ap isWhole is ∙ ap (λ (b : Bool). b && eqb (e .before .filled) 0) (g .list))
+    go : Goes (e .before) × (e .before .«open» ≡ false) → Closed (e .before) after → (after ≡ e .before) × (isWhole after ≡ false)
+    go (g, o) (turns.stuck s is) = (is, ap isWhole is ∙ ap (λ (b : Bool). b && eqb (e .before .filled) 0) (g .list))
     go (g, o) (turns.flushes s f) = absurd (true≢false (sym (λ i. not (o i || g .list i) && not (g .left i || g .right i)) ∙ s))
 
 module _ {readLeft readRight written : List ℕ} {v : Run} {leftInput rightInput leftStore rightStore out : List ℕ} (z : Stood readLeft readRight written v leftInput rightInput leftStore rightStore out) where

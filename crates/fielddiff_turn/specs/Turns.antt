@@ -23,7 +23,7 @@ use Rattle.program_spec.specs.Buffers.{Begins, Flushed, begun}
 use Rattle.program_spec.specs.Turns.{Passed, Turning, maxTurns, turnsOf}
 use Rattle.fielddiff_side.specs.declared.Side.{Side}
 use Rattle.fielddiff_side.specs.Side as side
-use Rattle.fielddiff_side.specs.Side.{HeldReachable, InSide, MayCome, Short, StandsAs, isReading, nextSide, opened, placeOf, readIn, unscanned, windowSize}
+use Rattle.fielddiff_side.specs.Side.{HeldReachable, InSide, MayCome, Short, StandsAs, isBroken, isReading, nextSide, opened, placeOf, readIn, unscanned, windowSize}
 use Rattle.fielddiff_turn.specs.declared.Run.{Run}
 use Rattle.fielddiff_turn.specs.declared.Records.{Records}
 use Rattle.fielddiff_turn.specs.declared.Phase.{Phase}
@@ -121,10 +121,10 @@ abbrev pub withPhase : Run → Phase → (filled : ℕ) → Run
 withPhase v p n = record { left = v .left; right = v .right; position = v .position; phase = p; filled = n; «open» = true }
 
 abbrev pub withLeft : Run → Side → Run
-withLeft v d = record { left = d; right = v .right; position = v .position; phase = phase.Places; filled = v .filled; «open» = not (d .failed) }
+withLeft v d = record { left = d; right = v .right; position = v .position; phase = phase.Places; filled = v .filled; «open» = not (isBroken d) }
 
 abbrev pub withRight : Run → Side → Run
-withRight v d = record { left = v .left; right = d; position = v .position; phase = phase.Places; filled = v .filled; «open» = not (d .failed) }
+withRight v d = record { left = v .left; right = d; position = v .position; phase = phase.Places; filled = v .filled; «open» = not (isBroken d) }
 
 -- the text is written, or the write failed and it still waits
 pub record RunFlushed (v r : Run) : Type 0 where
@@ -246,25 +246,26 @@ WriteFailed a b = RunFlushed (a .run) (b .run) × (b .run .«open» ≡ false)
 abbrev pub isWhole : Run → Bool
 isWhole v = isOver (v .phase) && eqb (v .filled) 0
 
--- WHY A RUN HAS ENDED: the list has, a read of a file failed, or text waits whose write failed
+-- WHY A RUN HAS ENDED: the list has, a read failed in the middle of a file, or text waits whose write failed
 pub data Closes (v : Run) : Type 0 where
   list : isOver (v .phase) ≡ true → Closes v
-  left : v .left .failed ≡ true → Closes v
-  right : v .right .failed ≡ true → Closes v
+  left : isBroken (v .left) ≡ true → Closes v
+  right : isBroken (v .right) ≡ true → Closes v
   text : 0 < v .filled → Closes v
 
 -- a write failed: the run has ended, though its list has not, and no read failed
 abbrev pub isStuck : Run → Bool
-isStuck v = not (v .«open» || isOver (v .phase)) && not (v .left .failed || v .right .failed)
+isStuck v = not (v .«open» || isOver (v .phase)) && not (isBroken (v .left) || isBroken (v .right))
 
 -- HOW A RUN CLOSES: the text that waits is written; where a write failed, nothing more is
 pub data Closed (v r : Run) : Type 0 where
   stuck : isStuck v ≡ true → r ≡ v → Closed v r
   flushes : isStuck v ≡ false → RunFlushed v r → Closed v r
 
--- THE WHOLE RUN, which leaves these octets, cells and texts in the buffers. It goes on until the list ends, a read or a write fails, or no turn is left.
--- What was written is what the output for the two files begins with, whatever is still to come of them; and where all was written, it is the output
-pub record Ended (leftOpen rightOpen : Bool) (leftInput rightInput leftStore rightStore out : List ℕ) (whole : Bool) : Type 0 where
+-- THE WHOLE RUN, which leaves these octets, cells and texts in the buffers, and stands at `after`. It goes on until the list ends, a read fails in the
+-- middle of a file, a write fails, or no turn is left. What was written is what the output for the two files begins with, whatever is still to come of
+-- them; and if all was written, it is the output
+pub record Ended (leftOpen rightOpen : Bool) (leftInput rightInput leftStore rightStore out : List ℕ) (after : Run) : Type 0 where
   pub from : At
   pub starts : from .run ≡ started (opened leftOpen) (opened rightOpen)
   pub readLeft : List ℕ
@@ -272,12 +273,10 @@ pub record Ended (leftOpen rightOpen : Bool) (leftInput rightInput leftStore rig
   pub written : List ℕ
   pub before : Run
   pub passed : Passed turning from (readLeft, readRight) written (at before leftInput rightInput leftStore rightStore out)
-  pub after : Run
   pub closed : Closed before after
-  pub answer : whole ≡ isWhole after
   pub ends : before .«open» ≡ true → turnsOf turning passed ≡ maxTurns
   pub closes : before .«open» ≡ false → Closes before
   pub begins : (s t : List ℕ) → MayCome (before .left) s → MayCome (before .right) t
       → Begins (comparison (readLeft ++ s) (readRight ++ t)) (written ++ writtenIn before after out)
-  pub complete : whole ≡ true → (s t : List ℕ) → MayCome (before .left) s → MayCome (before .right) t
+  pub complete : isWhole after ≡ true → (s t : List ℕ) → MayCome (before .left) s → MayCome (before .right) t
       → written ++ writtenIn before after out ≡ comparison (readLeft ++ s) (readRight ++ t)

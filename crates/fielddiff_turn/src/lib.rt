@@ -9,7 +9,7 @@ ghost use Rattle.fielddiff_spec.specs.Diff.{cellLines};
 ghost use Rattle.fielddiff_spec.specs.Text.{diffText};
 ghost use Rattle.fielddiff_lines.specs.Places.{placeLines};
 ghost use Rattle.fielddiff_side.specs.Side.{placeOf};
-ghost use Rattle.fielddiff_turn.specs.Turns.{Closed, Here, Now, RunFlushed, Stands, StillTurned, behindRecord, besideEnd, besideField, cellsHere, isOver, isStuck, isWhole, phaseAfter, placesDone, recordEnd, started, textRoom, withLeft, withPhase, withRight};
+ghost use Rattle.fielddiff_turn.specs.Turns.{Closed, Here, Now, RunFlushed, Stands, StillTurned, behindRecord, besideEnd, besideField, cellsHere, isOver, isStuck, phaseAfter, placesDone, recordEnd, started, textRoom, withLeft, withPhase, withRight};
 use anc_record::header::Header;
 use fielddiff_lines::place::Found;
 use fielddiff_lines::place::Place;
@@ -211,7 +211,7 @@ pub fn with_left(run: Run, left: Side) -> Run
         position: run.position,
         phase: Phase::Places,
         filled: run.filled,
-        open: !left.failed,
+        open: !(left.failed & left.more),
     }
 }
 
@@ -225,7 +225,7 @@ pub fn with_right(run: Run, right: Side) -> Run
         position: run.position,
         phase: Phase::Places,
         filled: run.filled,
-        open: !right.failed,
+        open: !(right.failed & right.more),
     }
 }
 
@@ -255,21 +255,14 @@ pub fn start(left: Side, right: Side) -> Run
     }
 }
 
-pub fn is_whole(run: Run) -> bool
-    ensures { λ r. ⌜ r ≡ isWhole run ⌝ }
-{
-    let phase = run.phase;
-    is_over(phase) & (run.filled == 0)
-}
-
-// Whether a write failed: the run has ended, though its list has not, and no read failed.
+// Whether a write failed: the run has ended, though its list has not, and no read failed in the middle of a file.
 fn is_stuck(run: Run) -> bool
     ensures { λ r. ⌜ r ≡ isStuck run ⌝ }
 {
     let left = run.left;
     let right = run.right;
     let phase = run.phase;
-    !(run.open | is_over(phase)) & !(left.failed | right.failed)
+    !(run.open | is_over(phase)) & !((left.failed & left.more) | (right.failed & right.more))
 }
 
 // Writes the last of the text. A write that failed is not tried again.

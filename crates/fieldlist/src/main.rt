@@ -6,12 +6,16 @@ use fieldlist_session::session::FIELD_ROOM;
 use fieldlist_turns::close;
 use fieldlist_turns::start;
 use fieldlist_turns::turn;
-use program::buffers::is_done;
+use program::buffers::failure_of;
 use program::buffers::turns_left;
+use program::progress::is_watched;
+use program_arguments::failures::report_failure;
 use program_arguments::files::file_at;
 use program_arguments::files::layout_told;
 use program_arguments::files::open_input;
 use program_arguments::options::may_start;
+use program_spec::buffers::Buffers;
+use program_spec::buffers::Failure;
 use rtp_frames::MAX_FRAME;
 use wire_spec::layout::Layout;
 use wire_spec::limit::MAX_FIELD_CELLS;
@@ -21,8 +25,15 @@ const INPUT_SIZE: usize = 4 * MAX_FRAME;
 
 const TEXT_SIZE: usize = 2 * FIELD_ROOM;
 
-// Whether the listing was written whole.
-fn list(layout: Layout, fd: i32, input: &mut [u8], store: &mut [u16], out: &mut [u8]) -> bool
+// Lists the packets of `fd`. The buffers at the end say whether the listing was written whole.
+fn list(
+    layout: Layout,
+    fd: i32,
+    watched: bool,
+    input: &mut [u8],
+    store: &mut [u16],
+    out: &mut [u8],
+) -> Buffers
     requires { ⌜ Enough (length (now input)) (length (now store)) (length (now out)) ⌝ }
     ensures { λ r. ⌜ Ended layout (now (store .entry)) (now (store .exit)) (now (out .exit)) r ⌝ }
 {
@@ -31,9 +42,25 @@ fn list(layout: Layout, fd: i32, input: &mut [u8], store: &mut [u16], out: &mut 
     while turns > 0 {
         run = turn(fd, run, input, store, out);
         let buffers = run.buffers;
-        turns = turns_left(turns, buffers.open);
+        turns = turns_left(turns, buffers.open, watched);
     }
-    is_done(close(run, input, out))
+    close(run, input, out)
+}
+
+// Lists them in buffers of its own; what failed, if anything did.
+fn list_file(layout: Layout, fd: i32) -> Failure {
+    let mut input = [0u8; INPUT_SIZE];
+    let mut store = [0u16; MAX_FIELD_CELLS];
+    let mut out = [0u8; TEXT_SIZE];
+    let after = list(
+        layout,
+        fd,
+        is_watched(true),
+        &mut input,
+        &mut store,
+        &mut out,
+    );
+    failure_of(after)
 }
 
 // Whether the work is to be done: not where an option asks for something else, nor where the arguments are too many.
@@ -56,12 +83,13 @@ fn main() {
     if !starts(layout) {
         return;
     }
-    let fd = open_input(layout);
+    let at = file_at(layout);
+    let fd = open_input(b"fieldlist", at);
     if fd < 0 {
         return;
     }
-    let mut input = [0u8; INPUT_SIZE];
-    let mut store = [0u16; MAX_FIELD_CELLS];
-    let mut out = [0u8; TEXT_SIZE];
-    list(layout, fd, &mut input, &mut store, &mut out);
+    let mut name = io::buffer();
+    let length = os::arg(at, &mut name);
+    let failure = list_file(layout, fd);
+    report_failure(failure, b"fieldlist", &name[..length], b"");
 }

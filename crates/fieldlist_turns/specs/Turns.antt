@@ -1,6 +1,5 @@
 -- `fieldlist` as a program over frames (01, "`fieldlist`"): what its buffers must hold, and what its whole run is.
 use mathlib.Core.Path.{_≡_}
-use mathlib.Core.Bool.{Bool}
 use mathlib.Core.List.{List}
 use Prim.Native.Nat.{ℕ, _+_, _*_, _≤_}
 use Rattle.wire_spec.specs.Bits.{overwrite}
@@ -47,6 +46,6 @@ abbrev pub Closes : Run → (input out : List ℕ) → Buffers → (out′ : Lis
 Closes v input out r out′ = (store : List ℕ) → run.Closed program (at (v .session, store) (v .buffers) input out) r out′
 
 -- THE WHOLE RUN: what is written is the listing of what is read
-abbrev pub Ended : Layout → (store store′ out′ : List ℕ) → (isWhole : Bool) → Type 0
-Ended L store store′ out′ isWhole =
-    (a : At (Session × List ℕ)) × (a .state .1 ≡ store′) × run.Ended program (listing L store) (session.Waiting L, store) a out′ isWhole
+abbrev pub Ended : Layout → (store store′ out′ : List ℕ) → (after : Buffers) → Type 0
+Ended L store store′ out′ after =
+    (a : At (Session × List ℕ)) × (a .state .1 ≡ store′) × run.Ended program (listing L store) (session.Waiting L, store) a out′ after

@@ -6,8 +6,12 @@ use fieldsave_session::FIELD_ROOM;
 use fieldsave_turns::start;
 use fieldsave_turns::turn;
 use libc::STDERR_FILENO;
+use program::buffers::failure_of;
 use program::buffers::is_done;
-use program::buffers::silent_turns_left;
+use program::buffers::turns_left;
+use program::progress::is_watched;
+use program_arguments::failures::fail;
+use program_arguments::failures::report_failure;
 use program_arguments::files::create_named;
 use program_arguments::files::file_at;
 use program_arguments::files::layout_told;
@@ -15,6 +19,7 @@ use program_arguments::files::open_named;
 use program_arguments::options::has_words;
 use program_arguments::options::may_start;
 use program_spec::buffers::Buffers;
+use program_spec::buffers::Failure;
 use rtp_frames::MAX_FRAME;
 use wire_spec::layout::Layout;
 use wire_spec::limit::MAX_FIELD_CELLS;
@@ -24,7 +29,7 @@ const INPUT_SIZE: usize = 4 * MAX_FRAME;
 
 const FILE_SIZE: usize = 2 * FIELD_ROOM;
 
-// Octets that are left where the input has ended are a broken last frame.
+// Octets that are left at the end of the input are a broken last frame.
 fn tell_cut(buffers: Buffers) {
     if is_done(buffers) {
         if buffers.at < buffers.end {
@@ -33,15 +38,16 @@ fn tell_cut(buffers: Buffers) {
     }
 }
 
-// Whether the file was written whole.
+// Files the packets of `fd` in `to`. The buffers at the end say whether the file was written whole.
 fn file(
     layout: Layout,
     fd: i32,
     to: i32,
+    watched: bool,
     input: &mut [u8],
     store: &mut [u16],
     out: &mut [u8],
-) -> bool
+) -> Buffers
     requires { ⌜ Enough (length (now input)) (length (now store)) (length (now out)) ⌝ }
     ensures { λ r. ⌜ Ended layout (now (store .entry)) (now (store .exit)) (now (out .exit)) r ⌝ }
 {
@@ -50,17 +56,34 @@ fn file(
     while turns > 0 {
         run = turn(fd, to, run, input, store, out);
         let buffers = run.buffers;
-        turns = silent_turns_left(turns, buffers.open);
+        turns = turns_left(turns, buffers.open, watched);
     }
     let buffers = run.buffers;
-    tell_cut(buffers);
-    is_done(buffers)
+    buffers
 }
 
-// Some file systems tell only here that a write has failed.
-fn close_file(to: i32) {
+// Files them in buffers of its own; what failed, if anything did.
+fn file_frames(layout: Layout, fd: i32, to: i32) -> Failure {
+    let mut input = [0u8; INPUT_SIZE];
+    let mut store = [0u16; MAX_FIELD_CELLS];
+    let mut out = [0u8; FILE_SIZE];
+    let after = file(
+        layout,
+        fd,
+        to,
+        is_watched(false),
+        &mut input,
+        &mut store,
+        &mut out,
+    );
+    tell_cut(after);
+    failure_of(after)
+}
+
+// Some file systems report only here that a write has failed.
+fn close_file(to: i32, name: &[u8]) {
     if libc::close(to) < 0 {
-        os::fail(b"close");
+        fail(b"fieldsave", name);
     }
 }
 
@@ -88,18 +111,25 @@ fn main() {
         return;
     }
     let at = file_at(layout);
-    let fd = open_named(at);
+    let fd = open_named(b"fieldsave", at);
     if fd < 0 {
         return;
     }
-    let to = create_named(at + 1);
-    // Where a program is started without standard error, a new file takes its place, and must not get what is told there.
+    let to = create_named(b"fieldsave", at + 1);
+    // If the program is started without standard error, a new file takes its place, and must not get the messages.
     if to <= STDERR_FILENO {
         return;
     }
-    let mut input = [0u8; INPUT_SIZE];
-    let mut store = [0u16; MAX_FIELD_CELLS];
-    let mut out = [0u8; FILE_SIZE];
-    file(layout, fd, to, &mut input, &mut store, &mut out);
-    close_file(to);
+    let mut name = io::buffer();
+    let length = os::arg(at, &mut name);
+    let mut new_name = io::buffer();
+    let new_length = os::arg(at + 1, &mut new_name);
+    let failure = file_frames(layout, fd, to);
+    report_failure(
+        failure,
+        b"fieldsave",
+        &name[..length],
+        &new_name[..new_length],
+    );
+    close_file(to, &new_name[..new_length]);
 }

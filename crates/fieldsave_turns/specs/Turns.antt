@@ -1,6 +1,5 @@
 -- `fieldsave` as a program over frames: what its buffers must hold, and what its whole run is.
 use mathlib.Core.Path.{_≡_}
-use mathlib.Core.Bool.{Bool}
 use mathlib.Core.List.{List}
 use Prim.Native.Nat.{ℕ, _≤_}
 use Rattle.wire_spec.specs.Bits.{overwrite}
@@ -8,6 +7,7 @@ use Rattle.wire_spec.specs.Layout.{Layout}
 use Rattle.wire_spec.specs.Writing.{maxFieldCells}
 use Rattle.fieldfile_spec.specs.File.{fileHead, writtenVersion}
 use Rattle.rtp_frames.specs.Frames.{maxFrame}
+use Rattle.program_spec.specs.declared.buffers.Buffers.{Buffers}
 use Rattle.program_spec.specs.Frames.{overFrames}
 use Rattle.program_spec.specs.Run as run
 use Rattle.program_spec.specs.Run.{At, at}
@@ -34,6 +34,6 @@ pub record Started (L : Layout) (out out′ : List ℕ) (r : Run) : Type 0 where
   pub waits : (store input : List ℕ) → run.Started program (session.Waiting L, store) (at (r .session, store) (r .buffers) input out′)
 
 -- THE WHOLE RUN: what is written is the field file of what is read
-abbrev pub Ended : Layout → (store store′ out′ : List ℕ) → (isWhole : Bool) → Type 0
-Ended L store store′ out′ isWhole =
-    (a : At (Session × List ℕ)) × (a .state .1 ≡ store′) × run.Ended program (filing L store) (session.Waiting L, store) a out′ isWhole
+abbrev pub Ended : Layout → (store store′ out′ : List ℕ) → (after : Buffers) → Type 0
+Ended L store store′ out′ after =
+    (a : At (Session × List ℕ)) × (a .state .1 ≡ store′) × run.Ended program (filing L store) (session.Waiting L, store) a out′ after

@@ -4,19 +4,22 @@ ghost use lib.ListN.{length};
 ghost use Rattle.pcapframes_turns.specs.Turns.{Ended, Enough};
 use capture_spec::format::MAX_ITEM;
 use libc::STDERR_FILENO;
-use libc::STDIN_FILENO;
 use pcapframes_session::finish;
 use pcapframes_session::told::TOLD_ROOM;
 use pcapframes_session::told::put_told;
 use pcapframes_spec::session::Session;
 use pcapframes_turns::start;
 use pcapframes_turns::turn;
+use program::buffers::failure_of;
 use program::buffers::is_done;
 use program::buffers::turns_left;
-use program_arguments::files::open_named;
+use program::progress::is_watched;
+use program_arguments::failures::report_failure;
+use program_arguments::files::open_input;
 use program_arguments::options::may_start;
 use program_port::Port;
 use program_port::port_of;
+use program_spec::buffers::Buffers;
 use rtp_frames::MAX_FRAME;
 
 // Octets of the buffers: any item and more to read, and some frames that wait to be written together.
@@ -24,28 +27,28 @@ const INPUT_SIZE: usize = 2 * MAX_ITEM;
 
 const OUT_SIZE: usize = 4 * MAX_FRAME;
 
-// What the walk came to, and whether all frames were written.
+// What the walk came to, and the buffers at the end, which say whether all frames were written.
 struct Outcome {
     session: Session,
-    whole: bool,
+    buffers: Buffers,
 }
 
-fn extract(port: u16, fd: i32, input: &mut [u8], out: &mut [u8]) -> Outcome
+fn extract(port: u16, fd: i32, watched: bool, input: &mut [u8], out: &mut [u8]) -> Outcome
     requires { ⌜ Enough (length (now input)) (length (now out)) ⌝ }
-    ensures { λ r. ⌜ Ended port (r .session) (now (input .exit)) (now (out .exit)) (r .whole) ⌝ }
+    ensures { λ r. ⌜ Ended port (r .session) (now (input .exit)) (now (out .exit)) (r .buffers) ⌝ }
 {
     let mut run = start();
     let mut turns = u64::MAX;
     while turns > 0 {
         run = turn(fd, port, run, input, out);
         let buffers = run.buffers;
-        turns = turns_left(turns, buffers.open);
+        turns = turns_left(turns, buffers.open, watched);
     }
     let session = run.session;
     let buffers = run.buffers;
     Outcome {
         session: finish(session, buffers.end - buffers.at),
-        whole: is_done(buffers),
+        buffers,
     }
 }
 
@@ -65,24 +68,25 @@ fn port_told() -> Port {
     port_of(&word[..length])
 }
 
-// Standard input, or the file that the argument names.
-fn open_input() -> i32 {
-    if os::arg_count() < 3 {
-        return STDIN_FILENO;
-    }
-    open_named(2)
+// The walk in buffers of its own.
+fn extract_frames(port: u16, fd: i32) -> Outcome {
+    let mut input = [0u8; INPUT_SIZE];
+    let mut out = [0u8; OUT_SIZE];
+    extract(port, fd, is_watched(true), &mut input, &mut out)
 }
 
 fn run(port: u16) {
-    let fd = open_input();
+    let fd = open_input(b"pcapframes", 2);
     if fd < 0 {
         return;
     }
-    let mut input = [0u8; INPUT_SIZE];
-    let mut out = [0u8; OUT_SIZE];
-    let outcome = extract(port, fd, &mut input, &mut out);
+    let mut name = io::buffer();
+    let length = os::arg(2, &mut name);
+    let outcome = extract_frames(port, fd);
     let session = outcome.session;
-    if outcome.whole {
+    let buffers = outcome.buffers;
+    report_failure(failure_of(buffers), b"pcapframes", &name[..length], b"");
+    if is_done(buffers) {
         tell(session);
     }
 }

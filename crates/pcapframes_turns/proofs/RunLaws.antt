@@ -1,12 +1,10 @@
 -- The counts of a session are at most the turns that were made; and the whole run, said of the frames.
 -- Each item raises each of them by one at the most; the text of the walk is the frames.
 use mathlib.Core.Path.{_≡_, refl, sym, _∙_}
-use mathlib.Core.Bool.{Bool}
 use mathlib.Core.List.{List, append-nil}
 use Prim.Native.Nat.{ℕ, _+_, _<_, _≤_}
 use native.Mathlib.Omega.{arith}
 use lib.ListN.{length}
-use Rattle.program_spec.specs.Buffers.{isDone}
 use Rattle.program_spec.specs.Run.{At, Started, turning, unused}
 use Rattle.program_spec.specs.Turns.{turnsOf}
 use Rattle.program_spec.specs.Walk.{over, taken}
@@ -36,14 +34,14 @@ countable {port} {from} {here} {turns} b f h =
 
 -- the whole run, said of the frames; there is no last text
 pub ended : {port : ℕ} {from here : At Session} {turns : ℕ} → Started (frameWalk port) begun from → Sofar (turning (frameWalk port)) from here turns → turns ≤ 0
-    → {s : Session} → s ≡ lastOf (here .state) (length (unused here)) → {isWhole : Bool} → isWhole ≡ isDone (here .buffers) → Ended port s (here .input) (here .out) isWhole
-ended {port} {here = here} t f n last e =
-    let r = run-ended (frameWalk port) (lawful port) (framesOf port) (λ l. sym (walk-text port l)) t f n (closed-without (frameWalk port) {a = here} refl) e in
+    → {s : Session} → s ≡ lastOf (here .state) (length (unused here)) → Ended port s (here .input) (here .out) (here .buffers)
+ended {port} {here = here} t f n last =
+    let r = run-ended (frameWalk port) (lawful port) (framesOf port) (λ l. sym (walk-text port l)) t f n (closed-without (frameWalk port) {a = here} refl) in
     record {
       before = here;
       run = r;
       holds = (refl, refl);
       at-last = last;
-      complete = λ h. sym (append-nil (r .written)) ∙ r .but-last (sym e ∙ h);
+      complete = λ h. sym (append-nil (r .written)) ∙ r .but-last h;
       carries = λ h. last ∙ r .carries h;
     }

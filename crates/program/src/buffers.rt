@@ -4,13 +4,14 @@ ghost use Prim.Native.Nat.{_+_, _-_, _^_, _<_, _≤_};
 ghost use mathlib.Core.Bool.{cond};
 ghost use mathlib.Core.Path.{_≡_};
 ghost use lib.ListN.{length};
-ghost use Rattle.program_spec.specs.Buffers.{Flushed, InBounds, Interrupted, ReadMore, Refilled, WrittenOf, advanced, begun, ended, isDone};
+ghost use Rattle.program_spec.specs.Buffers.{Flushed, InBounds, Interrupted, ReadMore, Refilled, WrittenOf, advanced, begun, ended, failureOf, isDone};
 ghost use Rattle.program_spec.specs.Run.{CanStep, Stepped};
 use crate::progress::end;
 use crate::progress::show;
 use libc::EINTR;
 use libc::STDOUT_FILENO;
 use program_spec::buffers::Buffers;
+use program_spec::buffers::Failure;
 use program_spec::buffers::Step;
 use program_spec::buffers::Written;
 use rtp_frames::move_to_front;
@@ -55,14 +56,13 @@ pub fn finish(buffers: Buffers, filled: usize) -> Buffers
     }
 }
 
-// Every write goes through here; one that fails is told.
+// Every write goes through here.
 fn write_text(to: i32, text: &[u8]) -> Written
     ensures { λ r. ⌜ WrittenOf r (length (now (text .entry))) ⌝ }
 {
     if io::write_all(to, text) {
         return Written::All(text.len());
     }
-    os::fail(b"write");
     Written::Failed
 }
 
@@ -101,18 +101,14 @@ pub fn flush(buffers: Buffers, out: &[u8]) -> Buffers
     flush_to(STDOUT_FILENO, buffers, out)
 }
 
-// Whether a signal interrupted a read, which is then tried again; any other that failed is told.
+// Whether a signal interrupted a read, which is then tried again.
 pub fn is_interrupted(got: isize) -> bool
     ensures { λ r. ⌜ Interrupted got r ⌝ }
 {
     if got >= 0 {
         return false;
     }
-    if os::errno() == EINTR {
-        return true;
-    }
-    os::fail(b"read");
-    false
+    os::errno() == EINTR
 }
 
 // Moves what is left to the front, and reads more behind it. There must be room, as a read without any is like one at the end.
@@ -191,33 +187,31 @@ pub fn is_done(buffers: Buffers) -> bool
     buffers.filled == 0
 }
 
-// The turns that are left: a proved loop ends, and nothing says that a stream does, so they are counted down from a number that no run uses up. They are
-// shown while the work is long, beside what the program prints, if it does.
-fn count_down(turns: u64, open: bool, prints: bool) -> u64
+// Which call failed, if one did. Until something else is called, errno says why.
+pub fn failure_of(buffers: Buffers) -> Failure
+    ensures { λ r. ⌜ r ≡ failureOf buffers ⌝ }
+{
+    let failed = buffers.failed;
+    if !failed {
+        return Failure::Nothing;
+    }
+    if buffers.filled == 0 {
+        return Failure::Read;
+    }
+    Failure::Write
+}
+
+// The turns that are left: loops must terminate, so they count down from 2^64 - 1, which no run uses up. If the work is watched (`is_watched`), a long
+// run shows how many were made. Only a write to that terminal is made here, so errno is still that of a read or a write that failed.
+pub fn turns_left(turns: u64, open: bool, watched: bool) -> u64
     requires { ⌜ 0 < turns ⌝ }
     ensures { λ r. ⌜ r ≡ cond «open» (turns - 1) 0 ⌝ }
 {
     if open {
         let left = turns - 1;
-        show(left, prints);
+        show(left, watched);
         return left;
     }
-    end(turns, prints);
+    end(turns, watched);
     0
-}
-
-// For a program that prints on standard output.
-pub fn turns_left(turns: u64, open: bool) -> u64
-    requires { ⌜ 0 < turns ⌝ }
-    ensures { λ r. ⌜ r ≡ cond «open» (turns - 1) 0 ⌝ }
-{
-    count_down(turns, open, true)
-}
-
-// For one that prints nothing.
-pub fn silent_turns_left(turns: u64, open: bool) -> u64
-    requires { ⌜ 0 < turns ⌝ }
-    ensures { λ r. ⌜ r ≡ cond «open» (turns - 1) 0 ⌝ }
-{
-    count_down(turns, open, false)
 }

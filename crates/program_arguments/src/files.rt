@@ -2,6 +2,7 @@
 ghost use Prim.Native.Nat.{_≤_};
 ghost use mathlib.Core.Path.{_≡_};
 ghost use Rattle.program_arguments.specs.Files.{fileAt, isOld};
+use crate::failures::fail;
 use check::same;
 use libc::ENAMETOOLONG;
 use libc::STDIN_FILENO;
@@ -37,47 +38,46 @@ pub fn file_at(layout: Layout) -> usize
     }
 }
 
-// Opens the file that an argument names. One that can't be is told: -1; so is a directory, whose read fails: -2. A name that is too long opens nothing.
-pub fn open_named(at: usize) -> i32 {
+// Opens the file that an argument names, or says why it cannot be opened, and answers -1. A directory can be opened, but not read: it is refused here.
+pub fn open_named(program: &[u8], at: usize) -> i32 {
     let mut path = io::buffer();
     let length = os::arg(at, &mut path);
     if os::errno() == ENAMETOOLONG {
-        os::fail(b"path");
+        fail(program, b"path");
         return -1;
     }
     let fd = os::open_read(&path[..length]);
     if fd < 0 {
-        os::fail(&path[..length]);
+        fail(program, &path[..length]);
         return -1;
     }
     let mut nothing = [0u8; 1];
     if libc::read(fd, &mut nothing[..0]) < 0 {
-        os::fail(&path[..length]);
-        return -2;
+        fail(program, &path[..length]);
+        return -1;
     }
     fd
 }
 
-// Makes the file that an argument names, or tells why not: -1. A file that is there is not written over.
-pub fn create_named(at: usize) -> i32 {
+// Makes the file that an argument names, or says why it cannot be made, and answers -1. A file that exists is not written over.
+pub fn create_named(program: &[u8], at: usize) -> i32 {
     let mut path = io::buffer();
     let length = os::arg(at, &mut path);
     if os::errno() == ENAMETOOLONG {
-        os::fail(b"path");
+        fail(program, b"path");
         return -1;
     }
     let fd = os::create(&path[..length]);
     if fd < 0 {
-        os::fail(&path[..length]);
+        fail(program, &path[..length]);
     }
     fd
 }
 
 // Standard input, or the file that the argument names.
-pub fn open_input(layout: Layout) -> i32 {
-    let at = file_at(layout);
+pub fn open_input(program: &[u8], at: usize) -> i32 {
     if os::arg_count() <= at {
         return STDIN_FILENO;
     }
-    open_named(at)
+    open_named(program, at)
 }

@@ -238,9 +238,9 @@ module _ (P : Program) (law : Lawful P) where
 
   -- A RUN THAT HAS ENDED: no turn is left
   pub run-ended : (whole : List ℕ → List ℕ) {s₀ : P .State} → ((l : List ℕ) → whole l ≡ output P s₀ l) → {from here : At (P .State)} {turns : ℕ} → Started P s₀ from
-      → Sofar (turning P) from here turns → turns ≤ 0 → {r : Buffers} {out′ : List ℕ} → Closed P here r out′ → {isWhole : Bool} → isWhole ≡ isDone r
-      → Ended P whole s₀ here out′ isWhole
-  run-ended whole {s₀} w {from} {here} starts f n {r} {out′} c e =
+      → Sofar (turning P) from here turns → turns ≤ 0 → {r : Buffers} {out′ : List ℕ} → Closed P here r out′
+      → Ended P whole s₀ here out′ r
+  run-ended whole {s₀} w {from} {here} starts f n {r} {out′} c =
       let p = f .passed in
       record {
         from = from;
@@ -248,19 +248,17 @@ module _ (P : Program) (law : Lawful P) where
         read = f .read;
         written = f .written;
         passed = p;
-        after = r;
         closed = c;
-        answer = e;
         ends = λ o. omega (arith, n, f .made o);
         begins = λ unread. subst (λ (l : List ℕ). Begins l (f .written)) (sym (w (f .read ++ unread))) (run-begins starts p unread);
         waits = λ unread. subst (λ (l : List ℕ). Begins l (f .written ++ unwritten here)) (sym (w (f .read ++ unread))) (run-waits starts p unread);
         but-last = λ h. run-but-last starts p h ∙ sym (w (f .read));
         last-waits = λ h. run-last starts p r out′ c h ∙ sym (w (f .read));
-        complete = λ h. run-whole starts p r out′ c (sym e ∙ h) ∙ sym (w (f .read));
+        complete = λ h. run-whole starts p r out′ c h ∙ sym (w (f .read));
         carries =
-            λ h. let d = closed-done starts p r out′ c (sym e ∙ h) in
+            λ h. let d = closed-done starts p r out′ c h in
             sym (ap (λ (y : Walked (P .State)). y .state) (rests-at starts p d)) ∙ run-carries starts p [] ∙ ap (λ (o : List ℕ). walk P s₀ o .state) (append-nil (f .read));
-        stops = λ h. run-rests starts p (closed-done starts p r out′ c (sym e ∙ h)) .1;
+        stops = λ h. run-rests starts p (closed-done starts p r out′ c h) .1;
       }
 
 -- BEHIND A READ OR A WRITE THAT FAILED no turn is made, nothing more is written, and the run says that not all was
@@ -274,9 +272,10 @@ no-end b f = go (b .«open»)
     go true = refl
     go false = ap (λ (x : Bool). not x && eqb (b .filled) 0) f
 
-pub failed-stops : {P : Program} {whole : List ℕ → List ℕ} {s₀ : P .State} {before : At (P .State)} {out′ : List ℕ} {isWhole : Bool} (e : Ended P whole s₀ before out′ isWhole)
-    → before .buffers .failed ≡ true → (e .after ≡ before .buffers) × (out′ ≡ before .out) × (isWhole ≡ false)
-failed-stops {P} {before = before} {out′ = out′} e f =
+pub failed-stops : {P : Program} {whole : List ℕ → List ℕ} {s₀ : P .State} {before : At (P .State)} {out′ : List ℕ}
+    {after : Buffers} (e : Ended P whole s₀ before out′ after)
+    → before .buffers .failed ≡ true → (after ≡ before .buffers) × (out′ ≡ before .out) × (isDone after ≡ false)
+failed-stops {P} {before = before} {out′ = out′} {after = after} e f =
     let d = no-end (before .buffers) f in
-    let x = subst (λ (z : Bool). Closing P z before (e .closed .ready) (e .after) out′) d (e .closed .step) in
-    (x .1, x .2, e .answer ∙ ap isDone (x .1) ∙ d)
+    let x = subst (λ (z : Bool). Closing P z before (e .closed .ready) after out′) d (e .closed .step) in
+    (x .1, x .2, ap isDone (x .1) ∙ d)

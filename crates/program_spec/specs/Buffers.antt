@@ -10,6 +10,8 @@ use lib.IntN.{ℤ, pos, negsuc}
 use lib.Signed.{ltZ}
 use lib.ListN.{length, take, drop}
 use Rattle.program_spec.specs.declared.buffers.Buffers.{Buffers}
+use Rattle.program_spec.specs.declared.buffers.Failure.{Failure}
+use Rattle.program_spec.specs.declared.buffers.Failure.the-variants as failure
 use Rattle.program_spec.specs.declared.buffers.Written.{Written}
 use Rattle.program_spec.specs.declared.buffers.Written.the-variants as written
 
@@ -36,6 +38,10 @@ writtenIn b r out = take (b .filled - r .filled) out
 -- the input has ended, no read and no write failed, and no text waits
 abbrev pub isDone : Buffers → Bool
 isDone b = not (b .«open» || b .failed) && eqb (b .filled) 0
+
+-- WHICH CALL FAILED, by the text that waits: a write that fails leaves its text waiting, and nothing is read while any waits
+abbrev pub failureOf : Buffers → Failure
+failureOf b = cond (b .failed) (cond (eqb (b .filled) 0) failure.Read failure.Write) failure.Nothing
 
 -- a list begins with another
 abbrev pub Begins : List ℕ → List ℕ → Type 0

@@ -110,27 +110,25 @@ module _ (P : Program) where
     at-end : (m : Buffers) → Flushed (a .buffers) m → (x : ReadMore m (a .input) (b .buffers) (b .input)) → x .answer ≡ pos 0 → Stops a b
     is-over : (z : P .State) → P .front (a .state) (unused a) ≡ over z → Stops a b
 
--- THE WHOLE RUN of a program whose output is `whole`. It goes on until the input ends, nothing more is taken, a read or a write fails, or no turn is left. What
--- was written is what the output begins with, whatever is still to be read; and where all was written, with the last text, it is the output for what was
--- read, which was all. The text that waits comes next, and at the end of the input the last text: a write that fails part-way has written a beginning of
--- them, so that a file on a full disk is a beginning of the file
-pub record Ended (P : Program) (whole : List ℕ → List ℕ) (s₀ : P .State) (before : At (P .State)) (out′ : List ℕ) (isWhole : Bool) : Type 0 where
+-- THE WHOLE RUN of a program whose output is `whole`, which leaves the buffers `after`. It goes on until the input ends, nothing more is taken, a read or a
+-- write fails, or no turn is left. What was written is what the output begins with, whatever is still to be read; and if the run is done, all was written,
+-- with the last text, and it is the output for what was read, which was all. The text that waits comes next, and at the end of the input the last text: a
+-- write that fails part-way has written a beginning of them, so that a file on a full disk is a beginning of the file
+pub record Ended (P : Program) (whole : List ℕ → List ℕ) (s₀ : P .State) (before : At (P .State)) (out′ : List ℕ) (after : Buffers) : Type 0 where
   pub from : At (P .State)
   pub starts : Started P s₀ from
   pub read : List ℕ
   pub written : List ℕ
   pub passed : Passed (turning P) from read written before
-  pub after : Buffers
   pub closed : Closed P before after out′
-  pub answer : isWhole ≡ isDone after
   pub ends : before .buffers .«open» ≡ true → turnsOf (turning P) passed ≡ maxTurns
   pub begins : (unread : List ℕ) → Begins (whole (read ++ unread)) written
   pub waits : (unread : List ℕ) → Begins (whole (read ++ unread)) (written ++ unwritten before)
   pub but-last : isDone (before .buffers) ≡ true → written ++ P .closing (before .state) (unused before) ≡ whole read
   pub last-waits : isDone (before .buffers) ≡ true → written ++ buffers.unwritten (closed .ready) out′ ≡ whole read
-  pub complete : isWhole ≡ true → written ++ buffers.writtenIn (closed .ready) after out′ ≡ whole read
-  pub carries : isWhole ≡ true → P .last (before .state) (unused before) ≡ walk P s₀ read .state
-  pub stops : isWhole ≡ true → LastTurn (turning P) (Stops P) passed
+  pub complete : isDone after ≡ true → written ++ buffers.writtenIn (closed .ready) after out′ ≡ whole read
+  pub carries : isDone after ≡ true → P .last (before .state) (unused before) ≡ walk P s₀ read .state
+  pub stops : isDone after ≡ true → LastTurn (turning P) (Stops P) passed
 
 -- 23: "lent octets too few"
 abbrev pub roomTooSmall : Refusal

@@ -11,6 +11,13 @@ pub struct Buffers {
     pub failed: bool,
 }
 
+// Which call failed, if one did.
+pub enum Failure {
+    Nothing,
+    Read,
+    Write,
+}
+
 // All of so many octets were written, or a write failed.
 pub enum Written {
     All(usize),

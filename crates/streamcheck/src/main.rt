@@ -2,12 +2,16 @@
 // file that its argument names. The frames and the lines are the library's; this program moves octets.
 ghost use lib.ListN.{length};
 ghost use Rattle.streamcheck_turns.specs.Turns.{Ended, Enough};
-use program::buffers::is_done;
+use program::buffers::failure_of;
 use program::buffers::turns_left;
+use program::progress::is_watched;
+use program_arguments::failures::report_failure;
 use program_arguments::files::file_at;
 use program_arguments::files::layout_told;
 use program_arguments::files::open_input;
 use program_arguments::options::may_start;
+use program_spec::buffers::Buffers;
+use program_spec::buffers::Failure;
 use rtp_frames::MAX_FRAME;
 use streamcheck_session::session::LINES_ROOM;
 use streamcheck_turns::close;
@@ -21,8 +25,15 @@ const INPUT_SIZE: usize = 4 * MAX_FRAME;
 
 const TEXT_SIZE: usize = 512 * LINES_ROOM;
 
-// Whether the report was written whole.
-fn report(layout: Layout, fd: i32, input: &mut [u8], cells: &mut [u16], out: &mut [u8]) -> bool
+// Checks the packets of `fd`. The buffers at the end say whether the report was written whole.
+fn check(
+    layout: Layout,
+    fd: i32,
+    watched: bool,
+    input: &mut [u8],
+    cells: &mut [u16],
+    out: &mut [u8],
+) -> Buffers
     requires { ⌜ Enough (length (now input)) (length (now cells)) (length (now out)) ⌝ }
     ensures { λ r. ⌜ Ended layout (now (out .exit)) r ⌝ }
 {
@@ -31,9 +42,25 @@ fn report(layout: Layout, fd: i32, input: &mut [u8], cells: &mut [u16], out: &mu
     while turns > 0 {
         run = turn(fd, run, input, cells, out);
         let buffers = run.buffers;
-        turns = turns_left(turns, buffers.open);
+        turns = turns_left(turns, buffers.open, watched);
     }
-    is_done(close(run, input, out))
+    close(run, input, out)
+}
+
+// Checks them in buffers of its own; what failed, if anything did.
+fn check_file(layout: Layout, fd: i32) -> Failure {
+    let mut input = [0u8; INPUT_SIZE];
+    let mut cells = [0u16; MAX_PACKET];
+    let mut out = [0u8; TEXT_SIZE];
+    let after = check(
+        layout,
+        fd,
+        is_watched(true),
+        &mut input,
+        &mut cells,
+        &mut out,
+    );
+    failure_of(after)
 }
 
 // Whether the work is to be done: not where an option asks for something else, nor where the arguments are too many.
@@ -56,12 +83,13 @@ fn main() {
     if !starts(layout) {
         return;
     }
-    let fd = open_input(layout);
+    let at = file_at(layout);
+    let fd = open_input(b"streamcheck", at);
     if fd < 0 {
         return;
     }
-    let mut input = [0u8; INPUT_SIZE];
-    let mut cells = [0u16; MAX_PACKET];
-    let mut out = [0u8; TEXT_SIZE];
-    report(layout, fd, &mut input, &mut cells, &mut out);
+    let mut name = io::buffer();
+    let length = os::arg(at, &mut name);
+    let failure = check_file(layout, fd);
+    report_failure(failure, b"streamcheck", &name[..length], b"");
 }

@@ -1,13 +1,12 @@
 -- THE WHOLE OUTPUT of `streamcheck` is the report on what was read.
 -- It prints frame by frame, as any program over frames does (`program_spec` `FrameLaws`, `RunLaws`).
-use mathlib.Core.Path.{_≡_, _∙_}
-use mathlib.Core.Bool.{Bool, true}
+use mathlib.Core.Path.{_∙_}
+use mathlib.Core.Bool.{true}
 use mathlib.Core.List.{List}
 use Prim.Native.Nat.{ℕ, _+_, _≤_}
 use native.Mathlib.Omega.{arith}
 use Rattle.wire_spec.specs.Layout.{Layout}
 use Rattle.program_spec.specs.declared.buffers.Buffers.{Buffers}
-use Rattle.program_spec.specs.Buffers.{isDone}
 use Rattle.program_spec.specs.Run.{At, Closed, Ended, Started, turning}
 use Rattle.program_spec.specs.Turns.{Passed, turnsOf}
 use Rattle.program_spec.proofs.FrameLaws.{Prints, frame-counts, lawful, walk-is}
@@ -29,5 +28,5 @@ pub index-made : {from here : At Session} {read written : List ℕ} (p : Passed 
 index-made p = counts-turns (turning program) (λ (a : At Session). a .state .index) (frame-counts (streamcheck true) (λ (v : Session). v .index) (λ v q. omega arith)) p
 
 pub ended : (L : Layout) {from here : At Session} {turns : ℕ} → Started program (begun L) from → Sofar (turning program) from here turns → turns ≤ 0
-    → {r : Buffers} {out′ : List ℕ} → Closed program here r out′ → {isWhole : Bool} → isWhole ≡ isDone r → Ended program (streamText L) (begun L) here out′ isWhole
+    → {r : Buffers} {out′ : List ℕ} → Closed program here r out′ → Ended program (streamText L) (begun L) here out′ r
 ended L = run-ended program (lawful (streamcheck true)) (streamText L) (λ l. whole-input L l ∙ walk-is (streamcheck true) remaining prints (begun L) l)

@@ -1,10 +1,11 @@
 -- `streamcheck` as a program over frames (02, K12): what its buffers must hold, and what its whole run is.
-use mathlib.Core.Bool.{Bool, true}
+use mathlib.Core.Bool.{true}
 use mathlib.Core.List.{List}
 use Prim.Native.Nat.{ℕ, _≤_}
 use Rattle.wire_spec.specs.Layout.{Layout}
 use Rattle.wire_spec.specs.Packet.{maxPacket}
 use Rattle.rtp_frames.specs.Frames.{maxFrame}
+use Rattle.program_spec.specs.declared.buffers.Buffers.{Buffers}
 use Rattle.program_spec.specs.Buffers as buffers
 use Rattle.program_spec.specs.Frames.{overFrames}
 use Rattle.program_spec.specs.Run as run
@@ -38,5 +39,5 @@ abbrev pub started : Layout → Run
 started L = record { session = begun L; buffers = buffers.begun 0 }
 
 -- THE WHOLE RUN: what is written is the report on what is read
-abbrev pub Ended : Layout → (out′ : List ℕ) → (isWhole : Bool) → Type 0
-Ended L out′ isWhole = (a : At Session) × run.Ended program (streamText L) (begun L) a out′ isWhole
+abbrev pub Ended : Layout → (out′ : List ℕ) → (after : Buffers) → Type 0
+Ended L out′ after = (a : At Session) × run.Ended program (streamText L) (begun L) a out′ after

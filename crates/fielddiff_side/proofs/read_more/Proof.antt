@@ -6,7 +6,7 @@ use mathlib.Core.Bool.{not, _&&_, _||_}
 use mathlib.Core.List.{_++_}
 use native.Mathlib.Omega.{arith}
 use Prim.Native.Nat.{_-_}
-use lib.Dec.{ltb}
+use lib.Dec.{eqb, ltb}
 use lib.IntN.{ℤ, pos}
 use lib.Signed.{ltZ}
 use lib.ListN.{length, take, drop}
@@ -28,28 +28,31 @@ move-to-front-requires c κs = omega (arith, c .before .before .pre .0 .0, lengt
 
 returns : tie.Need-returns
 returns c =
-    let v = c .before .before .before .before .before .before .before .before .before .before .before .before .before .args .side in
-    let i = c .before .before .before .before .before .before .before .before .before .before .before .before .before .args .input .now in
-    let p = c .before .before .before .before .before .before .before .before .before .before .before .before .before .pre .0 in
+    let v = c .before .before .before .before .before .before .before .before .before .before .before .before .before .before .args .side in
+    let i = c .before .before .before .before .before .before .before .before .before .before .before .before .before .before .args .input .now in
+    let p = c .before .before .before .before .before .before .before .before .before .before .before .before .before .before .pre .0 in
     let k = v .end - v .at in
-    let moved = c .before .before .before .before .before .before .before .before .before .before .move-to-front .last .0 in
-    let read = c .before .before .before .before .before .before .read .last .1 .0 in
+    let moved = c .before .before .before .before .before .before .before .before .before .before .before .move-to-front .last .0 in
+    let read = c .before .before .before .before .before .before .before .read .last .1 .0 in
     let w = moved ++ drop (v .end) i in
     let tail = drop (length w - k) (drop k w) in
     let x = take k w ++ (read ++ tail) in
-    let z = c .before .before .before .before .before .before .read .result in
-    let back : toZ w64 (ofZ w64 z) ≡ z = toZ-ofZ (record { sfits = c .before .before .before .before .before .before .read .ok }) in
+    let z = c .before .before .before .before .before .before .before .read .result in
+    let back : toZ w64 (ofZ w64 z) ≡ z = toZ-ofZ (record { sfits = c .before .before .before .before .before .before .before .read .ok }) in
+    let n = c .before .before .count .result in
+    let i′ = c .before .is-interrupted .result in
     record {
       answer = z;
-      count = c .before .count .result;
-      interrupted = c .is-interrupted .result;
+      count = c .before .before .count .result;
+      interrupted = c .before .is-interrupted .result;
       standing = refl;
       bounds = search needs;
-      octets = part-moved i (v .at) (v .end) (p .0) (p .1) moved read tail (c .before .count .result) (c .before .before .before .before .before .before .before .before .before .before .move-to-front .ensures);
-      counts = counted z (toZ w64 (ofZ w64 z)) (c .before .count .result) k w x back (c .before .before .before .before .before .input2 .given .1) (c .before .before .before .before .before .before .read .ensures) (c .before .count .ensures .1);
-      signal = subst (λ (a : ℤ). Interrupted a (c .is-interrupted .result)) back (c .is-interrupted .ensures);
-      goes-on = ap (λ (a : ℤ). ltb 0 (c .before .count .result) || ltZ a (pos 0)) back;
-      fails = ap (λ (a : ℤ). ltZ a (pos 0) && not (c .is-interrupted .result)) back;
+      octets = part-moved i (v .at) (v .end) (p .0) (p .1) moved read tail (c .before .before .count .result) (c .before .before .before .before .before .before .before .before .before .before .before .move-to-front .ensures);
+      counts = counted z (toZ w64 (ofZ w64 z)) (c .before .before .count .result) k w x back (c .before .before .before .before .before .before .input2 .given .1) (c .before .before .before .before .before .before .before .read .ensures) (c .before .before .count .ensures .1);
+      signal = subst (λ (a : ℤ). Interrupted a (c .before .is-interrupted .result)) back (c .before .is-interrupted .ensures);
+      size = omega arith;
+      goes-on = λ j. ltb 0 n || (ltZ (back j) (pos 0) && (i′ || not (c .is-at-start .ensures j && eqb k 0)));
+      fails = ap (λ (a : ℤ). ltZ a (pos 0) && not (c .before .is-interrupted .result)) back;
     }
 
 pub read-more-spec : {M : Type 1} → statement M
@@ -57,4 +60,4 @@ read-more-spec =
     tie.close
     (tie.spec (λ c. search needs) slice-aggregate-move-to-front move-to-front-requires (λ c. search needs) (λ c. search needs) (λ c. search needs)
     (λ c. search needs) (λ c κs. search needs) (λ c. search needs) (λ c. search needs) (λ c. search needs) (λ c κs. search needs)
-    (λ c κs. search needs) (λ c. search needs) (λ c. search needs) returns)
+    (λ c κs. search needs) (λ c κs. search needs) (λ c. search needs) (λ c. search needs) returns)

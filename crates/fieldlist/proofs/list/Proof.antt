@@ -17,12 +17,12 @@ use Rattle.fieldlist.proofs.list.Statement.{statement}
 use Rattle.fieldlist.proofs.list.Tie as tie
 
 abbrev Inv-loop : tie.InvT-loop
-Inv-loop fd input₀ store₀ out₀ run₀ turns₀ input store out run turns =
+Inv-loop fd watched input₀ store₀ out₀ run₀ turns₀ input store out run turns =
     Sofar (turning program) (at (run₀ .session, store₀) (run₀ .buffers) input₀ out₀) (at (run .session, store) (run .buffers) input out) turns
     × (length input ≡ length input₀) × (length store ≡ length store₀) × (length out ≡ length out₀)
 
 abbrev μ-loop : tie.MeasureT-loop
-μ-loop fd input₀ store₀ out₀ run₀ turns₀ input store out run turns = turns
+μ-loop fd watched input₀ store₀ out₀ run₀ turns₀ input store out run turns = turns
 
 start-requires : tie.Need-start-requires Inv-loop μ-loop
 start-requires c κs = room-for-line (c .before .before .before .before .pre)
@@ -53,17 +53,17 @@ close-requires c κs =
     ((b .0, b .1, le-refl (l .run .buffers .filled)), subst (λ (n : ℕ). lineRoom ≤ n) (sym (l .inv .3 ∙ c .before .before .before .before .before .out .given)) (room-for-line (c .before .before .before .before .before .before .before .before .before .before .before .pre)))
 
 same-length-3 : tie.Need-same-length-3 Inv-loop μ-loop
-same-length-3 c = c .before .before .out3 .given ∙ c .before .before .before .before .before .before .before .loop .inv .3 ∙ c .before .before .before .before .before .before .before .before .before .out .given
+same-length-3 c = c .before .out3 .given ∙ c .before .before .before .before .before .before .loop .inv .3 ∙ c .before .before .before .before .before .before .before .before .out .given
 
 returns : tie.Need-returns Inv-loop μ-loop
 returns c =
-    let l = c .before .before .before .before .before .before .before .loop in
-    let a = c .before .before .before .before .before .before .before .before .before .before .before .before .before .before .before .args in
-    let t = c .before .before .before .before .before .before .before .before .before .before .start .ensures .waits (a .store .now) (a .input .now) in
-    (at (l .run .session, l .store) (l .run .buffers) (l .input) (l .out), refl, ended (a .layout) (a .store .now) t (l .inv .0) (c .before .before .before .before .before .before .loop-test .left) (c .before .before .before .close .ensures (l .store)) (c .is-done .ensures))
+    let l = c .before .before .before .before .before .before .loop in
+    let a = c .before .before .before .before .before .before .before .before .before .before .before .before .before .before .args in
+    let t = c .before .before .before .before .before .before .before .before .before .start .ensures .waits (a .store .now) (a .input .now) in
+    (at (l .run .session, l .store) (l .run .buffers) (l .input) (l .out), refl, ended (a .layout) (a .store .now) t (l .inv .0) (c .before .before .before .before .before .loop-test .left) (c .before .before .close .ensures (l .store)))
 
 pub list-spec : {M : Type 1} → statement M
 list-spec =
     tie.close
     (tie.spec Inv-loop μ-loop start-requires loop-holds turn-requires turns-left-requires loop-less loop-again close-requires
-    (λ c κs. search needs) (λ c. search needs) (λ c. search needs) same-length-3 returns)
+    (λ c. search needs) (λ c. search needs) same-length-3 returns)

@@ -24,12 +24,12 @@ starts port v e input out =
     subst (λ (w : Run). Started (frameWalk port) begun (at (w .session) (w .buffers) input out)) (sym e) (first-put (frameWalk port) refl (text-put [] out refl refl))
 
 abbrev Inv-loop : tie.InvT-loop
-Inv-loop port fd input₀ out₀ run₀ turns₀ input out run turns =
+Inv-loop port fd watched input₀ out₀ run₀ turns₀ input out run turns =
     Sofar (turning (frameWalk port)) (at (run₀ .session) (run₀ .buffers) input₀ out₀) (at (run .session) (run .buffers) input out) turns
     × (length input ≡ length input₀) × (length out ≡ length out₀)
 
 abbrev μ-loop : tie.MeasureT-loop
-μ-loop port fd input₀ out₀ run₀ turns₀ input out run turns = turns
+μ-loop port fd watched input₀ out₀ run₀ turns₀ input out run turns = turns
 
 loop-holds : tie.Need-loop-holds Inv-loop μ-loop
 loop-holds c = (first-turn (starts (c .before .before .before .args .port) _ (c .start .ensures) [] [] .goes-on), refl, refl)
@@ -57,20 +57,20 @@ sub-finish c =
     bounds (starts (a .port) _ (c .before .before .before .before .before .start .ensures) (a .input .now) (a .out .now)) (c .before .before .before .before .loop .inv .0) .0
 
 same-length : tie.Need-same-length Inv-loop μ-loop
-same-length c = c .before .before .before .before .before .before .loop .inv .1
+same-length c = c .before .before .before .before .before .loop .inv .1
 
 same-length-2 : tie.Need-same-length-2 Inv-loop μ-loop
-same-length-2 c = c .before .before .before .before .before .before .loop .inv .2
+same-length-2 c = c .before .before .before .before .before .loop .inv .2
 
 returns : tie.Need-returns Inv-loop μ-loop
 returns c =
-    let a = c .before .before .before .before .before .before .before .before .before .before .args in
-    let l = c .before .before .before .before .before .before .loop in
-    let t = starts (a .port) _ (c .before .before .before .before .before .before .before .start .ensures) (a .input .now) (a .out .now) in
-    let last = c .before .finish .ensures ∙ ap (lastOf (l .run .session)) (sym (short (l .run .buffers) (l .input) (l .out) (bounds t (l .inv .0)))) in
-    ended t (l .inv .0) (c .before .before .before .before .before .loop-test .left) last (c .is-done .ensures)
+    let a = c .before .before .before .before .before .before .before .before .before .args in
+    let l = c .before .before .before .before .before .loop in
+    let t = starts (a .port) _ (c .before .before .before .before .before .before .start .ensures) (a .input .now) (a .out .now) in
+    let last = c .finish .ensures ∙ ap (lastOf (l .run .session)) (sym (short (l .run .buffers) (l .input) (l .out) (bounds t (l .inv .0)))) in
+    ended t (l .inv .0) (c .before .before .before .before .loop-test .left) last
 
 pub extract-spec : {M : Type 1} → statement M
 extract-spec =
     tie.close
-    (tie.spec Inv-loop μ-loop (λ c κs. search needs) loop-holds turn-requires turns-left-requires loop-less loop-again sub-finish (λ c κs. search needs) (λ c κs. search needs) same-length same-length-2 returns)
+    (tie.spec Inv-loop μ-loop (λ c κs. search needs) loop-holds turn-requires turns-left-requires loop-less loop-again sub-finish (λ c κs. search needs) same-length same-length-2 returns)

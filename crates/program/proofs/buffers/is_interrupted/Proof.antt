@@ -13,12 +13,9 @@ returns : tie.Need-returns
 returns c = not-interrupted (c .before .args .got)
 
 returns-2 : tie.Need-returns-2
-returns-2 c = failed (c .before .before .before .args .got) _ (ap (λ (z : ℤ). leZ (pos 0) z) (sym (toZ-ofZ (c .before .before .before .fits .got))) ∙ c .before .before .if1 .left)
-
-returns-3 : tie.Need-returns-3
-returns-3 c = not-interrupted (c .before .before .before .before .before .args .got)
+returns-2 c = failed (c .before .before .args .got) _ (ap (λ (z : ℤ). leZ (pos 0) z) (sym (toZ-ofZ (c .before .before .fits .got))) ∙ c .before .if1 .left)
 
 pub is-interrupted-spec : {M : Type 1} → statement M
 is-interrupted-spec =
     tie.close
-    (tie.spec returns (λ c κs. search needs) returns-2 (λ c. search needs) (λ c κs. search needs) returns-3)
+    (tie.spec returns (λ c κs. search needs) returns-2)

@@ -1,4 +1,4 @@
--- `report` makes turn after turn, and then writes the last line.
+-- `check` makes turn after turn, and then writes the last line.
 -- Invariant: the turns so far are a run, with as many left as there must be (`program_spec` `TurnLaws`); the buffers keep their sizes.
 use borrow.Author.Needs.{needs}
 use mathlib.Core.Path.{_≡_, refl, ap, sym, subst, _∙_}
@@ -17,8 +17,8 @@ use Rattle.streamcheck_lines.specs.Lines.{linesRoom}
 use Rattle.streamcheck_turns.specs.declared.Run.{Run}
 use Rattle.streamcheck_turns.specs.Turns.{Enough, program, started}
 use Rattle.streamcheck_turns.proofs.RunLaws.{ended, index-made}
-use Rattle.streamcheck.proofs.report.Statement.{statement}
-use Rattle.streamcheck.proofs.report.Tie as tie
+use Rattle.streamcheck.proofs.check.Statement.{statement}
+use Rattle.streamcheck.proofs.check.Tie as tie
 
 -- nothing is read, and nothing waits
 starts : (L : Layout) (v : Run) → v ≡ started L → (input out : List ℕ) → Started program (begun L) (at (v .session) (v .buffers) input out)
@@ -26,12 +26,12 @@ starts L v e input out =
     subst (λ (w : Run). Started program (begun L) (at (w .session) (w .buffers) input out)) (sym e) (first-put program refl (text-put [] out refl refl))
 
 abbrev Inv-loop : tie.InvT-loop
-Inv-loop fd input₀ cells₀ out₀ run₀ turns₀ input cells out run turns =
+Inv-loop fd watched input₀ cells₀ out₀ run₀ turns₀ input cells out run turns =
     Sofar (turning program) (at (run₀ .session) (run₀ .buffers) input₀ out₀) (at (run .session) (run .buffers) input out) turns
     × (length input ≡ length input₀) × (length cells ≡ length cells₀) × (length out ≡ length out₀)
 
 abbrev μ-loop : tie.MeasureT-loop
-μ-loop fd input₀ cells₀ out₀ run₀ turns₀ input cells out run turns = turns
+μ-loop fd watched input₀ cells₀ out₀ run₀ turns₀ input cells out run turns = turns
 
 loop-holds : tie.Need-loop-holds Inv-loop μ-loop
 loop-holds c = (first-turn (starts (c .before .before .before .before .args .layout) _ (c .start .ensures) [] [] .goes-on), refl, refl, refl)
@@ -62,17 +62,17 @@ close-requires c κs =
     ((b .0, b .1, le-refl (l .run .buffers .filled)), subst (λ (n : ℕ). linesRoom ≤ n) (sym (l .inv .3)) (c .before .before .before .before .before .before .before .before .pre .text))
 
 same-length-3 : tie.Need-same-length-3 Inv-loop μ-loop
-same-length-3 c = c .before .before .out2 .given ∙ c .before .before .before .before .before .before .before .loop .inv .3
+same-length-3 c = c .before .out2 .given ∙ c .before .before .before .before .before .before .loop .inv .3
 
 returns : tie.Need-returns Inv-loop μ-loop
 returns c =
-    let l = c .before .before .before .before .before .before .before .loop in
-    let a = c .before .before .before .before .before .before .before .before .before .before .before .before .args in
-    let t = starts (a .layout) _ (c .before .before .before .before .before .before .before .before .start .ensures) (a .input .now) (a .out .now) in
-    (at (l .run .session) (l .run .buffers) (l .input) (l .out), ended (a .layout) t (l .inv .0) (c .before .before .before .before .before .before .loop-test .left) (c .before .before .before .close .ensures) (c .is-done .ensures))
+    let l = c .before .before .before .before .before .before .loop in
+    let a = c .before .before .before .before .before .before .before .before .before .before .before .args in
+    let t = starts (a .layout) _ (c .before .before .before .before .before .before .before .start .ensures) (a .input .now) (a .out .now) in
+    (at (l .run .session) (l .run .buffers) (l .input) (l .out), ended (a .layout) t (l .inv .0) (c .before .before .before .before .before .loop-test .left) (c .before .before .close .ensures))
 
-pub report-spec : {M : Type 1} → statement M
-report-spec =
+pub check-spec : {M : Type 1} → statement M
+check-spec =
     tie.close
     (tie.spec Inv-loop μ-loop (λ c κs. search needs) loop-holds turn-requires turns-left-requires loop-less loop-again close-requires
-    (λ c κs. search needs) (λ c. search needs) (λ c. search needs) same-length-3 returns)
+    (λ c. search needs) (λ c. search needs) same-length-3 returns)
