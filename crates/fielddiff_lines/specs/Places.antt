@@ -6,9 +6,9 @@ use lib.Dec.{eqb}
 use Rattle.text.specs.Text.{decimal}
 use Rattle.fielddiff_spec.specs.Diff.{left, right, dash, number, Line, tsLine, fLine, recordsLine, onlyLine, refusedLine, differ}
 use Rattle.fielddiff_spec.specs.Text.{sidesText}
-use Rattle.fielddiff_lines.specs.declared.place.Found.{Found}
-use Rattle.fielddiff_lines.specs.declared.place.Place.{Place}
-use Rattle.fielddiff_lines.specs.declared.place.Place.the-variants as place
+use Rattle.fieldfile_scan_spec.specs.declared.found.Found.{Found}
+use Rattle.fieldfile_scan_spec.specs.declared.found.Place.{Place}
+use Rattle.fieldfile_scan_spec.specs.declared.found.Place.the-variants as place
 
 -- the text `I LABEL L R`, where the two numbers differ
 abbrev pub differing : ℕ → (label : List ℕ) → (l r : ℕ) → List ℕ

@@ -10,11 +10,8 @@ ghost use Rattle.fielddiff_spec.specs.Diff.{cellLine, cellLines, differ};
 ghost use Rattle.fielddiff_spec.specs.Text.{diffText, sidesText};
 ghost use Rattle.fielddiff_lines.specs.Room.{labelRoom, lineRoom};
 ghost use Rattle.fielddiff_lines.specs.Places.{besideEnd, besideField, besideRefusal, differing, headLines, placeLines};
-
-pub mod place;
-
-use place::Found;
-use place::Place;
+use fieldfile_scan_spec::found::Found;
+use fieldfile_scan_spec::found::Place;
 use text::put;
 use text::put_decimal;
 use text::put_labelled;

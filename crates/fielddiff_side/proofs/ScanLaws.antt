@@ -30,8 +30,8 @@ use Rattle.fieldfile_scan_spec.specs.Store.{Held, Holds}
 use Rattle.fieldfile_scan_spec.proofs.FrontLaws.{anc-index, reindex, run-one}
 use Rattle.fieldfile_scan_spec.proofs.StoreLaws.{holds-none, holds-more}
 use Rattle.fieldfile_scan_spec.proofs.WindowLaws.{anc-fits, fewer, head-at-hand}
-use Rattle.fielddiff_rest.specs.Rest.{Standing, starts, reading, over, restOf, standingAfter, leftAfter}
-use Rattle.fielddiff_rest.proofs.RestLaws.{turn-rest, head-rest, head-refused}
+use Rattle.fielddiff_spec.specs.Rest.{Standing, starts, reading, over, restOf, standingAfter, leftAfter}
+use Rattle.fielddiff_spec.proofs.RestLaws.{turn-rest, head-rest, head-refused}
 use Rattle.fieldfile_scan.specs.declared.state.Part.{Part}
 use Rattle.fieldfile_scan.specs.declared.state.State.{State}
 use Rattle.fieldfile_scan.specs.declared.state.State.the-variants as state

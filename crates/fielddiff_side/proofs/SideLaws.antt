@@ -17,7 +17,7 @@ use Rattle.wire_spec.specs.Writing.{maxFieldCells}
 use Rattle.wire_spec.proofs.ResultLaws.{and-true}
 use Rattle.fieldfile_scan_spec.specs.Window.{AtHand, mostSize}
 use Rattle.fieldfile_scan_spec.proofs.Examples.{window}
-use Rattle.fielddiff_rest.specs.Rest.{Standing, restOf}
+use Rattle.fielddiff_spec.specs.Rest.{Standing, restOf}
 use Rattle.fieldfile_scan.specs.declared.state.State.{State}
 use Rattle.fieldfile_scan.specs.declared.state.State.the-variants as state
 use Rattle.fieldfile_scan.specs.Scan.{Reachable, scan, storeThen}

@@ -17,9 +17,9 @@ use Rattle.wire_spec.specs.Cells.{listOf}
 use Rattle.fielddiff_spec.specs.Diff.{endNumber}
 use Rattle.fieldfile_scan_spec.specs.Window.{between, within, content, mostSize}
 use Rattle.fieldfile_scan_spec.specs.Store.{Holds}
-use Rattle.fielddiff_rest.specs.Rest.{Standing, starts, reading, has, over, restOf}
-use Rattle.fielddiff_lines.specs.declared.place.Place.{Place}
-use Rattle.fielddiff_lines.specs.declared.place.Place.the-variants as place
+use Rattle.fielddiff_spec.specs.Rest.{Standing, starts, reading, has, over, restOf}
+use Rattle.fieldfile_scan_spec.specs.declared.found.Place.{Place}
+use Rattle.fieldfile_scan_spec.specs.declared.found.Place.the-variants as place
 use Rattle.fieldfile_scan.specs.declared.state.State.{State}
 use Rattle.fieldfile_scan.specs.declared.state.State.the-variants as state
 use Rattle.fieldfile_scan.specs.declared.state.Scanned.{Scanned}

@@ -6,14 +6,14 @@ ghost use lib.ListN.{length};
 ghost use Rattle.wire_spec.specs.Writing.{maxFieldCells};
 ghost use Rattle.fieldfile_scan.specs.Scan.{Reachable, scan, storeThen};
 ghost use Rattle.fielddiff_side.specs.Side.{Advanced, HeldReachable, InSide, ReadMore, behindTurn, isAtStart, isReading, isShort, nextHeld, nextSide, opened, placeOf, stoodAs, unscanned, usedOf, windowSize};
-use fielddiff_lines::place::Found;
-use fielddiff_lines::place::Place;
 use fieldfile_scan::state::Scanned;
 use fieldfile_scan::state::State;
 use fieldfile_scan::turn;
+use fieldfile_scan_spec::found::Found;
+use fieldfile_scan_spec::found::Place;
 use fieldfile_spec::format::Version;
 use program::buffers::is_interrupted;
-use rtp_frames::move_to_front;
+use program::window::move_to_front;
 use wire_spec::refusal::Refusal;
 
 // Octets that are enough for any turn: those of the largest ANC data packet.

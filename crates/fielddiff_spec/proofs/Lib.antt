@@ -4,3 +4,5 @@ pub mod DiffLaws
 pub mod LineLaws
 pub mod TextLaws
 pub mod Examples
+pub mod FromLaws
+pub mod RestLaws

@@ -1,3 +1,4 @@
 pub mod Diff
 pub mod Order
 pub mod Text
+pub mod Rest

@@ -12,11 +12,11 @@ use Rattle.fieldfile_spec.specs.declared.format.Version.{Version}
 use Rattle.fieldfile_spec.specs.File.{FileRead, fieldThen, noField}
 use Rattle.fielddiff_spec.specs.Diff.{Line, Place, compareAt, differ, endNumber, fLine, fieldLines, number, placeIn, recordsLine, refusal, refusedLine, dash, tsLine}
 use Rattle.fieldfile_scan_spec.specs.Window.{between, content}
-use Rattle.fielddiff_rest.specs.Rest.{Standing, reading, over, fieldsIn, restOf, linesFrom, recordLinesFrom}
-use Rattle.fielddiff_rest.proofs.FromLaws.{both-ended, both-fields, ended-after, left-only, left-refused, records-0, right-only, right-refused}
-use Rattle.fielddiff_rest.proofs.RestLaws.{between-rest}
+use Rattle.fielddiff_spec.specs.Rest.{Standing, reading, over, fieldsIn, restOf, linesFrom, recordLinesFrom}
+use Rattle.fielddiff_spec.proofs.FromLaws.{both-ended, both-fields, ended-after, left-only, left-refused, records-0, right-only, right-refused}
+use Rattle.fielddiff_spec.proofs.RestLaws.{between-rest}
 use Rattle.fielddiff_lines.specs.Places.{headLines, placeLines}
-use Rattle.fielddiff_lines.specs.declared.place.Found.{Found}
+use Rattle.fieldfile_scan_spec.specs.declared.found.Found.{Found}
 use Rattle.fielddiff_side.specs.declared.Standing.{Standing as Held}
 use Rattle.fielddiff_side.specs.declared.Standing.the-variants as held
 use Rattle.fielddiff_side.specs.Side.{StandsAs, isReading, nextHeld, placeOf}

@@ -9,7 +9,7 @@ use lib.Seq.{drop-at, drop-drop, getD-take, length-take-le, take-add, take-at}
 use Rattle.wire_spec.specs.Anc.{Record}
 use Rattle.wire_spec.specs.Cells.{cellCount, cellsOf, headCells, listOf}
 use Rattle.fielddiff_spec.specs.Diff.{cellLines}
-use Rattle.fielddiff_rest.specs.Rest.{recordLinesFrom}
+use Rattle.fielddiff_spec.specs.Rest.{recordLinesFrom}
 use Rattle.fielddiff_side.specs.Side.{Short}
 use Rattle.fielddiff_turn.specs.declared.Records.{Records}
 use Rattle.fielddiff_turn.specs.Turns.{Here, RecordsStand, behindRecord, cellsHere, recordEnd}

@@ -13,8 +13,8 @@ use Rattle.wire_spec.proofs.ResultLaws.{and-true}
 use Rattle.fieldfile_spec.specs.File.{readFile}
 use Rattle.fielddiff_spec.specs.Diff.{Line}
 use Rattle.fielddiff_spec.specs.Text.{diffText, comparison}
-use Rattle.fielddiff_rest.specs.Rest.{starts}
-use Rattle.fielddiff_rest.proofs.FromLaws.{from-0}
+use Rattle.fielddiff_spec.specs.Rest.{starts}
+use Rattle.fielddiff_spec.proofs.FromLaws.{from-0}
 use Rattle.program_spec.specs.Buffers.{Begins}
 use Rattle.program_spec.specs.Turns.{LastTurn, Passed, started as no-turn, turned, turnsOf}
 use Rattle.program_spec.proofs.TurnLaws.{Prints, always, counts-turns, run-prints}

@@ -11,7 +11,7 @@ use Rattle.text.specs.Put.{Put}
 use Rattle.fielddiff_spec.specs.Diff.{Line, cellLines}
 use Rattle.fielddiff_spec.specs.Text.{diffText}
 use Rattle.fielddiff_spec.proofs.TextLaws.{text-append}
-use Rattle.fielddiff_rest.specs.Rest.{restOf, linesFrom, recordLinesFrom}
+use Rattle.fielddiff_spec.specs.Rest.{restOf, linesFrom, recordLinesFrom}
 use Rattle.fielddiff_lines.specs.Places.{placeLines}
 use Rattle.program_spec.specs.declared.buffers.Buffers.{Buffers}
 use Rattle.program_spec.specs.Buffers.{Flushed, begun}

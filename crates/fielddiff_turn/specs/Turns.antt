@@ -13,11 +13,11 @@ use Rattle.wire_spec.specs.Writing.{maxFieldCells}
 use Rattle.fieldfile_scan_spec.specs.Window.{mostWords}
 use Rattle.fielddiff_spec.specs.Diff.{Line}
 use Rattle.fielddiff_spec.specs.Text.{diffText, comparison}
-use Rattle.fielddiff_rest.specs.Rest.{Standing, restOf, linesFrom, recordLinesFrom}
+use Rattle.fielddiff_spec.specs.Rest.{Standing, restOf, linesFrom, recordLinesFrom}
 use Rattle.fielddiff_lines.specs.Room.{lineRoom}
-use Rattle.fielddiff_lines.specs.declared.place.Found.{Found}
-use Rattle.fielddiff_lines.specs.declared.place.Place.{Place}
-use Rattle.fielddiff_lines.specs.declared.place.Place.the-variants as place
+use Rattle.fieldfile_scan_spec.specs.declared.found.Found.{Found}
+use Rattle.fieldfile_scan_spec.specs.declared.found.Place.{Place}
+use Rattle.fieldfile_scan_spec.specs.declared.found.Place.the-variants as place
 use Rattle.program_spec.specs.declared.buffers.Buffers.{Buffers}
 use Rattle.program_spec.specs.Buffers.{Begins, Flushed, begun}
 use Rattle.program_spec.specs.Turns.{Passed, Turning, maxTurns, turnsOf}

@@ -11,13 +11,13 @@ ghost use Rattle.fielddiff_lines.specs.Places.{placeLines};
 ghost use Rattle.fielddiff_side.specs.Side.{placeOf};
 ghost use Rattle.fielddiff_turn.specs.Turns.{Closed, Here, Now, RunFlushed, Stands, StillTurned, behindRecord, besideEnd, besideField, cellsHere, isOver, isStuck, phaseAfter, placesDone, recordEnd, started, textRoom, withLeft, withPhase, withRight};
 use anc_record::header::Header;
-use fielddiff_lines::place::Found;
-use fielddiff_lines::place::Place;
 use fielddiff_lines::put_cells;
 use fielddiff_lines::put_place;
 use fielddiff_side::Side;
 use fielddiff_side::next;
 use fielddiff_side::place_of;
+use fieldfile_scan_spec::found::Found;
+use fieldfile_scan_spec::found::Place;
 use program::buffers::begin;
 
 // The most user data words of a record: Data_Count carries an eight-bit number.

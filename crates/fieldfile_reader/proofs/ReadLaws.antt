@@ -22,9 +22,9 @@ use Rattle.wire_spec.proofs.ResultLaws.{Passed, judge-accepts, judge-passes, th
 use Rattle.wire_spec.proofs.AncLaws.{run-iff, length-run}
 use Rattle.anc_reader.specs.Answers.{runOf, runCells}
 use Rattle.anc_reader.specs.declared.check.Run.the-variants as run
-use Rattle.wire_stage.specs.Answers.{stageOf}
-use Rattle.wire_stage.specs.declared.Stage.the-variants as stage
-use Rattle.wire_stage.proofs.StageLaws.{stage-refused}
+use Rattle.wire_offsets.specs.Stage.{stageOf}
+use Rattle.wire_offsets.specs.declared.stage.Stage.the-variants as stage
+use Rattle.wire_offsets.proofs.StageLaws.{stage-refused}
 use Rattle.fieldfile_spec.specs.declared.format.Version.{Version}
 use Rattle.fieldfile_spec.specs.File.{FieldContent, fileHeadSize, fieldHeaderSize, fieldSize, timestampField, fileFField, countField, fieldRead, fieldHeaderChecks, withinLimits, limitChecks, readFront, versionField, isVersion, versionOf, fileChecks, offsetChecks, fieldAt, readField, readInto}
 use Rattle.fieldfile_reader.specs.Answers.{summaryOf, readOf, cellsAfter}

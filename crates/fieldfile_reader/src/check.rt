@@ -17,11 +17,11 @@ use anc_reader::check::Run;
 use anc_reader::check::check_run;
 use fieldfile_spec::format::F_AT;
 use fieldfile_spec::format::Version;
+use wire_offsets::stage::Stage;
 use wire_spec::count::OctetCount;
 use wire_spec::layout::Layout;
 use wire_spec::number::Timestamp;
 use wire_spec::refusal::Refusal;
-use wire_stage::Stage;
 use wire_words::octet::quad_at;
 
 // 52, 53, 9 to 12 and 16, 21, of the field at the front of the octets, which stand at `at` of a file of this version.

@@ -23,9 +23,9 @@ use Rattle.anc_reader.specs.Answers.{runOf, runCells}
 use Rattle.anc_reader.specs.declared.check.Run.the-variants as run
 use Rattle.fieldfile_spec.specs.declared.format.Version.{Version}
 use Rattle.fieldfile_spec.specs.File.{endOfFile, fieldHeaderChecks, fieldHeaderSize, withinLimits}
-use Rattle.wire_stage.specs.Answers.{stageOf}
-use Rattle.wire_stage.specs.declared.Stage.the-variants as stage
-use Rattle.wire_stage.proofs.StageLaws.{stage-passed, stage-refused}
+use Rattle.wire_offsets.specs.Stage.{stageOf}
+use Rattle.wire_offsets.specs.declared.stage.Stage.the-variants as stage
+use Rattle.wire_offsets.proofs.StageLaws.{stage-passed, stage-refused}
 use Rattle.fieldfile_scan.specs.declared.state.Part.{Part}
 use Rattle.fieldfile_scan.specs.declared.state.State.{State}
 use Rattle.fieldfile_scan.specs.declared.state.State.the-variants as state

@@ -14,23 +14,23 @@ pub mod state;
 use anc_reader::check::Run;
 use anc_reader::check::check_run;
 use anc_reader::read::read_run;
-use fielddiff_lines::place::Found;
 use fieldfile_reader::rules::within_limits;
 use fieldfile_reader::stages::check_file;
 use fieldfile_reader::stages::check_header;
 use fieldfile_reader::version::count_at;
 use fieldfile_reader::version::version_at;
+use fieldfile_scan_spec::found::Found;
 use fieldfile_spec::format::F_AT;
 use fieldfile_spec::format::Version;
 use state::Part;
 use state::Scanned;
 use state::State;
+use wire_offsets::stage::Stage;
 use wire_spec::count::OctetCount;
 use wire_spec::layout::Layout;
 use wire_spec::limit::READ_INDEX;
 use wire_spec::number::Timestamp;
 use wire_spec::refusal::Refusal;
-use wire_stage::Stage;
 use wire_words::octet::quad_at;
 
 // The head of the file: 50, 51.

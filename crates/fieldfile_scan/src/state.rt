@@ -1,5 +1,5 @@
 // Where the reading of a file stands, and what a turn gives.
-use fielddiff_lines::place::Found;
+use fieldfile_scan_spec::found::Found;
 use fieldfile_spec::format::Version;
 use wire_spec::count::OctetCount;
 use wire_spec::number::Timestamp;

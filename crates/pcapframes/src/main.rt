@@ -17,8 +17,8 @@ use program::progress::is_watched;
 use program_arguments::failures::report_failure;
 use program_arguments::files::open_input;
 use program_arguments::options::may_start;
-use program_port::Port;
-use program_port::port_of;
+use program_arguments::port::Port;
+use program_arguments::port::port_of;
 use program_spec::buffers::Buffers;
 use rtp_frames::MAX_FRAME;
 

@@ -8,13 +8,13 @@ ghost use Rattle.program_spec.specs.Buffers.{Flushed, InBounds, Interrupted, Re
 ghost use Rattle.program_spec.specs.Run.{CanStep, Stepped};
 use crate::progress::end;
 use crate::progress::show;
+use crate::window::move_to_front;
 use libc::EINTR;
 use libc::STDOUT_FILENO;
 use program_spec::buffers::Buffers;
 use program_spec::buffers::Failure;
 use program_spec::buffers::Step;
 use program_spec::buffers::Written;
-use rtp_frames::move_to_front;
 
 // Nothing is read; so much text is to be written.
 pub fn begin(filled: usize) -> Buffers

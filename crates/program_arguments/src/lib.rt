@@ -2,3 +2,4 @@
 pub mod failures;
 pub mod files;
 pub mod options;
+pub mod port;

@@ -1,8 +1,5 @@
 // Frames on a stream of octets (RFC 4571, section 2).
 ghost use mathlib.Core.Path.{_≡_};
-ghost use Prim.Native.Nat.{_≤_};
-ghost use lib.ListN.{drop, length};
-ghost use Rattle.wire_spec.specs.Bits.{overwrite};
 ghost use Rattle.rtp_frames.specs.Answers.{frontOf};
 ghost use Rattle.rtp_frames.specs.Frames.{front};
 use wire_spec::limit::MAX_PACKET;
@@ -36,17 +33,4 @@ pub fn frame_at(octets: &[u8]) -> Front
         return Front::Cut;
     }
     Front::Packet(size)
-}
-
-// Moves the octets from `at` on to the front; `at` must lie within them.
-pub fn move_to_front(octets: &mut [u8], at: usize)
-    requires { ⌜ at ≤ length (now octets) ⌝ }
-    ensures { λ r. ⌜ now (octets .exit) ≡ overwrite (drop at (now (octets .entry))) (now (octets .entry)) ⌝ }
-{
-    let count = octets.len() - at;
-    let mut k: usize = 0;
-    while k < count {
-        octets[k] = octets[at + k];
-        k += 1;
-    }
 }

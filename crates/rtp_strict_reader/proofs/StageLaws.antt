@@ -23,9 +23,9 @@ use Rattle.wire_spec.proofs.AncLaws.{run-iff, length-run}
 use Rattle.wire_spec.proofs.PacketLaws.{Sizes, sizes}
 use Rattle.anc_reader.specs.Answers.{runOf}
 use Rattle.anc_reader.specs.declared.check.Run.the-variants as run
-use Rattle.wire_stage.specs.Answers.{stageOf}
-use Rattle.wire_stage.specs.declared.Stage.the-variants as stage
-use Rattle.wire_stage.proofs.StageLaws.{stage-refused}
+use Rattle.wire_offsets.specs.Stage.{stageOf}
+use Rattle.wire_offsets.specs.declared.stage.Stage.the-variants as stage
+use Rattle.wire_offsets.proofs.StageLaws.{stage-refused}
 use Rattle.rtp_strict_reader.specs.Answers.{frontChecked, checkedOf, headAt}
 use Rattle.rtp_strict_reader.specs.declared.packet.Checked.the-variants as checked
 

@@ -1,1 +1,2 @@
 mod SizeTaken
+pub mod StageLaws

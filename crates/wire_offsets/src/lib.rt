@@ -20,6 +20,8 @@ use wire_spec::layout::PAYLOAD_HEADER_SIZE;
 use wire_spec::layout::WORD_BITS;
 use wire_spec::layout::WORDS_AT;
 
+pub mod stage;
+
 // Octets of the payload header.
 pub fn payload_header_size(layout: Layout) -> usize
     ensures { λ r. ⌜ r ≡ payloadHeaderSize layout ⌝ }

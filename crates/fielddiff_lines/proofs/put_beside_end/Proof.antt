@@ -7,7 +7,7 @@ use Rattle.text.specs.Text.{ascii}
 use Rattle.fielddiff_spec.specs.Diff.{onlyLine, right}
 use Rattle.fielddiff_spec.specs.Text.{lineText, diffText}
 use Rattle.text.proofs.PutLaws.{nothing, same}
-use Rattle.fielddiff_lines.specs.declared.place.Place.{Place}
+use Rattle.fieldfile_scan_spec.specs.declared.found.Place.{Place}
 use Rattle.fielddiff_lines.specs.Places.{besideEnd}
 use Rattle.fielddiff_lines.proofs.DifferText.{line-text}
 use Rattle.fielddiff_lines.proofs.put_beside_end.Statement.{statement}

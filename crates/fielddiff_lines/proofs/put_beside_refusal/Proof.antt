@@ -4,7 +4,7 @@ use borrow.Author.Needs.{needs}
 use mathlib.Core.Path.{ap, sym}
 use Rattle.fielddiff_spec.specs.Text.{diffText}
 use Rattle.text.proofs.PutLaws.{same}
-use Rattle.fielddiff_lines.specs.declared.place.Place.{Place}
+use Rattle.fieldfile_scan_spec.specs.declared.found.Place.{Place}
 use Rattle.fielddiff_lines.specs.Places.{besideRefusal}
 use Rattle.fielddiff_lines.proofs.put_beside_refusal.Statement.{statement}
 use Rattle.fielddiff_lines.proofs.put_beside_refusal.Tie as tie

@@ -5,7 +5,7 @@ use mathlib.Core.Path.{ap, sym}
 use native.Mathlib.Omega.{arith}
 use Rattle.fielddiff_spec.specs.Text.{diffText}
 use Rattle.text.proofs.PutLaws.{same}
-use Rattle.fielddiff_lines.specs.declared.place.Place.{Place}
+use Rattle.fieldfile_scan_spec.specs.declared.found.Place.{Place}
 use Rattle.fielddiff_lines.specs.Places.{placeLines}
 use Rattle.fielddiff_lines.proofs.put_place.Statement.{statement}
 use Rattle.fielddiff_lines.proofs.put_place.Tie as tie

@@ -2,7 +2,7 @@
 -- By the place of the left file.
 use borrow.Author.Needs.{needs}
 use mathlib.Core.Path.{ap, sym, _∙_}
-use Rattle.fielddiff_lines.specs.declared.place.Place.{Place}
+use Rattle.fieldfile_scan_spec.specs.declared.found.Place.{Place}
 use Rattle.fielddiff_turn.specs.Turns.{phaseAfter}
 use Rattle.fielddiff_turn.proofs.phase_after.Statement.{statement}
 use Rattle.fielddiff_turn.proofs.phase_after.Tie as tie

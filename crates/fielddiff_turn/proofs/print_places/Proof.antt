@@ -7,7 +7,7 @@ use Prim.Native.Nat.{_+_}
 use Rattle.text.proofs.PutLaws.{same}
 use Rattle.fielddiff_spec.specs.Text.{diffText}
 use Rattle.fielddiff_lines.specs.Places.{placeLines}
-use Rattle.fielddiff_lines.specs.declared.place.Place.{Place}
+use Rattle.fieldfile_scan_spec.specs.declared.found.Place.{Place}
 use Rattle.fielddiff_turn.specs.Turns.{isOver, phaseAfter}
 use Rattle.fielddiff_turn.proofs.print_places.Statement.{statement}
 use Rattle.fielddiff_turn.proofs.print_places.Tie as tie

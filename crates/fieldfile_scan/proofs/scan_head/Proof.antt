@@ -2,8 +2,8 @@
 -- By what the stage told.
 use borrow.Author.Needs.{needs}
 use mathlib.Core.Path.{ap, sym, _∙_}
-use Rattle.wire_stage.specs.Answers.{stageRefusal}
-use Rattle.wire_stage.proofs.StageLaws.{stage-passed}
+use Rattle.wire_offsets.specs.Stage.{stageRefusal}
+use Rattle.wire_offsets.proofs.StageLaws.{stage-passed}
 use Rattle.fieldfile_spec.specs.declared.format.Version.{Version}
 use Rattle.fieldfile_spec.specs.File.{fileChecks, fileHeadSize, versionOf}
 use Rattle.fieldfile_reader.proofs.ReadLaws.{file-there}

@@ -5,8 +5,8 @@ use mathlib.Core.Path.{ap, sym, _∙_}
 use Prim.Native.Nat.{ℕ, _<_, _≤_}
 use native.Mathlib.Omega.{arith}
 use lib.ListN.{length, getD}
-use Rattle.wire_stage.specs.Answers.{stageRefusal}
-use Rattle.wire_stage.proofs.StageLaws.{stage-passed}
+use Rattle.wire_offsets.specs.Stage.{stageRefusal}
+use Rattle.wire_offsets.proofs.StageLaws.{stage-passed}
 use Rattle.fieldfile_spec.specs.File.{fieldHeaderChecks, fieldHeaderSize}
 use Rattle.fieldfile_spec.proofs.FrontLaws.{header-least, header-there}
 use Rattle.fieldfile_reader.proofs.HeadFields.{f-at}

@@ -10,8 +10,8 @@ use Rattle.wire_spec.proofs.ListLaws.{part-all}
 use Rattle.wire_spec.proofs.ResultLaws.{Passed}
 use Rattle.fieldfile_spec.specs.declared.format.Version.{Version}
 use Rattle.fieldfile_spec.specs.File.{fileHeadSize, fieldSize, readFront, fileChecks, offsetChecks, fieldAt, versionOf}
-use Rattle.wire_stage.specs.Answers.{stageRefusal}
-use Rattle.wire_stage.proofs.StageLaws.{stage-passed}
+use Rattle.wire_offsets.specs.Stage.{stageRefusal}
+use Rattle.wire_offsets.proofs.StageLaws.{stage-passed}
 use Rattle.fieldfile_reader.specs.Answers.{readOf}
 use Rattle.fieldfile_reader.specs.declared.field.FieldRead.the-variants as read
 use Rattle.fieldfile_reader.proofs.ReadLaws.{file-there, refused-file, refused-offset, offset-there, passed-both}

@@ -15,8 +15,8 @@ use Rattle.wire_spec.proofs.ListLaws.{part-all}
 use Rattle.wire_spec.proofs.Window.{below-all}
 use Rattle.anc_reader.specs.Answers.{runOf, runRefusal}
 use Rattle.fieldfile_spec.specs.File.{fieldHeaderSize, countField, fieldHeaderChecks, withinLimits}
-use Rattle.wire_stage.specs.Answers.{stageRefusal}
-use Rattle.wire_stage.proofs.StageLaws.{stage-passed}
+use Rattle.wire_offsets.specs.Stage.{stageRefusal}
+use Rattle.wire_offsets.proofs.StageLaws.{stage-passed}
 use Rattle.fieldfile_reader.specs.declared.field.FieldRead.the-variants as read
 use Rattle.fieldfile_reader.proofs.HeadFields.{f-at}
 use Rattle.fieldfile_spec.proofs.FrontLaws.{header-least, header-there}

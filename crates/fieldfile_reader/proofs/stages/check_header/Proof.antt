@@ -7,7 +7,7 @@ use Prim.Native.Nat.{ℕ, _<_, _≤_}
 use native.Mathlib.Omega.{arith}
 use borrow.Author.Tests.{le-leb, lt-leb, not-true, not-false}
 use lib.ListN.{length}
-use Rattle.wire_stage.specs.declared.Stage.the-variants as stage
+use Rattle.wire_offsets.specs.declared.stage.Stage.the-variants as stage
 use Rattle.fieldfile_spec.specs.File.{fieldHeaderSize, fileFOk, fileFField, fieldHeaderChecks}
 use Rattle.fieldfile_spec.proofs.FrontLaws.{header-least}
 use Rattle.fieldfile_reader.proofs.HeadFields.{f-at}

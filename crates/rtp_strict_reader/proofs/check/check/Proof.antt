@@ -8,8 +8,8 @@ use lib.ListN.{length}
 use Rattle.wire_spec.specs.Packet.{headerSize, payloadSize, lengthField, headerChecks, paddingChecks, payloadChecks}
 use Rattle.wire_spec.proofs.ResultLaws.{Passed}
 use Rattle.wire_spec.proofs.PacketLaws.{header-sizes, padding-sizes}
-use Rattle.wire_stage.specs.Answers.{stageRefusal}
-use Rattle.wire_stage.proofs.StageLaws.{stage-passed}
+use Rattle.wire_offsets.specs.Stage.{stageRefusal}
+use Rattle.wire_offsets.proofs.StageLaws.{stage-passed}
 use Rattle.rtp_strict_reader.specs.declared.packet.Checked.the-variants as checked
 use Rattle.rtp_strict_reader.proofs.StageLaws.{refused-header, refused-padding, refused-payload, front-passed}
 use Rattle.rtp_strict_reader.proofs.check.check.Statement.{statement}

@@ -8,7 +8,7 @@ use lib.Dec.{eqb}
 use lib.ListN.{length}
 use Rattle.wire_spec.specs.Bits.{bitsAt}
 use Rattle.wire_spec.specs.Packet.{maxPacket, headerLeast, headerSize, headerChecks}
-use Rattle.wire_stage.specs.declared.Stage.the-variants as stage
+use Rattle.wire_offsets.specs.declared.stage.Stage.the-variants as stage
 use Rattle.rtp_strict_reader.proofs.HeaderFields.{version-at, size-over, size-within}
 use Rattle.rtp_strict_reader.proofs.stages.check_header.Statement.{statement}
 use Rattle.rtp_strict_reader.proofs.stages.check_header.Tie as tie

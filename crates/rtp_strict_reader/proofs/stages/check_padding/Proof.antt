@@ -9,7 +9,7 @@ use lib.Dec.{leb}
 use lib.ListN.{length}
 use Rattle.wire_spec.specs.Layout.{payloadHeaderSize}
 use Rattle.wire_spec.specs.Packet.{headerSize, paddingFlag, paddingCount, payloadSize, paddingChecks}
-use Rattle.wire_stage.specs.declared.Stage.the-variants as stage
+use Rattle.wire_offsets.specs.declared.stage.Stage.the-variants as stage
 use Rattle.rtp_strict_reader.proofs.stages.check_padding.Statement.{statement}
 use Rattle.rtp_strict_reader.proofs.stages.check_padding.Tie as tie
 

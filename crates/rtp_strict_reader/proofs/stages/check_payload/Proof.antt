@@ -13,8 +13,8 @@ use Rattle.wire_spec.specs.Result.{accepted}
 use Rattle.wire_spec.specs.Packet.{payloadSize, lengthField, ancCount, fField, payloadChecks}
 use Rattle.wire_spec.proofs.LayoutLaws.{places}
 use Rattle.wire_spec.proofs.ResultLaws.{judge-fails, judge-passes}
-use Rattle.wire_stage.specs.Answers.{stageOf}
-use Rattle.wire_stage.specs.declared.Stage.the-variants as stage
+use Rattle.wire_offsets.specs.Stage.{stageOf}
+use Rattle.wire_offsets.specs.declared.stage.Stage.the-variants as stage
 use Rattle.rtp_strict_reader.proofs.HeaderFields.{length-at, count-at}
 use Rattle.rtp_strict_reader.proofs.stages.check_payload.Statement.{statement}
 use Rattle.rtp_strict_reader.proofs.stages.check_payload.Tie as tie
