@@ -4,7 +4,8 @@ use mathlib.Core.Path.{_≡_, refl}
 use mathlib.Core.Bool.{true, false}
 use mathlib.Core.List.{[]}
 use Rattle.program_arguments.specs.declared.options.Told.the-variants as told
-use Rattle.program_arguments.specs.Files.{isOld}
+use Rattle.wire_spec.specs.Layout.{rfc8331, draft2015}
+use Rattle.program_arguments.specs.Files.{isOld, layoutOf}
 use Rattle.program_arguments.specs.Options.{isText, optionOf}
 use Rattle.program_arguments.proofs.OptionLaws.{octets}
 
@@ -34,5 +35,7 @@ pub old : (isOld (octets "old") ≡ true)
     × (isOld (octets "older") ≡ false)
     × (isOld (octets "ol") ≡ false)
     × (isOld [] ≡ false)
+    × (layoutOf (octets "old") ≡ draft2015)
+    × (layoutOf (octets "older") ≡ rfc8331)
 unfolding isText
-old = (refl, refl, refl, refl, refl, refl)
+old = (refl, refl, refl, refl, refl, refl, refl, refl)

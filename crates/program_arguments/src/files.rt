@@ -1,7 +1,7 @@
 // What a program is told: `old` for the drafts' layout, and a file.
 ghost use Prim.Native.Nat.{_≤_};
 ghost use mathlib.Core.Path.{_≡_};
-ghost use Rattle.program_arguments.specs.Files.{fileAt, isOld};
+ghost use Rattle.program_arguments.specs.Files.{fileAt, isOld, layoutOf};
 use crate::failures::fail;
 use check::same;
 use libc::ENAMETOOLONG;
@@ -15,17 +15,24 @@ fn is_old(word: &[u8]) -> bool
     same(word, b"old")
 }
 
-// The layout of the drafts where the first argument is `old` (02, K3).
+// The layout that a word asks for: `old` is that of the drafts (02, K3).
+fn layout_of(word: &[u8]) -> Layout
+    ensures { λ r. ⌜ r ≡ layoutOf (now (word .entry)) ⌝ }
+{
+    if is_old(word) {
+        return Layout::Draft2015;
+    }
+    Layout::Rfc8331
+}
+
+// By the first argument, if there is one.
 pub fn layout_told() -> Layout {
     if os::arg_count() < 2 {
         return Layout::Rfc8331;
     }
     let mut word = io::buffer();
     let length = os::arg(1, &mut word);
-    if is_old(&word[..length]) {
-        return Layout::Draft2015;
-    }
-    Layout::Rfc8331
+    layout_of(&word[..length])
 }
 
 // Where the file stands among the arguments: behind `old`.
