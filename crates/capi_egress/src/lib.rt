@@ -1,7 +1,7 @@
 // The C boundary of the shared outlet (02, K10; include/jibhotran.h).
 //
-// A call returns 0 or a refusal's number; what it returns beside that goes to the caller's row of numbers, `answer`. The outlet's state is a
-// row of the caller's too.
+// A call returns 0 or a refusal's number; what it returns beside that goes to the caller's row of numbers,
+// `answer`. The outlet's state is a row of the caller's too.
 ghost use mathlib.Core.Path.{_≡_};
 ghost use Prim.Native.Nat.{_≤_};
 ghost use lib.ListN.{length};

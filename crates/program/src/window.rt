@@ -16,8 +16,8 @@ fn shift_to_front(octets: &mut [u8], at: usize)
     }
 }
 
-// Moves the octets from `at` on to the front; `at` must lie within them. If all are left, none is moved: a long item that arrives octet by octet
-// would otherwise be copied at every read.
+// Moves the octets from `at` on to the front; `at` must lie within them. If all are left, none is moved: a
+// long item that arrives octet by octet would otherwise be copied at every read.
 pub fn move_to_front(octets: &mut [u8], at: usize)
     requires { ⌜ at ≤ length (now octets) ⌝ }
     ensures { λ r. ⌜ now (octets .exit) ≡ overwrite (drop at (now (octets .entry))) (now (octets .entry)) ⌝ }

@@ -45,7 +45,8 @@ pub fn file_at(layout: Layout) -> usize
     }
 }
 
-// Opens the file that an argument names, or says why it cannot be opened, and answers -1. A directory can be opened, but not read: it is refused here.
+// Opens the file that an argument names, or says why it cannot be opened, and answers -1. A directory can be
+// opened, but not read: it is refused here.
 pub fn open_named(program: &[u8], at: usize) -> i32 {
     let mut path = io::buffer();
     let length = os::arg(at, &mut path);
@@ -66,7 +67,8 @@ pub fn open_named(program: &[u8], at: usize) -> i32 {
     fd
 }
 
-// Makes the file that an argument names, or says why it cannot be made, and answers -1. A file that exists is not written over.
+// Makes the file that an argument names, or says why it cannot be made, and answers -1. A file that exists is
+// not written over.
 pub fn create_named(program: &[u8], at: usize) -> i32 {
     let mut path = io::buffer();
     let length = os::arg(at, &mut path);
