@@ -1,5 +1,6 @@
-/* A library to preload (`tests/reads.rs`): a read of the descriptor FAIL_FD that comes after FAIL_AFTER octets of it fails with FAIL_ERRNO, once if
-   FAIL_ONCE is set, and no read of it gives octets past them before. Other descriptors are read as they are. */
+/* A library to preload (`tests/reads.rs`): the first read of the descriptor FAIL_FD after FAIL_AFTER octets of
+   it fails with FAIL_ERRNO, and so does every further one, but if FAIL_ONCE is 1. Other descriptors are read
+   as they are. */
 #define _GNU_SOURCE
 #include <dlfcn.h>
 #include <errno.h>

@@ -22,13 +22,15 @@ use Rattle.archive_laws.specs.Exact.{wholeFields, written}
 -- `Ended` is what the function `file` of `fieldsave` promises of the buffers that it answers
 abbrev pub ProgramAsSent : Type 0
 ProgramAsSent = (s : Stream) → WellFormedStream s → (tape : List Arriving) → Each (Recorded s) tape → OpenedByStream s tape → Near (callsOf tape)
-    → (store left out : List ℕ) → maxFieldCells ≤ length store → (after : Buffers) → isDone after ≡ true → (e : Ended (s .layout) store left out after)
+    → (store left out : List ℕ) → maxFieldCells ≤ length store
+    → (after : Buffers) → isDone after ≡ true → (e : Ended (s .layout) store left out after)
     → Below 256 (e .2 .read) → frames (e .2 .read) .packets ≡ map (octetsOf s) tape
-    → readFile (e .2 .written ++ writtenIn (e .2 .closed .ready) after out) ≡ record { fields = archived 0 (s .fields) (fresh (callsOf tape)); end = endOfFile }
+    → readFile (e .2 .written ++ writtenIn (e .2 .closed .ready) after out)
+    ≡ record { fields = archived 0 (s .fields) (fresh (callsOf tape)); end = endOfFile }
 
 -- and whatever was read, it is exactly what its fresh packets tell
 abbrev pub ProgramExact : Type 0
-ProgramExact = (L : Layout) (store left out : List ℕ) → maxFieldCells ≤ length store → (after : Buffers) → isDone after ≡ true
-    → (e : Ended L store left out after) → Below 256 (e .2 .read)
+ProgramExact = (L : Layout) (store left out : List ℕ) → maxFieldCells ≤ length store
+    → (after : Buffers) → isDone after ≡ true → (e : Ended L store left out after) → Below 256 (e .2 .read)
     → readFile (e .2 .written ++ writtenIn (e .2 .closed .ready) after out)
     ≡ record { fields = map written (wholeFields [] [] (freshIn (session.Waiting L) store (frames (e .2 .read) .packets))); end = endOfFile }

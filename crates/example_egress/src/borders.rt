@@ -1,5 +1,6 @@
-// Every number of an outlet's state tried at its borders (02, K10, refusal 64): a line for a number, and in it a mark for each place of the state where it
-// was put, `x` if a take then refuses with 64 and `.` if not. Each channel holds four packets, in the first four of its eight places.
+// Every number of an outlet's state tried at its borders (02, K10, refusal 64): a line for a number, and in
+// it a mark for each place of the state where it was put, `x` if a take then refuses with 64 and `.` if not.
+// Each channel holds four packets, in the first four of its eight places.
 use egress_spec::state::CHANNELS;
 use egress_spec::state::SLOT;
 use egress_spec::state::SLOTS;
@@ -46,53 +47,48 @@ fn mark(state: State, memory: &[u8]) {
     }
 }
 
-fn try_head(head: u8, memory: &[u8]) {
-    number(b"head ", head as u64);
-    print(b" ");
-    let mut c: usize = 0;
-    while c < CHANNELS {
-        let mut state = half_held();
-        state.heads[c] = head;
-        mark(state, memory);
-        c += 1;
-    }
-    print(b"\n");
+// A number of the state: a channel's head or count, or a place's slot or length.
+pub enum Which {
+    Head,
+    Count,
+    Slot,
+    Length,
 }
 
-fn try_count(count: u8, memory: &[u8]) {
-    number(b"count ", count as u64);
-    print(b" ");
-    let mut c: usize = 0;
-    while c < CHANNELS {
-        let mut state = half_held();
-        state.counts[c] = count;
-        mark(state, memory);
-        c += 1;
+// The state with one number changed, of channel or place `k`.
+fn changed(which: Which, k: usize, value: u16) -> State {
+    let mut state = half_held();
+    match which {
+        Which::Head => {
+            if k < CHANNELS {
+                state.heads[k] = (value % 256) as u8;
+            }
+        }
+        Which::Count => {
+            if k < CHANNELS {
+                state.counts[k] = (value % 256) as u8;
+            }
+        }
+        Which::Slot => {
+            if k < SLOTS {
+                state.slots[k] = (value % 256) as u8;
+            }
+        }
+        Which::Length => {
+            if k < SLOTS {
+                state.lengths[k] = value;
+            }
+        }
     }
-    print(b"\n");
+    state
 }
 
-fn try_slot(slot: u8, memory: &[u8]) {
-    number(b"slot ", slot as u64);
+fn try_number(label: &[u8], which: Which, value: u16, places: usize, memory: &[u8]) {
+    number(label, value as u64);
     print(b" ");
     let mut k: usize = 0;
-    while k < SLOTS {
-        let mut state = half_held();
-        state.slots[k] = slot;
-        mark(state, memory);
-        k += 1;
-    }
-    print(b"\n");
-}
-
-fn try_length(length: u16, memory: &[u8]) {
-    number(b"length ", length as u64);
-    print(b" ");
-    let mut k: usize = 0;
-    while k < SLOTS {
-        let mut state = half_held();
-        state.lengths[k] = length;
-        mark(state, memory);
+    while k < places {
+        mark(changed(which, k, value), memory);
         k += 1;
     }
     print(b"\n");
@@ -105,6 +101,22 @@ fn try_next(next: u8, memory: &[u8]) {
     state.next = next;
     mark(state, memory);
     print(b"\n");
+}
+
+fn try_head(head: u16, memory: &[u8]) {
+    try_number(b"head ", Which::Head, head, CHANNELS, memory);
+}
+
+fn try_count(count: u16, memory: &[u8]) {
+    try_number(b"count ", Which::Count, count, CHANNELS, memory);
+}
+
+fn try_slot(slot: u16, memory: &[u8]) {
+    try_number(b"slot ", Which::Slot, slot, SLOTS, memory);
+}
+
+fn try_length(length: u16, memory: &[u8]) {
+    try_number(b"length ", Which::Length, length, SLOTS, memory);
 }
 
 fn show_channels(memory: &[u8]) {

@@ -1,6 +1,6 @@
-// The story of version one (00): channel 3 pushes a caption reload, and the other channels offer one packet each. With the shared outlet the reload
-// fills its own eight places and no others, and each channel is served in its turn. Every call and its answer is printed. Then the states that 64 refuses
-// (`borders`).
+// The story of version one (00): channel 3 pushes a caption reload, and the other channels offer one packet
+// each. With the shared outlet the reload fills its own eight places and no others, and each channel is
+// served in its turn. Every call and its answer is printed. Then the states that 64 refuses (`borders`).
 mod borders;
 
 use egress_spec::state::CHANNELS;

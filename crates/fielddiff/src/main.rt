@@ -4,7 +4,8 @@ use program_arguments::files::open_named;
 use program_arguments::options::has_words;
 use program_arguments::options::may_start;
 
-// The file that the argument names. "A file that can't be opened reads as empty" (02, K14), and so does one that is not named: -1.
+// The file that the argument names. "A file that can't be opened reads as empty" (02, K14), and so does one
+// that is not named: -1.
 fn open_file(at: usize) -> i32 {
     if os::arg_count() <= at {
         return -1;
@@ -12,7 +13,8 @@ fn open_file(at: usize) -> i32 {
     open_named(b"fielddiff", at)
 }
 
-// Whether the work is to be done: not if an option asks for something else, nor if there are too many arguments.
+// Whether the work is to be done: not if an option asks for something else, nor if there are too many
+// arguments.
 fn starts() -> bool {
     may_start(
         b"fielddiff",

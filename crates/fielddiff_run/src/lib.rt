@@ -82,7 +82,8 @@ pub fn turn(
     }
 }
 
-// `failed` lasts for one turn, so that a read that failed is reported once. Nothing is called between that read and this, so errno is still its own.
+// `failed` lasts for one turn, so that a read that failed is reported once. Between that read and this at
+// most the terminal that watches the work is written to, so errno is still that read's.
 fn report_read(side: Side, name: &[u8]) {
     if side.failed {
         fail_to_read(b"fielddiff", name);
@@ -96,8 +97,8 @@ fn report_reads(run: Run, left_name: &[u8], right_name: &[u8]) {
     report_read(right, right_name);
 }
 
-// Prints the differences of two files, each open for reading, or not open and read as empty. Where the run stands at the end says whether all was
-// written.
+// Prints the differences of two files, each open for reading, or not open and read as empty. Where the run
+// stands at the end says whether all was written.
 pub fn compare_within(
     left_fd: i32,
     right_fd: i32,
@@ -125,8 +126,8 @@ pub fn compare_within(
     close(run, out)
 }
 
-// Prints the differences of two files of these names, each open for reading, or -1 and read as empty. Text that still waits at the end is text whose
-// write failed.
+// Prints the differences of two files of these names, each open for reading, or -1 and read as empty. Text
+// that still waits at the end is text whose write failed.
 pub fn compare(left_fd: i32, right_fd: i32, left_name: &[u8], right_name: &[u8]) {
     let mut lread = [0u8; INPUT_SIZE];
     let mut rread = [0u8; INPUT_SIZE];

@@ -26,7 +26,8 @@ use Rattle.program_spec.proofs.BufferLaws.{length-here, part-behind}
 use Rattle.fielddiff_side.specs.declared.Side.{Side}
 use Rattle.fielddiff_side.specs.declared.Standing.{Standing as Held}
 use Rattle.fielddiff_side.specs.declared.Standing.the-variants as held
-use Rattle.fielddiff_side.specs.Side.{Advanced, HeldReachable, InSide, Kept, MayCome, ReadMore, StandsAs, behindTurn, isAtStart, isBroken, isReading, isShort, isUnread, readIn, reads, scans, stays, unscanned, usedOf, windowSize}
+use Rattle.fielddiff_side.specs.Side.{isAtStart, isBroken, isUnread}
+use Rattle.fielddiff_side.specs.Side.{Advanced, HeldReachable, InSide, Kept, MayCome, ReadMore, StandsAs, behindTurn, isReading, isShort, readIn, reads, scans, stays, unscanned, usedOf, windowSize}
 use Rattle.fielddiff_side.proofs.ScanLaws.{Went, scan-steps, scan-went}
 
 -- a read that failed put nothing
@@ -46,25 +47,33 @@ module _ (d : Side) (input : List ℕ) (inside : InSide d (length input)) where
   pub here-long : length (unscanned d input) ≡ d .end - d .at
   here-long = length-here input (d .at) (d .end) (inside .0) (inside .1)
 
-  -- A FILE WHOSE FIRST READ FAILS reads as empty: no octet of it is at hand, none is to come, and the comparison goes on
-  pub first-read-fails : (r : Side) (input′ : List ℕ) (t : ReadMore d input r input′) → d .standing ≡ held.Reading state.Start → d .at ≡ d .end
-      → ltZ (t .answer) (pos 0) ≡ true → t .interrupted ≡ false → (unscanned r input′ ≡ []) × (r .more ≡ false) × (isBroken r ≡ false)
-  first-read-fails r input′ t s e f i =
-      let none : t .count ≡ 0 = failed-count (t .answer) (t .count) (t .counts) f in
-      let first : isUnread d ≡ true = λ j. isAtStart (s j) && eq-eqb (d .end - d .at) 0 (omega (arith, e)) j in
-      let over : r .more ≡ false = t .goes-on ∙ (λ j. ltb 0 (none j) || (f j && (i j || not (first j)))) in
-      let empty : r .end - r .at ≡ 0 = omega (arith, t .size, e, none) in
-      (ap (λ (n : ℕ). take n (drop (r .at) input′)) empty, over, ap (λ (b : Bool). r .failed && b) over ∙ and-false (r .failed))
-
-  -- one whose read fails later is broken: there may be more of it, and the comparison ends
+  -- A FILE WHOSE READ FAILS IN THE MIDDLE is broken: there may be more of it, and the comparison ends
   pub later-read-fails : (r : Side) (input′ : List ℕ) (t : ReadMore d input r input′) → d .at < d .end
       → ltZ (t .answer) (pos 0) ≡ true → t .interrupted ≡ false → isBroken r ≡ true
   later-read-fails r input′ t h f i =
       let some : eqb (d .end - d .at) 0 ≡ false = ne-eqb (d .end - d .at) 0 (λ q. omega (arith, q, h)) in
-      let later : isUnread d ≡ false = ap (λ (b : Bool). isAtStart (d .standing) && b) some ∙ and-false (isAtStart (d .standing)) in
+      let start = isAtStart (d .standing) in
+      let later : isUnread d ≡ false = ap (λ (b : Bool). start && b) some ∙ and-false start in
       let fails : r .failed ≡ true = t .fails ∙ (λ j. f j && not (i j)) in
-      let more : r .more ≡ true = t .goes-on ∙ (λ j. ltb 0 (t .count) || (f j && (i j || not (later j)))) ∙ or-true (ltb 0 (t .count)) in
+      let nothing = ltb 0 (t .count) in
+      let goes : r .more ≡ (nothing || true) = t .goes-on ∙ (λ j. nothing || (f j && (i j || not (later j)))) in
+      let more : r .more ≡ true = goes ∙ or-true nothing in
       λ j. fails j && more j
+
+  -- ONE WHOSE FIRST READ FAILS reads as empty: no octet of it is at hand, none is to come, and the comparison
+  -- goes on
+  pub first-read-fails : (r : Side) (input′ : List ℕ) (t : ReadMore d input r input′)
+      → d .standing ≡ held.Reading state.Start → d .at ≡ d .end
+      → ltZ (t .answer) (pos 0) ≡ true → t .interrupted ≡ false
+      → (unscanned r input′ ≡ []) × (r .more ≡ false) × (isBroken r ≡ false)
+  first-read-fails r input′ t s e f i =
+      let none : t .count ≡ 0 = failed-count (t .answer) (t .count) (t .counts) f in
+      let here : eqb (d .end - d .at) 0 ≡ true = eq-eqb (d .end - d .at) 0 (omega (arith, e)) in
+      let first : isUnread d ≡ true = λ j. isAtStart (s j) && here j in
+      let over : r .more ≡ false = t .goes-on ∙ (λ j. ltb 0 (none j) || (f j && (i j || not (first j)))) in
+      let empty : r .end - r .at ≡ 0 = omega (arith, t .size, e, none) in
+      let whole : isBroken r ≡ false = ap (λ (b : Bool). r .failed && b) over ∙ and-false (r .failed) in
+      (ap (λ (n : ℕ). take n (drop (r .at) input′)) empty, over, whole)
 
   -- nothing was read
   pub none-read : readIn d d input ≡ []

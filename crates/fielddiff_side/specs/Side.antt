@@ -143,8 +143,9 @@ HeldReachable (held.Field k v) = Unit {0}
 HeldReachable held.Ended = Unit {0}
 HeldReachable (held.Refused n) = Unit {0}
 
--- more is read behind what was left; there may be more if something was, or if the read failed. A failure is kept, unless a signal interrupted the read,
--- which is then tried again. A file whose first read fails cannot be read at all: like one that cannot be opened, it "reads as empty" (02, K14)
+-- more is read behind what was left; there may be more if something was, or if the read failed. A failure is
+-- kept, unless a signal interrupted the read, which is then tried again. A file whose first read fails cannot
+-- be read at all: like one that cannot be opened, it "reads as empty" (02, K14)
 pub record ReadMore (d : Side) (input : List ℕ) (r : Side) (input′ : List ℕ) : Type 0 where
   pub answer : ℤ
   pub count : ℕ

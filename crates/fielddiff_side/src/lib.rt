@@ -27,8 +27,9 @@ pub enum Standing {
     Refused(u8),
 }
 
-// The octets from `at` to `end` of the input are still to be scanned; `more` may follow; `failed`: the last turn was a read, and it failed. If `more` may
-// follow a read that failed, it failed in the middle of the file.
+// The octets from `at` to `end` of the input are still to be scanned; `more` may follow; `failed`: the last
+// turn was a read, and it failed. If `more` may follow a read that failed, it failed in the middle of the
+// file.
 pub struct Side {
     pub standing: Standing,
     pub at: usize,
@@ -71,8 +72,8 @@ fn is_at_start(standing: Standing) -> bool
     }
 }
 
-// Moves what is left to the front, and reads more behind it. There must be room, as a read without any is like one at the end. A file whose first read
-// fails reads as empty.
+// Moves what is left to the front, and reads more behind it. There must be room, as a read without any is
+// like one at the end. A file whose first read fails reads as empty.
 fn read_more(fd: i32, side: Side, input: &mut [u8]) -> Side
     requires { ⌜ InSide side (length (now input)) ⌝ }
     requires { ⌜ side .end - side .at < length (now input) ⌝ }

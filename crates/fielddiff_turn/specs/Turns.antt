@@ -121,10 +121,26 @@ abbrev pub withPhase : Run → Phase → (filled : ℕ) → Run
 withPhase v p n = record { left = v .left; right = v .right; position = v .position; phase = p; filled = n; «open» = true }
 
 abbrev pub withLeft : Run → Side → Run
-withLeft v d = record { left = d; right = v .right; position = v .position; phase = phase.Places; filled = v .filled; «open» = not (isBroken d) }
+withLeft v d =
+    record {
+      left = d;
+      right = v .right;
+      position = v .position;
+      phase = phase.Places;
+      filled = v .filled;
+      «open» = not (isBroken d);
+    }
 
 abbrev pub withRight : Run → Side → Run
-withRight v d = record { left = v .left; right = d; position = v .position; phase = phase.Places; filled = v .filled; «open» = not (isBroken d) }
+withRight v d =
+    record {
+      left = v .left;
+      right = d;
+      position = v .position;
+      phase = phase.Places;
+      filled = v .filled;
+      «open» = not (isBroken d);
+    }
 
 -- the text is written, or the write failed and it still waits
 pub record RunFlushed (v r : Run) : Type 0 where
@@ -262,10 +278,12 @@ pub data Closed (v r : Run) : Type 0 where
   stuck : isStuck v ≡ true → r ≡ v → Closed v r
   flushes : isStuck v ≡ false → RunFlushed v r → Closed v r
 
--- THE WHOLE RUN, which leaves these octets, cells and texts in the buffers, and stands at `after`. It goes on until the list ends, a read fails in the
--- middle of a file, a write fails, or no turn is left. What was written is what the output for the two files begins with, whatever is still to come of
--- them; and if all was written, it is the output
-pub record Ended (leftOpen rightOpen : Bool) (leftInput rightInput leftStore rightStore out : List ℕ) (after : Run) : Type 0 where
+-- THE WHOLE RUN, which leaves these octets, cells and texts in the buffers, and stands at `after`. It goes on
+-- until the list ends, a read fails in the middle of a file, a write fails, or no turn is left. What was
+-- written is what the output for the two files begins with, whatever is still to come of them; and if all was
+-- written, it is the output
+pub record Ended (leftOpen rightOpen : Bool) (leftInput rightInput leftStore rightStore out : List ℕ)
+    (after : Run) : Type 0 where
   pub from : At
   pub starts : from .run ≡ started (opened leftOpen) (opened rightOpen)
   pub readLeft : List ℕ

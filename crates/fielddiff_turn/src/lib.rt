@@ -255,7 +255,8 @@ pub fn start(left: Side, right: Side) -> Run
     }
 }
 
-// Whether a write failed: the run has ended, though its list has not, and no read failed in the middle of a file.
+// Whether a write failed: the run has ended, though its list has not, and no read failed in the middle of a
+// file.
 fn is_stuck(run: Run) -> bool
     ensures { λ r. ⌜ r ≡ isStuck run ⌝ }
 {

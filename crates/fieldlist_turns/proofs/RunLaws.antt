@@ -24,7 +24,8 @@ prints : Prints fieldlist rest
 prints = record { next = λ s. next-frame (s .0) (s .1); last = λ s. last-lines (s .0) (s .1) }
 
 pub ended : (L : Layout) (store : List ℕ) {from here : At (Session × List ℕ)} {turns : ℕ} → Started program (session.Waiting L, store) from → Sofar (turning program) from here turns
-    → turns ≤ 0 → {r : Buffers} {out′ : List ℕ} → Closed program here r out′ → Ended program (listing L store) (session.Waiting L, store) here out′ r
+    → turns ≤ 0 → {r : Buffers} {out′ : List ℕ} → Closed program here r out′
+    → Ended program (listing L store) (session.Waiting L, store) here out′ r
 unfolding listing
 ended L store =
     run-ended program (lawful fieldlist) (listing L store) (λ l. ap (λ (t : List ℕ). title ++ t) (walk-is fieldlist rest prints (session.Waiting L, store) l))

@@ -48,4 +48,5 @@ Closes v input out r out′ = (store : List ℕ) → run.Closed program (at (v .
 -- THE WHOLE RUN: what is written is the listing of what is read
 abbrev pub Ended : Layout → (store store′ out′ : List ℕ) → (after : Buffers) → Type 0
 Ended L store store′ out′ after =
-    (a : At (Session × List ℕ)) × (a .state .1 ≡ store′) × run.Ended program (listing L store) (session.Waiting L, store) a out′ after
+    (a : At (Session × List ℕ)) × (a .state .1 ≡ store′)
+    × run.Ended program (listing L store) (session.Waiting L, store) a out′ after

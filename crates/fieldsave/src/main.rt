@@ -116,7 +116,8 @@ fn main() {
         return;
     }
     let to = create_named(b"fieldsave", at + 1);
-    // If the program is started without standard error, a new file takes its place, and must not get the messages.
+    // If the program is started without standard error, a new file takes its place, and must not get the
+    // messages.
     if to <= STDERR_FILENO {
         return;
     }

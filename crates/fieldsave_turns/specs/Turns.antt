@@ -36,4 +36,5 @@ pub record Started (L : Layout) (out out′ : List ℕ) (r : Run) : Type 0 where
 -- THE WHOLE RUN: what is written is the field file of what is read
 abbrev pub Ended : Layout → (store store′ out′ : List ℕ) → (after : Buffers) → Type 0
 Ended L store store′ out′ after =
-    (a : At (Session × List ℕ)) × (a .state .1 ≡ store′) × run.Ended program (filing L store) (session.Waiting L, store) a out′ after
+    (a : At (Session × List ℕ)) × (a .state .1 ≡ store′)
+    × run.Ended program (filing L store) (session.Waiting L, store) a out′ after

@@ -34,9 +34,11 @@ countable {port} {from} {here} {turns} b f h =
 
 -- the whole run, said of the frames; there is no last text
 pub ended : {port : ℕ} {from here : At Session} {turns : ℕ} → Started (frameWalk port) begun from → Sofar (turning (frameWalk port)) from here turns → turns ≤ 0
-    → {s : Session} → s ≡ lastOf (here .state) (length (unused here)) → Ended port s (here .input) (here .out) (here .buffers)
+    → {s : Session} → s ≡ lastOf (here .state) (length (unused here))
+    → Ended port s (here .input) (here .out) (here .buffers)
 ended {port} {here = here} t f n last =
-    let r = run-ended (frameWalk port) (lawful port) (framesOf port) (λ l. sym (walk-text port l)) t f n (closed-without (frameWalk port) {a = here} refl) in
+    let closed = closed-without (frameWalk port) {a = here} refl in
+    let r = run-ended (frameWalk port) (lawful port) (framesOf port) (λ l. sym (walk-text port l)) t f n closed in
     record {
       before = here;
       run = r;

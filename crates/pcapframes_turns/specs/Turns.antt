@@ -26,8 +26,8 @@ pub record Enough (input out : ℕ) : Type 0 where
 abbrev pub started : Run
 started = record { session = begun; buffers = buffers.begun 0 }
 
--- THE WHOLE RUN, which leaves these octets in the buffers, and these places: what is written is the frames of all that is read, with no last text; and what is told at last is
--- what the walk over it comes to
+-- THE WHOLE RUN, which leaves these octets in the buffers, and these places: what is written is the frames of
+-- all that is read, with no last text; and what is told at last is what the walk over it comes to
 pub record Ended (port : ℕ) (s : Session) (input out : List ℕ) (after : Buffers) : Type 0 where
   pub before : At Session
   pub run : run.Ended (frameWalk port) (framesOf port) begun before out after

@@ -4,7 +4,8 @@ ghost use Prim.Native.Nat.{_+_, _-_, _^_, _<_, _≤_};
 ghost use mathlib.Core.Bool.{cond};
 ghost use mathlib.Core.Path.{_≡_};
 ghost use lib.ListN.{length};
-ghost use Rattle.program_spec.specs.Buffers.{Flushed, InBounds, Interrupted, ReadMore, Refilled, WrittenOf, advanced, begun, ended, failureOf, isDone};
+ghost use Rattle.program_spec.specs.Buffers.{Flushed, InBounds, Interrupted, ReadMore, Refilled, WrittenOf};
+ghost use Rattle.program_spec.specs.Buffers.{advanced, begun, ended, failureOf, isDone};
 ghost use Rattle.program_spec.specs.Run.{CanStep, Stepped};
 use crate::progress::end;
 use crate::progress::show;
@@ -201,8 +202,9 @@ pub fn failure_of(buffers: Buffers) -> Failure
     Failure::Write
 }
 
-// The turns that are left: loops must terminate, so they count down from 2^64 - 1, which no run uses up. If the work is watched (`is_watched`), a long
-// run shows how many were made. Only a write to that terminal is made here, so errno is still that of a read or a write that failed.
+// The turns that are left: loops must terminate, so they count down from 2^64 - 1, which no run uses up. If
+// the work is watched (`is_watched`), a long run shows how many were made. Only a write to that terminal is
+// made here, so errno is still that of a read or a write that failed.
 pub fn turns_left(turns: u64, open: bool, watched: bool) -> u64
     requires { ⌜ 0 < turns ⌝ }
     ensures { λ r. ⌜ r ≡ cond «open» (turns - 1) 0 ⌝ }

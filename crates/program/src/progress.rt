@@ -5,8 +5,8 @@ use libc::STDOUT_FILENO;
 // Turns from one time to the next.
 const EVERY: u64 = 262144;
 
-// Whether it is to be shown: standard error is a terminal, and what the program prints, if it does, goes elsewhere. Asked once, before the first turn:
-// `isatty` changes errno.
+// Whether it is to be shown: standard error is a terminal, and what the program prints, if it does, goes
+// elsewhere. Asked once, before the first turn: `isatty` changes errno.
 pub fn is_watched(prints: bool) -> bool {
     let beside = prints & (libc::isatty(STDOUT_FILENO) == 1);
     (libc::isatty(STDERR_FILENO) == 1) & !beside

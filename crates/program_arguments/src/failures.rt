@@ -1,5 +1,5 @@
-// The messages on standard error for a file that cannot be opened, read or written: the program, the file and the reason, which is errno's text. So each
-// function must be called before another call changes errno.
+// The messages on standard error for a file that cannot be opened, read or written: the program, the file and
+// the reason, which is errno's text. So each function must be called before another call changes errno.
 use libc::STDERR_FILENO;
 use program_spec::buffers::Failure;
 

@@ -14,7 +14,8 @@ use lib.Seq.{length-take-le, take-add, take-all, take-at, take-length, take-take
 use Rattle.wire_spec.specs.Bits.{overwrite}
 use Rattle.program_spec.specs.declared.buffers.Buffers.{Buffers}
 use Rattle.program_spec.specs.declared.buffers.Failure.the-variants as failure
-use Rattle.program_spec.specs.Buffers.{Begins, Count, Flushed, InBounds, ReadMore, ReadOn, Refilled, failureOf, isDone, readIn, unused, unwritten, writtenIn}
+use Rattle.program_spec.specs.Buffers.{Begins, Count, Flushed, InBounds, ReadMore, ReadOn, Refilled}
+use Rattle.program_spec.specs.Buffers.{failureOf, isDone, readIn, unused, unwritten, writtenIn}
 
 -- all from `k` on
 pub part-length : (k : ℕ) (l : List ℕ) → length (take (length l - k) (drop k l)) ≡ length l - k
@@ -79,28 +80,34 @@ failed-is-no-end = refl
 waiting-is-no-end : isDone (record { at = 5; end = 7; filled = 1; «open» = false; failed = false }) ≡ false
 waiting-is-no-end = refl
 
--- A READ THAT FAILS IS TOLD FROM A WRITE by the text that waits: none where nothing could be read, and all of it where it was not written
-nothing-failed : failureOf (record { at = 5; end = 7; filled = 1; «open» = true; failed = false }) ≡ failure.Nothing
+-- WHICH CALL FAILED: a read, after which no text waits, or a write, after which its text does
+abbrev ending : (filled : ℕ) (failed : Bool) → Buffers
+ending n f = record { at = 5; end = 7; filled = n; «open» = false; failed = f }
+
+nothing-failed : failureOf (ending 1 false) ≡ failure.Nothing
 nothing-failed = refl
 
-read-failed : failureOf (record { at = 5; end = 7; filled = 0; «open» = false; failed = true }) ≡ failure.Read
+read-failed : failureOf (ending 0 true) ≡ failure.Read
 read-failed = refl
 
-write-failed : failureOf (record { at = 5; end = 7; filled = 9; «open» = false; failed = true }) ≡ failure.Write
+write-failed : failureOf (ending 9 true) ≡ failure.Write
 write-failed = refl
 
-pub failed-to-read : (b : Buffers) (input : List ℕ) (r : Buffers) (input′ : List ℕ) (t : Refilled b input r input′)
+pub failed-to-read : (b : Buffers) (input : List ℕ) (r : Buffers) (input′ : List ℕ)
+    (t : Refilled b input r input′)
     → t .flushed .«open» ≡ true → r .failed ≡ true → failureOf r ≡ failure.Read
 failed-to-read b input r input′ t o e = go (t .text .written) (t .text .filled) (t .text .goes-on)
   where
     x : ReadMore (t .flushed) input r input′
     x = subst (λ (z : Bool). ReadOn z (t .flushed) input r input′) o (t .octets)
 
-    go : (w : Bool) → t .flushed .filled ≡ cond w 0 (b .filled) → t .flushed .«open» ≡ (w && b .«open») → failureOf r ≡ failure.Read
+    go : (w : Bool) → t .flushed .filled ≡ cond w 0 (b .filled) → t .flushed .«open» ≡ (w && b .«open»)
+        → failureOf r ≡ failure.Read
     go true n g = let none : r .filled ≡ 0 = x .filled ∙ n in rw (e, none) refl
     go false n g = absurd (true≢false (sym o ∙ g))
 
-pub failed-to-write : (b r : Buffers) (t : Flushed b r) → t .written ≡ false → 0 < b .filled → failureOf r ≡ failure.Write
+pub failed-to-write : (b r : Buffers) (t : Flushed b r) → t .written ≡ false → 0 < b .filled
+    → failureOf r ≡ failure.Write
 failed-to-write b r t w h =
     let f : r .failed ≡ true = t .fails ∙ ap (λ (z : Bool). not z || b .failed) w in
     let n : r .filled ≡ b .filled = t .filled ∙ ap (λ (z : Bool). cond z 0 (b .filled)) w in

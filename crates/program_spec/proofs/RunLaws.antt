@@ -272,9 +272,9 @@ no-end b f = go (b .«open»)
     go true = refl
     go false = ap (λ (x : Bool). not x && eqb (b .filled) 0) f
 
-pub failed-stops : {P : Program} {whole : List ℕ → List ℕ} {s₀ : P .State} {before : At (P .State)} {out′ : List ℕ}
-    {after : Buffers} (e : Ended P whole s₀ before out′ after)
-    → before .buffers .failed ≡ true → (after ≡ before .buffers) × (out′ ≡ before .out) × (isDone after ≡ false)
+pub failed-stops : {P : Program} {whole : List ℕ → List ℕ} {s₀ : P .State} {before : At (P .State)}
+    {out′ : List ℕ} {after : Buffers} (e : Ended P whole s₀ before out′ after) → before .buffers .failed ≡ true
+    → (after ≡ before .buffers) × (out′ ≡ before .out) × (isDone after ≡ false)
 failed-stops {P} {before = before} {out′ = out′} {after = after} e f =
     let d = no-end (before .buffers) f in
     let x = subst (λ (z : Bool). Closing P z before (e .closed .ready) after out′) d (e .closed .step) in

@@ -39,7 +39,8 @@ writtenIn b r out = take (b .filled - r .filled) out
 abbrev pub isDone : Buffers → Bool
 isDone b = not (b .«open» || b .failed) && eqb (b .filled) 0
 
--- WHICH CALL FAILED, by the text that waits: a write that fails leaves its text waiting, and nothing is read while any waits
+-- WHICH CALL FAILED, by the text that waits: a write that fails leaves its text waiting, and nothing is read
+-- while any waits
 abbrev pub failureOf : Buffers → Failure
 failureOf b = cond (b .failed) (cond (eqb (b .filled) 0) failure.Read failure.Write) failure.Nothing
 

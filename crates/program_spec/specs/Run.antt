@@ -110,11 +110,14 @@ module _ (P : Program) where
     at-end : (m : Buffers) → Flushed (a .buffers) m → (x : ReadMore m (a .input) (b .buffers) (b .input)) → x .answer ≡ pos 0 → Stops a b
     is-over : (z : P .State) → P .front (a .state) (unused a) ≡ over z → Stops a b
 
--- THE WHOLE RUN of a program whose output is `whole`, which leaves the buffers `after`. It goes on until the input ends, nothing more is taken, a read or a
--- write fails, or no turn is left. What was written is what the output begins with, whatever is still to be read; and if the run is done, all was written,
--- with the last text, and it is the output for what was read, which was all. The text that waits comes next, and at the end of the input the last text: a
--- write that fails part-way has written a beginning of them, so that a file on a full disk is a beginning of the file
-pub record Ended (P : Program) (whole : List ℕ → List ℕ) (s₀ : P .State) (before : At (P .State)) (out′ : List ℕ) (after : Buffers) : Type 0 where
+-- THE WHOLE RUN of a program whose output is `whole`, which leaves the buffers `after`. It goes on until the
+-- input ends, nothing more is taken, a read or a write fails, or no turn is left. What was written is what
+-- the output begins with, whatever is still to be read; and if the run is done, all was written, with the
+-- last text, and it is the output for what was read, which was all. The text that waits comes next, and at
+-- the end of the input the last text: a write that fails part-way has written a beginning of them, so that a
+-- file on a full disk is a beginning of the file
+pub record Ended (P : Program) (whole : List ℕ → List ℕ) (s₀ : P .State) (before : At (P .State))
+    (out′ : List ℕ) (after : Buffers) : Type 0 where
   pub from : At (P .State)
   pub starts : Started P s₀ from
   pub read : List ℕ

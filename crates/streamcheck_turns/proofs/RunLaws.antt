@@ -28,5 +28,6 @@ pub index-made : {from here : At Session} {read written : List ℕ} (p : Passed 
 index-made p = counts-turns (turning program) (λ (a : At Session). a .state .index) (frame-counts (streamcheck true) (λ (v : Session). v .index) (λ v q. omega arith)) p
 
 pub ended : (L : Layout) {from here : At Session} {turns : ℕ} → Started program (begun L) from → Sofar (turning program) from here turns → turns ≤ 0
-    → {r : Buffers} {out′ : List ℕ} → Closed program here r out′ → Ended program (streamText L) (begun L) here out′ r
+    → {r : Buffers} {out′ : List ℕ} → Closed program here r out′
+    → Ended program (streamText L) (begun L) here out′ r
 ended L = run-ended program (lawful (streamcheck true)) (streamText L) (λ l. whole-input L l ∙ walk-is (streamcheck true) remaining prints (begun L) l)

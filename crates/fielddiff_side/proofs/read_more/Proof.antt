@@ -28,31 +28,39 @@ move-to-front-requires c κs = omega (arith, c .before .before .pre .0 .0, lengt
 
 returns : tie.Need-returns
 returns c =
-    let v = c .before .before .before .before .before .before .before .before .before .before .before .before .before .before .args .side in
-    let i = c .before .before .before .before .before .before .before .before .before .before .before .before .before .before .args .input .now in
-    let p = c .before .before .before .before .before .before .before .before .before .before .before .before .before .before .pre .0 in
+    let behind = c .before .before .before .before .before .before in
+    let reading = behind .before in
+    let moving = reading .before .before .before .before in
+    let start = moving .before .before .before in
+    let v = start .args .side in
+    let i = start .args .input .now in
+    let p = start .pre .0 in
     let k = v .end - v .at in
-    let moved = c .before .before .before .before .before .before .before .before .before .before .before .move-to-front .last .0 in
-    let read = c .before .before .before .before .before .before .before .read .last .1 .0 in
+    let moved = moving .move-to-front .last .0 in
+    let read = reading .read .last .1 .0 in
     let w = moved ++ drop (v .end) i in
     let tail = drop (length w - k) (drop k w) in
     let x = take k w ++ (read ++ tail) in
-    let z = c .before .before .before .before .before .before .before .read .result in
-    let back : toZ w64 (ofZ w64 z) ≡ z = toZ-ofZ (record { sfits = c .before .before .before .before .before .before .before .read .ok }) in
-    let n = c .before .before .count .result in
-    let i′ = c .before .is-interrupted .result in
+    let z = reading .read .result in
+    let back : toZ w64 (ofZ w64 z) ≡ z = toZ-ofZ (record { sfits = reading .read .ok }) in
+    let count = c .before .before .count in
+    let signal = c .before .is-interrupted in
     record {
       answer = z;
-      count = c .before .before .count .result;
-      interrupted = c .before .is-interrupted .result;
+      count = count .result;
+      interrupted = signal .result;
       standing = refl;
       bounds = search needs;
-      octets = part-moved i (v .at) (v .end) (p .0) (p .1) moved read tail (c .before .before .count .result) (c .before .before .before .before .before .before .before .before .before .before .before .move-to-front .ensures);
-      counts = counted z (toZ w64 (ofZ w64 z)) (c .before .before .count .result) k w x back (c .before .before .before .before .before .before .input2 .given .1) (c .before .before .before .before .before .before .before .read .ensures) (c .before .before .count .ensures .1);
-      signal = subst (λ (a : ℤ). Interrupted a (c .before .is-interrupted .result)) back (c .before .is-interrupted .ensures);
+      octets = part-moved i (v .at) (v .end) (p .0) (p .1) moved read tail (count .result) (moving .move-to-front .ensures);
       size = omega arith;
-      goes-on = λ j. ltb 0 n || (ltZ (back j) (pos 0) && (i′ || not (c .is-at-start .ensures j && eqb k 0)));
-      fails = ap (λ (a : ℤ). ltZ a (pos 0) && not (c .before .is-interrupted .result)) back;
+      counts =
+          counted z (toZ w64 (ofZ w64 z)) (count .result) k w x back
+          (behind .input2 .given .1) (reading .read .ensures) (count .ensures .1);
+      signal = subst (λ (a : ℤ). Interrupted a (signal .result)) back (signal .ensures);
+      goes-on =
+          λ j. ltb 0 (count .result)
+          || (ltZ (back j) (pos 0) && (signal .result || not (c .is-at-start .ensures j && eqb k 0)));
+      fails = ap (λ (a : ℤ). ltZ a (pos 0) && not (signal .result)) back;
     }
 
 pub read-more-spec : {M : Type 1} → statement M

@@ -25,5 +25,5 @@ list-requires c κs =
 pub list-file-spec : {M : Type 1} → statement M
 list-file-spec =
     tie.close
-    (tie.spec (λ c κs. search needs) slice-aggregate-list slice-aggregate-list-2 slice-aggregate-list-3 list-requires
-    (λ c κs. search needs) (λ c. search needs))
+    (tie.spec (λ c κs. search needs) slice-aggregate-list slice-aggregate-list-2 slice-aggregate-list-3
+    list-requires (λ c κs. search needs) (λ c. search needs))

@@ -25,5 +25,5 @@ file-requires c κs =
 pub file-frames-spec : {M : Type 1} → statement M
 file-frames-spec =
     tie.close
-    (tie.spec (λ c κs. search needs) slice-aggregate-file slice-aggregate-file-2 slice-aggregate-file-3 file-requires
-    (λ c κs. search needs) (λ c κs. search needs) (λ c. search needs))
+    (tie.spec (λ c κs. search needs) slice-aggregate-file slice-aggregate-file-2 slice-aggregate-file-3
+    file-requires (λ c κs. search needs) (λ c κs. search needs) (λ c. search needs))

@@ -30,4 +30,5 @@ extract-requires c κs = hold (slice-aggregate-extract (c .before)) (slice-aggre
 pub extract-frames-spec : {M : Type 1} → statement M
 extract-frames-spec =
     tie.close
-    (tie.spec (λ c κs. search needs) slice-aggregate-extract slice-aggregate-extract-2 extract-requires (λ c. search needs))
+    (tie.spec (λ c κs. search needs) slice-aggregate-extract slice-aggregate-extract-2 extract-requires
+    (λ c. search needs))

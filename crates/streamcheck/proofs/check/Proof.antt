@@ -1,5 +1,5 @@
--- `check` makes turn after turn, and then writes the last line.
--- Invariant: the turns so far are a run, with as many left as there must be (`program_spec` `TurnLaws`); the buffers keep their sizes.
+-- `check` makes turn after turn, and then writes the last line. Invariant: the turns so far are a run, with
+-- as many left as there must be (`program_spec` `TurnLaws`); the buffers keep their sizes.
 use borrow.Author.Needs.{needs}
 use mathlib.Core.Path.{_≡_, refl, ap, sym, subst, _∙_}
 use mathlib.Core.List.{List, []}

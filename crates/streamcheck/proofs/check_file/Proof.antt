@@ -25,5 +25,5 @@ check-requires c κs =
 pub check-file-spec : {M : Type 1} → statement M
 check-file-spec =
     tie.close
-    (tie.spec (λ c κs. search needs) slice-aggregate-check slice-aggregate-check-2 slice-aggregate-check-3 check-requires
-    (λ c κs. search needs) (λ c. search needs))
+    (tie.spec (λ c κs. search needs) slice-aggregate-check slice-aggregate-check-2 slice-aggregate-check-3
+    check-requires (λ c κs. search needs) (λ c. search needs))

@@ -9,7 +9,9 @@ returns : tie.Need-returns
 returns c = rw (not-true (c .before .args .buffers .failed) (c .if1 .taken))
 
 returns-2 : tie.Need-returns-2
-returns-2 c = rw (not-false (c .before .before .before .args .buffers .failed) (c .before .before .if1 .left), c .if2 .taken)
+returns-2 c =
+    let b = c .before .before .before .args .buffers in
+    rw (not-false (b .failed) (c .before .before .if1 .left), c .if2 .taken)
 
 returns-3 : tie.Need-returns-3
 returns-3 c =
