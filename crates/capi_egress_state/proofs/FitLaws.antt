@@ -1,14 +1,16 @@
 -- Numbers that all fit: one by one, and those of a row.
 use mathlib.Core.Path.{_≡_, refl, sym, _∙_, ap}
-use mathlib.Core.Bool.{Bool, true, false, _&&_}
+use mathlib.Core.Bool.{Bool, true, false, _&&_, and-assoc, and-comm}
 use mathlib.Core.List.{List, [], _∷_, append-nil}
-use Prim.Native.Nat.{ℕ, zero, suc, _+_, _≤_, _<_}
+use Prim.Native.Nat.{ℕ, zero, suc, _+_, _-_, _^_, _≤_, _<_}
 use native.Mathlib.Numerals.{add-one}
 use native.Mathlib.Omega.{arith}
+use lib.Bits.{bitOr, or-lt, or-add-and, and-le-l, and-le-r}
 use lib.Dec.{leb}
+use lib.Pow.{pow-pos}
 use lib.ListN.{length, getD, drop, set, length-take, length-drop}
 use lib.Seq.{drop-cons, drop-length}
-use borrow.Author.Tests.{leb-true, le-leb, lt-leb}
+use borrow.Author.Tests.{leb-true, leb-false, le-leb, lt-leb}
 use Rattle.wire_spec.proofs.ResultLaws.{and-true}
 use Rattle.wire_spec.specs.Bits.{overwrite}
 use Rattle.egress_spec.specs.Queues.{channels, slotCount}
@@ -21,18 +23,48 @@ fit-at most [] k e h = absurd (omega arith)
 fit-at most (n ∷ ns) zero e h = leb-true n most (and-true (leb n most) (allFit most ns) e .0)
 fit-at most (n ∷ ns) (suc k) e h = fit-at most ns k (and-true (leb n most) (allFit most ns) e .1) (omega arith)
 
--- those from `k` on: the first of them fits, or it does not, or there are none
-pub fit-next : (most : ℕ) (l : List ℕ) (k : ℕ) → k < length l → getD l k 0 ≤ most → allFit most (drop (k + 1) l) ≡ allFit most (drop k l)
-unfolding allFit
-fit-next most l k h e = rw (add-one k) (sym (rw (drop-cons l k 0 h, le-leb (getD l k 0) most e)))
+-- the bits of two numbers fit a width exactly if both numbers do
+or-above : (a b : ℕ) → (a ≤ bitOr a b) × (b ≤ bitOr a b)
+or-above a b =
+    let e = or-add-and a b in
+    let l = and-le-l a b in
+    let r = and-le-r a b in
+    (omega (arith, e, r), omega (arith, e, l))
 
-pub fit-fails : (most : ℕ) (l : List ℕ) (k : ℕ) → k < length l → most < getD l k 0 → allFit most (drop k l) ≡ false
-unfolding allFit
-fit-fails most l k h e = rw (drop-cons l k 0 h, lt-leb (getD l k 0) most e)
+or-fits : (bits a b : ℕ) → leb (bitOr a b) (2 ^ bits - 1) ≡ leb a (2 ^ bits - 1) && leb b (2 ^ bits - 1)
+or-fits bits a b = go (leb a most) refl (leb b most) refl
+  where
+    most : ℕ
+    most = 2 ^ bits - 1
 
-pub fit-end : (most : ℕ) (l : List ℕ) → allFit most (drop (length l) l) ≡ true
+    go : (x : Bool) → leb a most ≡ x → (y : Bool) → leb b most ≡ y → leb (bitOr a b) most ≡ x && y
+    go true e true f =
+        let p = pow-pos bits in
+        let l = leb-true a most e in
+        let r = leb-true b most f in
+        let h = or-lt bits a b (omega (arith, p, l)) (omega (arith, p, r)) in
+        le-leb (bitOr a b) most (omega (arith, h))
+    go true e false f =
+        let r = leb-false b most f in
+        lt-leb (bitOr a b) most (omega (arith, r, or-above a b .1))
+    go false e y f =
+        let l = leb-false a most e in
+        lt-leb (bitOr a b) most (omega (arith, l, or-above a b .0))
+
+-- what is joined and those from `k` on: one more is joined, or none is left
+pub join-next : (bits all : ℕ) (l : List ℕ) (k : ℕ) → k < length l
+    → leb (bitOr all (getD l k 0)) (2 ^ bits - 1) && allFit (2 ^ bits - 1) (drop (k + 1) l)
+    ≡ leb all (2 ^ bits - 1) && allFit (2 ^ bits - 1) (drop k l)
 unfolding allFit
-fit-end most l = rw (drop-length l)
+join-next bits all l k h =
+    rw (add-one k, or-fits bits all (getD l k 0), drop-cons l k 0 h)
+    (and-assoc (leb all (2 ^ bits - 1)) (leb (getD l k 0) (2 ^ bits - 1))
+    (allFit (2 ^ bits - 1) (drop (suc k) l)))
+
+pub join-end : (bits all : ℕ) (l : List ℕ)
+    → leb all (2 ^ bits - 1) && allFit (2 ^ bits - 1) (drop (length l) l) ≡ leb all (2 ^ bits - 1)
+unfolding allFit
+join-end bits all l = rw (drop-length l) (and-comm (leb all (2 ^ bits - 1)) true)
 
 -- the numbers of a row that is a state
 pub record RowFits (row : List ℕ) : Type 0 where

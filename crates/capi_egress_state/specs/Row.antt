@@ -1,4 +1,5 @@
 -- The outlet's state as a row of 145 numbers: heads, counts, slots and lengths, channel by channel, and the next channel (02, K10).
+use mathlib.Core.Path.{_≡_}
 use mathlib.Core.Bool.{Bool, true, _&&_}
 use mathlib.Core.List.{List, [], _∷_, _++_}
 use Prim.Native.Nat.{ℕ, _+_, _-_, _^_}
@@ -54,6 +55,10 @@ max16 = 2 ^ 16 - 1
 unfoldable pub allFit : ℕ → List ℕ → Bool
 allFit most [] = true
 allFit most (n ∷ ns) = leb n most && allFit most ns
+
+-- a number that fits so many bits exactly if each of the others does
+abbrev pub Joined : List ℕ → ℕ → Type 0
+Joined ns all = (bits : ℕ) → leb all (2 ^ bits - 1) ≡ allFit (2 ^ bits - 1) ns
 
 -- "a number out of range": is each one that its value can have
 abbrev pub fits : State → Bool

@@ -5,20 +5,19 @@ ghost use mathlib.Core.Path.{_≡_};
 ghost use Prim.Native.Nat.{_+_, _≤_};
 ghost use lib.ListN.{length};
 ghost use Rattle.wire_spec.specs.Bits.{overwrite, splice};
-ghost use Rattle.capi_egress_state.specs.Row.{allFit, max16, max8};
+ghost use Rattle.capi_egress_state.specs.Row.{Joined, allFit, max16, max8};
 
-// Whether each number is at most `most`.
-pub fn all_fit(numbers: &[u64], most: u64) -> bool
-    ensures { λ r. ⌜ r ≡ allFit most (now (numbers .entry)) ⌝ }
+// The bits of all the numbers: they fit a width exactly if each of the numbers does.
+pub fn joined(numbers: &[u64]) -> u64
+    ensures { λ r. ⌜ Joined (now (numbers .entry)) r ⌝ }
 {
+    let mut all: u64 = 0;
     let mut k: usize = 0;
     while k < numbers.len() {
-        if numbers[k] > most {
-            return false;
-        }
+        all = all | numbers[k];
         k += 1;
     }
-    true
+    all
 }
 
 // Takes numbers of 8 bits out of a row.

@@ -6,7 +6,7 @@ ghost use Prim.Native.Nat.{_≤_};
 ghost use lib.ListN.{length};
 ghost use Rattle.wire_spec.specs.Bits.{overwrite};
 ghost use Rattle.capi_egress_state.specs.Row.{isState, numbersOf, rowSize, stateAt};
-use crate::numbers::all_fit;
+use crate::numbers::joined;
 use crate::numbers::put_lengths;
 use crate::numbers::put_octets;
 use crate::numbers::take_lengths;
@@ -36,11 +36,12 @@ pub fn is_state(row: &[u64]) -> bool
     requires { ⌜ rowSize ≤ length (now row) ⌝ }
     ensures { λ r. ⌜ r ≡ isState (now (row .entry)) ⌝ }
 {
-    let heads = all_fit(&row[HEADS_AT..COUNTS_AT], MAX_8);
-    let counts = all_fit(&row[COUNTS_AT..SLOTS_AT], MAX_8);
-    let slots = all_fit(&row[SLOTS_AT..LENGTHS_AT], MAX_8);
-    let lengths = all_fit(&row[LENGTHS_AT..NEXT_AT], MAX_16);
-    heads & (counts & (slots & (lengths & (row[NEXT_AT] <= MAX_8))))
+    let heads = joined(&row[HEADS_AT..COUNTS_AT]);
+    let counts = joined(&row[COUNTS_AT..SLOTS_AT]);
+    let slots = joined(&row[SLOTS_AT..LENGTHS_AT]);
+    let lengths = joined(&row[LENGTHS_AT..NEXT_AT]);
+    let others = (lengths <= MAX_16) & (row[NEXT_AT] <= MAX_8);
+    (heads <= MAX_8) & ((counts <= MAX_8) & ((slots <= MAX_8) & others))
 }
 
 // The state whose numbers stand in a row.

@@ -10,10 +10,15 @@ use Rattle.capi_egress_state.proofs.state.is_state.Tie as tie
 
 returns : tie.Need-returns
 returns c =
+    let lengths = c .before in
+    let slots = lengths .before .before in
+    let counts = slots .before .before in
+    let heads = counts .before .before in
+    let row = heads .before .before .before .args .row .now in
     λ i.
-    c .before .before .before .before .before .before .before .all-fit .ensures i
-    && (c .before .before .before .before .before .all-fit2 .ensures i
-    && (c .before .before .before .all-fit3 .ensures i && (c .before .all-fit4 .ensures i && leb (getD (c .before .before .before .before .before .before .before .before .before .before .args .row .now) nextAt 0) max8)))
+    heads .joined .ensures 8 i
+    && (counts .joined2 .ensures 8 i
+    && (slots .joined3 .ensures 8 i && (lengths .joined4 .ensures 16 i && leb (getD row nextAt 0) max8)))
 
 pub is-state-spec : {M : Type 1} → statement M
 is-state-spec =
