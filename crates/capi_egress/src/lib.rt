@@ -13,6 +13,7 @@ use capi_answer::length::ROW_TOO_SHORT;
 use capi_answer::row::ACCEPTED;
 use capi_answer::row::refuse;
 use capi_egress_state::state::is_state;
+use capi_egress_state::state::put_channel;
 use capi_egress_state::state::put_state;
 use capi_egress_state::state::state_in;
 use capi_state::row::put;
@@ -81,7 +82,7 @@ pub extern "C" fn jibhotran_outlet_offer(
     match outcome {
         OfferAnswer::Refused(refusal) => refuse(refusal, answer),
         OfferAnswer::Copied => {
-            put_state(next, state);
+            put_channel(next, channel as usize, state);
             ACCEPTED
         }
     }
@@ -124,7 +125,7 @@ pub extern "C" fn jibhotran_outlet_take(
     match outcome {
         TakeAnswer::Refused(refusal) => refuse(refusal, answer),
         TakeAnswer::HandedOut { channel, octets } => {
-            put_state(next, state);
+            put_channel(next, channel as usize, state);
             accept_taken(channel, octets.0, answer)
         }
     }

@@ -1,3 +1,4 @@
 pub mod FitLaws
 pub mod RowLaws
 pub mod HandedOn
+pub mod ChangeLaws

@@ -2,11 +2,11 @@
 use mathlib.Core.Path.{_≡_}
 use mathlib.Core.Bool.{Bool, true, _&&_}
 use mathlib.Core.List.{List, [], _∷_, _++_}
-use Prim.Native.Nat.{ℕ, _+_, _-_, _^_}
+use Prim.Native.Nat.{ℕ, _+_, _-_, _*_, _%_, _^_, _≤_, _<_}
 use lib.Dec.{leb}
-use lib.ListN.{getD, take, drop}
+use lib.ListN.{length, getD, take, drop, set}
 use Rattle.egress_spec.specs.declared.state.State.{State}
-use Rattle.egress_spec.specs.Queues.{channels, slotCount}
+use Rattle.egress_spec.specs.Queues.{channels, maxHeld, slotCount}
 
 -- where the counts, the slots, the lengths and the next channel stand
 abbrev pub countsAt : ℕ
@@ -66,3 +66,22 @@ fits s = allFit max8 (s .heads) && (allFit max8 (s .counts) && (allFit max8 (s .
 
 abbrev pub isState : List ℕ → Bool
 isState row = fits (stateAt row)
+
+-- the place of a channel's last packet, or of the one that left last
+abbrev pub lastPlace : State → ℕ → ℕ
+lastPlace s c = maxHeld * c + (getD (s .heads) c 0 + getD (s .counts) c 0 + maxHeld - 1) % maxHeld
+
+-- `new` differs from `old` at index `k` at most
+abbrev pub SetAt : (old new : List ℕ) → ℕ → Type 0
+SetAt old new k = new ≡ set old k (getD new k 0)
+
+-- What a call for a channel leaves differs from the state in the row in no other numbers than these.
+pub record ChangedAt (row : List ℕ) (s : State) (c : ℕ) : Type 0 where
+  pub long : rowSize ≤ length row
+  pub channel : c < channels
+  pub head : getD (s .heads) c 0 < maxHeld
+  pub count : getD (s .counts) c 0 ≤ maxHeld
+  pub heads : SetAt (part row 0 channels) (s .heads) c
+  pub counts : SetAt (part row countsAt channels) (s .counts) c
+  pub slots : SetAt (part row slotsAt slotCount) (s .slots) (lastPlace s c)
+  pub lengths : SetAt (part row lengthsAt slotCount) (s .lengths) (lastPlace s c)

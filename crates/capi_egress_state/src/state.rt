@@ -5,13 +5,14 @@ ghost use mathlib.Core.Path.{_≡_};
 ghost use Prim.Native.Nat.{_≤_};
 ghost use lib.ListN.{length};
 ghost use Rattle.wire_spec.specs.Bits.{overwrite};
-ghost use Rattle.capi_egress_state.specs.Row.{isState, numbersOf, rowSize, stateAt};
+ghost use Rattle.capi_egress_state.specs.Row.{ChangedAt, isState, numbersOf, rowSize, stateAt};
 use crate::numbers::joined;
 use crate::numbers::put_lengths;
 use crate::numbers::put_octets;
 use crate::numbers::take_lengths;
 use crate::numbers::take_octets;
 use egress_spec::state::CHANNELS;
+use egress_spec::state::HELD;
 use egress_spec::state::SLOTS;
 use egress_spec::state::State;
 
@@ -79,5 +80,21 @@ pub fn put_state(state: State, row: &mut [u64])
     put_octets(&slots, SLOTS_AT, row);
     let lengths = state.lengths;
     put_lengths(&lengths, LENGTHS_AT, row);
+    row[NEXT_AT] = state.next as u64;
+}
+
+// Writes the numbers of a state to a row that differs from it at most in a channel's head, count and last
+// place, and in the next channel: a call changes no others.
+pub fn put_channel(state: State, channel: usize, row: &mut [u64])
+    requires { ⌜ ChangedAt (now row) state channel ⌝ }
+    ensures { λ r. ⌜ now (row .exit) ≡ overwrite (numbersOf state) (now (row .entry)) ⌝ }
+{
+    let head = state.heads[channel];
+    let count = state.counts[channel];
+    let last = HELD * channel + ((head as usize) + (count as usize) + HELD - 1) % HELD;
+    row[HEADS_AT + channel] = head as u64;
+    row[COUNTS_AT + channel] = count as u64;
+    row[SLOTS_AT + last] = state.slots[last] as u64;
+    row[LENGTHS_AT + last] = state.lengths[last] as u64;
     row[NEXT_AT] = state.next as u64;
 }

@@ -8,10 +8,13 @@ use borrow.Author.Tests.{not-true, not-false}
 use lib.ListN.{length}
 use Rattle.wire_spec.specs.declared.refusal.Refusal.{Refusal}
 use Rattle.wire_spec.specs.Bits.{overwrite}
+use Rattle.egress_spec.specs.declared.state.State.{State}
+use Rattle.egress_spec.specs.Step.{offerOf, offeredOf}
 use Rattle.capi_egress_state.specs.Row.{isState, rowSize, stateAt}
 use Rattle.capi_answer.specs.Rows.{answerSize, refusedReply}
 use Rattle.capi_egress.specs.Calls.{Given, offeredAt, rowsFit}
-use Rattle.capi_egress.proofs.CallLaws.{at-short, at-state, at-unsound, offered-at, rows-long}
+use Rattle.capi_egress.proofs.CallLaws.{at-short, at-state, at-unsound}
+use Rattle.capi_egress.proofs.CallLaws.{copied-changed, offered-at, rows-long}
 use Rattle.capi_egress.proofs.jibhotran_outlet_offer.Statement.{statement}
 use Rattle.capi_egress.proofs.jibhotran_outlet_offer.Tie as tie
 
@@ -61,8 +64,18 @@ state-in-requires c κs = (long (c .before .before .before .before) .0, is (c .b
 refuse-requires-2 : tie.Need-refuse-requires-2
 refuse-requires-2 c κs = long (c .before .before .before .before .before .before .before .before .before .before .before .before .before .before) .1
 
-put-state-requires : tie.Need-put-state-requires
-put-state-requires c κs = long (c .before .before .before .before .before .before .before .before .before .before .before .before .before) .0
+put-channel-requires : tie.Need-put-channel-requires
+put-channel-requires c κs = let called = c .before .before .before .before .before .before in
+    let taken-out = called .before .before in
+    let passed = taken-out .before .before .before .before .before in
+    let a = passed .before .before .before .before .before .before .args in
+    let size = length (a .packet .now) in
+    let room = length (a .memory .now) in
+    let e = called .offer .ensures .0
+    ∙ ap (λ (s : State). offeredOf s (offerOf s (a .channel) size room)) (taken-out .state-in .ensures) in
+    let told = c .before .enum-told .given .1 in
+    let row = a .state .now in
+    copied-changed row (long passed .0) (a .channel) (a .packet .now) (a .memory .now) _ e told
 
 returns-3 : tie.Need-returns-3
 returns-3 c =
@@ -85,7 +98,7 @@ returns-4 c =
     ∙ at-state (a .state .now) (a .answer .now) (a .memory .now) (offeredAt (stateAt (a .state .now)) (a .channel) (a .packet .now) (a .memory .now)) (fits (c .before .before .before .before .before .before .before .before .before .before .before .before .before .before .before .before)) (is (c .before .before .before .before .before .before .before .before .before .before .before .before .before)) in (
       ap (λ (z : Given). z .reply .number) g,
       (
-        c .before .before .put-state .ensures ∙ ap (λ (z : Given). overwrite (z .numbers) (a .state .now)) g,
+        c .before .before .put-channel .ensures ∙ ap (λ (z : Given). overwrite (z .numbers) (a .state .now)) g,
         (ap (λ (z : Given). z .lent) g, ap (λ (z : Given). overwrite (z .reply .row) (a .answer .now)) g),
       ),
     )
@@ -93,6 +106,7 @@ returns-4 c =
 pub jibhotran-outlet-offer-spec : {M : Type 1} → statement M
 jibhotran-outlet-offer-spec =
     tie.close
-    (tie.spec (λ c κs. search needs) returns is-state-requires (λ c κs. search needs) refuse-requires (λ c. search needs) (λ c. search needs) returns-2 state-in-requires (λ c κs. search needs)
-    (λ c. search needs) refuse-requires-2 (λ c. search needs) put-state-requires (λ c. search needs) (λ c. search needs) (λ c. search needs) returns-3 (λ c. search needs)
-    (λ c. search needs) returns-4)
+    (tie.spec (λ c κs. search needs) returns is-state-requires (λ c κs. search needs) refuse-requires
+    (λ c. search needs) (λ c. search needs) returns-2 state-in-requires (λ c κs. search needs)
+    (λ c. search needs) refuse-requires-2 (λ c. search needs) put-channel-requires (λ c. search needs)
+    (λ c. search needs) (λ c. search needs) returns-3 (λ c. search needs) (λ c. search needs) returns-4)

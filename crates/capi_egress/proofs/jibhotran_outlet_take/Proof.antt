@@ -8,10 +8,13 @@ use borrow.Author.Tests.{not-true, not-false}
 use lib.ListN.{length}
 use Rattle.wire_spec.specs.declared.refusal.Refusal.{Refusal}
 use Rattle.wire_spec.specs.Bits.{overwrite}
+use Rattle.egress_spec.specs.declared.state.State.{State}
+use Rattle.egress_spec.specs.Step.{takeOf, takenOf}
 use Rattle.capi_egress_state.specs.Row.{isState, rowSize, stateAt}
 use Rattle.capi_answer.specs.Rows.{answerSize, refusedReply}
 use Rattle.capi_egress.specs.Calls.{Given, takenAt, rowsFit}
-use Rattle.capi_egress.proofs.CallLaws.{at-short, at-state, at-unsound, taken-at, rows-long}
+use Rattle.capi_egress.proofs.CallLaws.{at-short, at-state, at-unsound}
+use Rattle.capi_egress.proofs.CallLaws.{handed-changed, rows-long, taken-at}
 use Rattle.capi_egress.proofs.jibhotran_outlet_take.Statement.{statement}
 use Rattle.capi_egress.proofs.jibhotran_outlet_take.Tie as tie
 
@@ -61,8 +64,17 @@ state-in-requires c κs = (long (c .before .before .before .before) .0, is (c .b
 refuse-requires-2 : tie.Need-refuse-requires-2
 refuse-requires-2 c κs = long (c .before .before .before .before .before .before .before .before .before .before .before .before .before .before) .1
 
-put-state-requires : tie.Need-put-state-requires
-put-state-requires c κs = long (c .before .before .before .before .before .before .before .before .before .before .before .before .before .before) .0
+put-channel-requires : tie.Need-put-channel-requires
+put-channel-requires c κs = let called = c .before .before .before .before .before .before .before in
+    let taken-out = called .before .before in
+    let passed = taken-out .before .before .before .before .before in
+    let a = passed .before .before .before .before .before .before .args in
+    let held = length (a .memory .now) in
+    let room = length (a .out .now) in
+    let e = called .take .ensures .0
+    ∙ ap (λ (s : State). takenOf s (takeOf s held room)) (taken-out .state-in .ensures) in
+    let told = c .before .before .outcome2 .given .1 in
+    handed-changed (a .state .now) (long passed .0) (a .memory .now) (a .out .now) _ e _ _ told
 
 accept-taken-requires : tie.Need-accept-taken-requires
 accept-taken-requires c κs = long (c .before .before .before .before .before .before .before .before .before .before .before .before .before .before .before .before .before .before) .1
@@ -88,7 +100,7 @@ returns-4 c =
     ∙ at-state (a .state .now) (a .answer .now) (a .out .now) (takenAt (stateAt (a .state .now)) (a .memory .now) (a .out .now)) (fits (c .before .before .before .before .before .before .before .before .before .before .before .before .before .before .before .before .before .before .before .before .before)) (is (c .before .before .before .before .before .before .before .before .before .before .before .before .before .before .before .before .before .before)) in (
       c .before .before .accept-taken .ensures .0 ∙ ap (λ (z : Given). z .reply .number) g,
       (
-        c .before .before .before .before .before .before .put-state .ensures ∙ ap (λ (z : Given). overwrite (z .numbers) (a .state .now)) g,
+        c .before .before .before .before .before .before .put-channel .ensures ∙ ap (λ (z : Given). overwrite (z .numbers) (a .state .now)) g,
         (ap (λ (z : Given). z .lent) g, c .before .before .accept-taken .ensures .1 ∙ ap (λ (z : Given). overwrite (z .reply .row) (a .answer .now)) g),
       ),
     )
@@ -96,6 +108,8 @@ returns-4 c =
 pub jibhotran-outlet-take-spec : {M : Type 1} → statement M
 jibhotran-outlet-take-spec =
     tie.close
-    (tie.spec (λ c κs. search needs) returns is-state-requires (λ c κs. search needs) refuse-requires (λ c. search needs) (λ c. search needs) returns-2 state-in-requires (λ c κs. search needs)
-    (λ c. search needs) refuse-requires-2 (λ c. search needs) put-state-requires accept-taken-requires (λ c. search needs) (λ c. search needs) (λ c. search needs) returns-3
+    (tie.spec (λ c κs. search needs) returns is-state-requires (λ c κs. search needs) refuse-requires
+    (λ c. search needs) (λ c. search needs) returns-2 state-in-requires (λ c κs. search needs)
+    (λ c. search needs) refuse-requires-2 (λ c. search needs) (λ c. search needs) put-channel-requires
+    accept-taken-requires (λ c. search needs) (λ c. search needs) (λ c. search needs) returns-3
     (λ c. search needs) (λ c. search needs) (λ c. search needs) returns-4)
