@@ -2,20 +2,22 @@
 use mathlib.Core.Path.{_≡_, refl, sym, _∙_, ap}
 use mathlib.Core.Bool.{Bool, true, false, true≢false, cond, not, _&&_, _||_, and-false}
 use mathlib.Core.List.{List, [], _∷_}
-use Prim.Native.Nat.{ℕ, zero, suc, _+_, _/_, _≤_, _<_}
+use Prim.Native.Nat.{ℕ, zero, suc, _+_, _*_, _/_, _≤_, _<_}
 use native.Mathlib.Omega.{arith}
 use native.Mathlib.Numerals.{add-one}
 use lib.Dec.{eqb, leb, ltb}
-use lib.ListN.{length, getD, set, replicate}
+use lib.ListN.{length, length-set, getD, set, replicate}
 use lib.Seq.{getD-set-same, getD-set-other}
 use borrow.Author.Tests.{eqb-true, eqb-false, eq-eqb, ne-eqb, ltb-true}
 use Rattle.egress_spec.specs.declared.state.State.{State}
 use Rattle.egress_state.specs.declared.survey.Seen.{Seen}
 use Rattle.egress_state.specs.Survey.{SeenOf}
 use Rattle.egress_spec.specs.Step.{admits}
-use Rattle.egress_spec.specs.Places.{held, slotAt, lengthFits, usedBelow, placeOk, allUpto, channelFits, channelOk, numbersOk, sound}
+use Rattle.egress_spec.specs.Places.{heldAt, held, slotAt, lengthFits, usedBelow}
+use Rattle.egress_spec.specs.Places.{placeOk, allUpto, numbersOk, sound}
 use mir.Val.{Fits}
 use mir.Syntax.{w64}
+use Rattle.egress_spec.proofs.PlaceLaws.{slot-fits}
 use Rattle.egress_spec.proofs.Upto.{and-left, and-right, upto-at, upto-fails, upto-more}
 
 -- the slots that are used at the places below `k`
@@ -30,6 +32,13 @@ none (suc n) (suc s) = none n s
 pub no-marks : (st : State) → Marks st 0 (replicate 64 false)
 unfolding usedBelow
 no-marks st s h = none 64 s
+
+-- whether a channel holds a packet at its place `i`
+pub held-of : (st : State) (c i : ℕ) → i < 8
+    → heldAt (8 * c + i) (getD (st .heads) c 0) (getD (st .counts) c 0) ≡ held st (8 * c + i)
+held-of st c i h =
+    let e : (8 * c + i) / 8 ≡ c = omega arith in
+    sym (ap (λ (d : ℕ). heldAt (8 * c + i) (getD (st .heads) d 0) (getD (st .counts) d 0)) e)
 
 pub unfit : (st : State) (k : ℕ) → held st k ≡ true → lengthFits (getD (st .lengths) k 0) ≡ false → placeOk st k ≡ false
 unfit st k h e = rw (h, e)
@@ -70,9 +79,47 @@ refuses-numbers st n used e = refuses-state st n used (rw e)
 pub refuses-place : (st : State) (n : ℕ) (used : List Bool) (k : ℕ) → k < 64 → placeOk st k ≡ false → SeenOf st n (record { sound = false; used = used })
 refuses-place st n used k h e = refuses-state st n used (rw (upto-fails (placeOk st) 64 k e h) (and-false (numbersOk st)))
 
-pub passes : (st : State) (n : ℕ) (used : List Bool) (k : ℕ) → n ≡ 65536 → k ≡ 64 → numbersOk st ≡ true → allUpto (placeOk st) k ≡ true → Marks st k used
-    → SeenOf st n (record { sound = true; used = used })
-passes st n used k z e i p m = record { sound = rw (eq-eqb n 65536 z, i, rw e at p); used = λ z. rw e at m }
-
 pub fits-below : {s : ℕ} → s < 64 → Fits w64 s
 fits-below h = record { fits = omega arith }
+
+-- What a survey has found of the places below `k`.
+pub record Passed (st : State) (memory k : ℕ) (used : List Bool) : Type 0 where
+  pub size : memory ≡ 65536
+  pub long : length used ≡ 64
+  pub numbers : numbersOk st ≡ true
+  pub places : allUpto (placeOk st) k ≡ true
+  pub marks : Marks st k used
+
+module _ (st : State) (memory k : ℕ) (used : List Bool) (p : Passed st memory k used) where
+  pub passed-free : held st k ≡ false → Passed st memory (k + 1) used
+  passed-free h =
+      record {
+        size = p .size;
+        long = p .long;
+        numbers = p .numbers;
+        places = upto-more (placeOk st) k (p .places) (free st k h);
+        marks = marks-free st k used h (p .marks);
+      }
+
+  -- the slot's mark, before it is set
+  pub mark-at : k < 64 → getD used (slotAt st k) false ≡ usedBelow st k (slotAt st k)
+  mark-at l = p .marks (slotAt st k) (slot-fits st k (p .numbers) l)
+
+  pub passed-held : k < 64 → held st k ≡ true → Fit st k → getD used (slotAt st k) false ≡ false
+      → Passed st memory (k + 1) (set used (slotAt st k) true)
+  passed-held l h e u =
+      record {
+        size = p .size;
+        long = length-set used (slotAt st k) true ∙ p .long;
+        numbers = p .numbers;
+        places = upto-more (placeOk st) k (p .places) (fit st k h e (sym (mark-at l) ∙ u));
+        marks = marks-held st k used (p .long) h (p .marks);
+      }
+
+pub passes : (st : State) (memory k : ℕ) (used : List Bool) → k ≡ 64 → Passed st memory k used
+    → SeenOf st memory (record { sound = true; used = used })
+passes st memory k used e p =
+    record {
+      sound = rw (eq-eqb memory 65536 (p .size), p .numbers, rw e at (p .places));
+      used = λ z. rw e at (p .marks);
+    }

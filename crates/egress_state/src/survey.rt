@@ -90,19 +90,26 @@ pub fn survey(state: State, memory: usize) -> Seen
     if !numbers_fit(state) {
         return Seen { sound: false, used };
     }
-    let mut k: usize = 0;
-    while k < SLOTS {
-        if is_held(k, state.heads[k / HELD], state.counts[k / HELD]) {
-            if !length_fits(state.lengths[k]) {
-                return Seen { sound: false, used };
+    let mut c: usize = 0;
+    while c < CHANNELS {
+        let head = state.heads[c];
+        let count = state.counts[c];
+        let mut i: usize = 0;
+        while i < HELD {
+            let k = HELD * c + i;
+            if is_held(k, head, count) {
+                if !length_fits(state.lengths[k]) {
+                    return Seen { sound: false, used };
+                }
+                let slot = state.slots[k] as usize;
+                if used[slot] {
+                    return Seen { sound: false, used };
+                }
+                used[slot] = true;
             }
-            let slot = state.slots[k] as usize;
-            if used[slot] {
-                return Seen { sound: false, used };
-            }
-            used[slot] = true;
+            i += 1;
         }
-        k += 1;
+        c += 1;
     }
     Seen { sound: true, used }
 }
