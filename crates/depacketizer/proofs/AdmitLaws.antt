@@ -1,60 +1,88 @@
--- What lets an arrival pass, and where its packet stands, from what was found of it.
+-- What lets an arrival pass, and where its packet is in the sequence, from what was found of it.
 -- By cases on the tests, in their order.
 use mathlib.Core.Path.{_≡_, refl, ap, sym, subst, _∙_}
 use mathlib.Core.Bool.{Bool, true, false, true≢false, cond}
 use mathlib.Core.List.{List, [], _∷_}
 use Prim.Native.Nat.{ℕ}
+use native.Mathlib.Omega.{arith}
+use lib.Dec.{eqb}
 use Rattle.wire_spec.specs.declared.refusal.Refusal.{Refusal}
 use Rattle.wire_spec.specs.Layout.{Layout}
-use Rattle.wire_spec.specs.Result.{Result, refused, accepted, refuse, Checks, judge}
+use Rattle.wire_spec.specs.Result.{Result, refused, accepted, Checks, judge, _then_}
 use Rattle.wire_spec.specs.Packet.{Content, readContent}
+use Rattle.rtp_strict_reader.specs.Answers.{checkedOf, readOf}
+use Rattle.rtp_strict_reader.specs.declared.packet.Checked.the-variants as checked
+use Rattle.rtp_strict_reader.specs.declared.packet.Outline.{Outline}
+use Rattle.rtp_strict_reader.specs.declared.packet.Read.the-variants as read
+use Rattle.rtp_strict_reader.specs.declared.packet.Summary.{Summary}
 use Rattle.depacketizer.specs.declared.admit.Stage.{Stage}
 use Rattle.depacketizer.specs.declared.admit.Stage.the-variants as stage
+use Rattle.depacketizer.specs.declared.inspect.Inspected.{Inspected}
+use Rattle.depacketizer.specs.declared.inspect.Inspected.the-variants as inspected
 use Rattle.depacketizer_spec.specs.declared.state.State.{State}
 use Rattle.depacketizer_sequence.specs.declared.place.Freshness.{Freshness}
 use Rattle.depacketizer_sequence.specs.declared.place.Freshness.the-variants as freshness
 use Rattle.depacketizer_sequence.specs.Answers.{farOf, placeOf, freshnessOf}
-use Rattle.depacketizer_spec.specs.Step.{Class, late, next, far, ahead, classify, distance, lost, gathered, sound, openedChecks, admission, admit, openState, isRemembered, packetStep, classStep, farOrRestart, freshStep, Step}
-use Rattle.depacketizer.specs.Answers.{stageOf, arrivalOf, refusedOf}
-
--- what follows a stage: a refusal goes straight out
-abbrev passing : {A : Type 0} → Stage → (refuse : Refusal → A) → A → A
-passing stage.Passed refuse r = r
-passing (stage.Refused x) refuse r = refuse x
-
--- checks give their stage, then what follows it
-judge-stage : {A : Type 0} (ts : Checks) (r : Result A) → judge 0 ts r ≡ passing (stageOf ts) refused r
-judge-stage [] r = refl
-judge-stage (t ∷ ts) r = go (t .0) (judge-stage ts r)
-  where
-    go : (b : Bool) → judge 0 ts r ≡ passing (stageOf ts) refused r
-        → cond b (judge 0 ts r) (refuse (t .1) 0) ≡ passing (cond b (stageOf ts) (stage.Refused (record { number = t .1; index = 0 }))) refused r
-    go true h = h
-    go false h = refl
+use Rattle.depacketizer_spec.specs.Step.{Class, late, next, far, ahead, classify, distance, lost, gathered}
+use Rattle.depacketizer_spec.specs.Step.{sound, openedChecks, admission, openState, isRemembered, packetStep}
+use Rattle.depacketizer_spec.specs.Step.{classStep, farOrRestart, freshStep, Step}
+use Rattle.depacketizer.specs.Answers.{admitted, arrivalOf, fromOpened, inspectedOf, passing, refusedOf}
+use Rattle.depacketizer.specs.Answers.{stageOf}
 
 -- one check, then the others
 pub stage-first : (b : Bool) (n : ℕ) (ts : Checks) → stageOf ((b, n) ∷ ts) ≡ passing (stageOf ((b, n) ∷ [])) stage.Refused (stageOf ts)
 stage-first true n ts = refl
 stage-first false n ts = refl
 
--- what is admitted or refused, stage by stage
+-- what is admitted, stage by stage
+module _ (st : State) (room : ℕ) (i : Inspected) where
+  pub first-stage : (y : Stage) → stageOf ((sound st room, 35) ∷ []) ≡ y
+      → admitted st room i ≡ passing y inspected.Refused (fromOpened st i)
+  first-stage y e = ap (λ (z : Stage). passing z inspected.Refused (fromOpened st i)) e
+
+  pub second-stage : (o : Outline) (m : Summary) (y : Stage) → i ≡ inspected.Packet o m
+      → stageOf (openedChecks (st .source) (st .«payload_type») (m .head .source) (m .head .«payload_type»)) ≡ y
+      → fromOpened st i ≡ passing y inspected.Refused (inspected.Packet o m)
+  second-stage o m y h e =
+      ap (fromOpened st) h ∙ ap (λ (z : Stage). passing z inspected.Refused (inspected.Packet o m)) e
+
+-- what is admitted of octets that were inspected: what passes 35, 1 to 13, 30 and 31
 module _ (st : State) (L : Layout) (room : ℕ) (s : List ℕ) where
-  module _ (y : Stage) (e : stageOf ((sound st room, 35) ∷ []) ≡ y) where
-    pub told : admission st L room s ≡ passing y refused (admit L (st .source) (st .«payload_type») s)
-    told =
-        judge-stage ((sound st room, 35) ∷ []) (admit L (st .source) (st .«payload_type») s)
-        ∙ ap (λ (z : Stage). passing z refused (admit L (st .source) (st .«payload_type») s)) e
+  abbrev checks : Content → Checks
+  checks k = openedChecks (st .source) (st .«payload_type») (k .source) (k .type)
 
-  module _ (e : stageOf ((sound st room, 35) ∷ []) ≡ stage.Passed) where
-    pub unread : (x : Refusal) → readContent L s ≡ refused x → admission st L room s ≡ refused x
-    unread x r = told stage.Passed e ∙ rw r
+  abbrev Admits : (sound : Bool) → Result Content → Type 0
+  Admits b r =
+      passing (stageOf ((b, 35) ∷ [])) inspected.Refused (fromOpened st (inspectedOf L s r))
+      ≡ inspectedOf L s (judge 0 ((b, 35) ∷ []) (r then λ k. judge 0 (checks k) (accepted k)))
 
-    pub read : (k : Content) (y : Stage) → readContent L s ≡ accepted k → stageOf (openedChecks (st .source) (st .«payload_type») (k .source) (k .type)) ≡ y
-        → admission st L room s ≡ passing y refused (accepted k)
-    read k y r a =
-        told stage.Passed e
-        ∙ rw r
-        (judge-stage (openedChecks (st .source) (st .«payload_type») (k .source) (k .type)) (accepted k) ∙ ap (λ (z : Stage). passing z refused (accepted k)) a)
+  pub admits : admitted st room (inspectedOf L s (readContent L s)) ≡ inspectedOf L s (admission st L room s)
+  admits = go (sound st room) (readContent L s)
+    where
+      typed : (k : Content) (a b : Bool) →
+          passing (stageOf ((a, 30) ∷ (b, 31) ∷ [])) inspected.Refused (inspectedOf L s (accepted k))
+          ≡ inspectedOf L s (judge 0 ((a, 30) ∷ (b, 31) ∷ []) (accepted k))
+      typed k false b = refl
+      typed k true false = refl
+      typed k true true = refl
+
+      go : (b : Bool) (r : Result Content) → Admits b r
+      go false r = refl
+      go true (refused x) = refl
+      go true (accepted k) = typed k (eqb (k .source) (st .source)) (eqb (k .type) (st .«payload_type»))
+
+-- what was inspected is what was checked, and what was read
+module _ (L : Layout) (s : List ℕ) where
+  pub inspected-refused : (r : Result Content) (x : Refusal) → inspectedOf L s r ≡ inspected.Refused x
+      → r ≡ refused x
+  inspected-refused (refused y) x h = let e : y ≡ x = cc in ap refused e
+  inspected-refused (accepted k) x h = let z : _≡_ {A = ℕ} 0 1 = cc in absurd (omega arith)
+
+  pub inspected-packet : (r : Result Content) (o : Outline) (m : Summary)
+      → inspectedOf L s r ≡ inspected.Packet o m
+      → (checkedOf L s r ≡ checked.Packet o) × (readOf r ≡ read.Packet m)
+  inspected-packet (refused y) o m h = let z : _≡_ {A = ℕ} 0 1 = cc in absurd (omega arith)
+  inspected-packet (accepted k) o m h = (cc, cc)
 
 -- a packet that is fresh
 abbrev pub isFresh : Freshness → Bool

@@ -11,26 +11,25 @@ use Rattle.wire_spec.specs.Result.{accepted}
 use Rattle.wire_spec.specs.Cells.{listIn, listOf}
 use Rattle.wire_spec.specs.Packet.{Content}
 use Rattle.wire_spec.specs.Layout.{Layout}
-use Rattle.rtp_strict_reader.specs.Answers.{checkedOf}
-use Rattle.rtp_strict_reader.specs.declared.packet.Checked.{Checked}
-use Rattle.rtp_strict_reader.specs.declared.packet.Checked.the-variants as checked
-use Rattle.rtp_strict_reader.proofs.ReadLaws.{refused-is}
 use Rattle.depacketizer_spec.specs.declared.state.State.{State}
 use Rattle.depacketizer.specs.declared.decide.Decision.{Decision}
+use Rattle.depacketizer.specs.declared.inspect.Inspected.the-variants as inspected
 use Rattle.depacketizer_sequence.specs.declared.place.Freshness.the-variants as freshness
 use Rattle.depacketizer_spec.specs.Step.{Gathered, lost, gathered, gatheredCells, gatheredPackets, Gather, carried, follow, appended, sound, packetStep, admission, step}
 use Rattle.depacketizer_sequence.specs.Answers.{freshnessOf}
-use Rattle.depacketizer.specs.Answers.{decisionOf, afterOf}
+use Rattle.depacketizer.specs.Answers.{decisionOf, afterOf, inspectedOf}
 use Rattle.depacketizer_spec.proofs.FitLaws.{follow-room}
 use Rattle.depacketizer_spec.proofs.RestartLaws.{open-sound}
 use Rattle.depacketizer_spec.proofs.StepLaws.{unchanged, passed, step-refused, step-admitted}
-use Rattle.depacketizer.proofs.AdmitLaws.{Starts, packet-fresh}
+use Rattle.depacketizer.proofs.AdmitLaws.{Starts, inspected-refused, packet-fresh}
 use Rattle.depacketizer.proofs.DecideLaws.{Sound, sound-is, appended-at}
 
 -- the step of an arrival that the check before it refused
-pub refused-step : (st : State) (L : Layout) (s store : List ℕ) (x : Refusal) (r : Checked) → r ≡ checkedOf L s (admission st L (length store) s) → r ≡ checked.Refused x
+pub refused-step : (st : State) (L : Layout) (s store : List ℕ) (x : Refusal)
+    → inspectedOf L s (admission st L (length store) s) ≡ inspected.Refused x
     → step st L s store ≡ unchanged st store x
-refused-step st L s store x r a t = step-refused st L s store x (refused-is L s (admission st L (length store) s) x (sym a ∙ t))
+refused-step st L s store x h =
+    step-refused st L s store x (inspected-refused L s (admission st L (length store) s) x h)
 
 module _ (st : State) (L : Layout) (s store : List ℕ) (k : Content) (h : admission st L (length store) s ≡ accepted k) (m : ℕ) (n : Bool) (from : State)
     (p : freshnessOf (st .heard) st (k .number) ≡ freshness.Fresh m n from) where

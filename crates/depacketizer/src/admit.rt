@@ -1,17 +1,13 @@
 // What lets an arrival pass (01: "An arrival passes 35, then 1 to 13, then 30, 31, 32").
 ghost use mathlib.Core.Path.{_≡_};
 ghost use mathlib.Core.List.{[], _∷_};
-ghost use Rattle.rtp_strict_reader.specs.Answers.{checkedOf};
-ghost use Rattle.depacketizer.specs.Answers.{stageOf, stageRefusal};
+ghost use Rattle.depacketizer.specs.Answers.{admitted, stageOf, stageRefusal};
 ghost use Rattle.depacketizer_spec.specs.Step as step;
 use crate::decide::fits;
+use crate::inspect::Inspected;
 use depacketizer_spec::state::Phase;
 use depacketizer_spec::state::State;
-use rtp_strict_reader::check::check;
-use rtp_strict_reader::check::summary_at;
-use rtp_strict_reader::packet::Checked;
 use rtp_strict_reader::packet::Head;
-use wire_spec::layout::Layout;
 use wire_spec::refusal::Refusal;
 
 // 35: more than a field or the store can have, something gathered where not filling, no packet where filling, or more than lost before a first arrival.
@@ -73,21 +69,19 @@ fn check_opened(source: u32, payload_type: u8, head: Head) -> Stage
 }
 
 // 35, then 1 to 13, 15 and 16, then 30, 31.
-pub(crate) fn admit(state: State, room: usize, layout: Layout, octets: &[u8]) -> Checked
-    ensures { λ r. ⌜ r ≡ checkedOf layout (now (octets .entry)) (step.admission state layout room (now (octets .entry))) ⌝ }
+pub(crate) fn admit(state: State, room: usize, inspected: Inspected) -> Inspected
+    ensures { λ r. ⌜ r ≡ admitted state room inspected ⌝ }
 {
     let stage = require(is_sound(state, room), Refusal::STATE_UNSOUND);
     let Stage::Passed = stage else {
-        return Checked::Refused(stage.refusal());
+        return Inspected::Refused(stage.refusal());
     };
-    let checked = check(layout, octets);
-    let Checked::Packet(outline) = checked else {
-        return checked;
+    let Inspected::Packet { outline, summary } = inspected else {
+        return inspected;
     };
-    let summary = summary_at(layout, octets, outline);
     let stage = check_opened(state.source, state.payload_type, summary.head);
     let Stage::Passed = stage else {
-        return Checked::Refused(stage.refusal());
+        return Inspected::Refused(stage.refusal());
     };
-    Checked::Packet(outline)
+    inspected
 }

@@ -1,19 +1,20 @@
 // The depacketizer: how it is opened, and what an arrival does (01's keeper).
 ghost use mathlib.Core.Path.{_≡_};
+ghost use Rattle.wire_spec.specs.Packet.{readContent};
 ghost use Rattle.depacketizer_spec.specs.Step as step;
-ghost use Rattle.depacketizer.specs.Answers.{afterOf, arrivalOf, openedOf, refusedOf};
+ghost use Rattle.depacketizer.specs.Answers.{afterOf, arrivalOf, inspectedOf, openedOf, refusedOf};
 use crate::admit::admit;
 use crate::count::increased;
 use crate::decide::Decision;
 use crate::decide::decide;
+use crate::inspect::Inspected;
+use crate::inspect::inspect;
 use depacketizer_sequence::place::Freshness;
 use depacketizer_sequence::place::opened;
 use depacketizer_sequence::place::place;
 use depacketizer_spec::state::Answer;
 use depacketizer_spec::state::State;
 use rtp_strict_reader::check::read_records;
-use rtp_strict_reader::check::summary_at;
-use rtp_strict_reader::packet::Checked;
 use wire_spec::layout::Layout;
 use wire_spec::limit::MAX_TYPE;
 use wire_spec::number::PacketNumber;
@@ -139,15 +140,30 @@ impl Depacketizer {
         ensures { λ r. ⌜ r ≡ arrivalOf (step.step (self .state) layout (now (octets .entry)) (now (store .entry))) ⌝ }
         ensures { λ r. ⌜ now (store .exit) ≡ step.step (self .state) layout (now (octets .entry)) (now (store .entry)) .store ⌝ }
     {
+        let inspected = inspect(layout, octets);
+        self.arrive_checked(layout, octets, inspected, store)
+    }
+
+    // The same for a packet that the caller has inspected.
+    pub fn arrive_checked(
+        self,
+        layout: Layout,
+        octets: &[u8],
+        inspected: Inspected,
+        store: &mut [u16],
+    ) -> Arrival
+        requires { ⌜ inspected ≡ inspectedOf layout (now octets) (readContent layout (now octets)) ⌝ }
+        ensures { λ r. ⌜ r ≡ arrivalOf (step.step (self .state) layout (now (octets .entry)) (now (store .entry))) ⌝ }
+        ensures { λ r. ⌜ now (store .exit) ≡ step.step (self .state) layout (now (octets .entry)) (now (store .entry)) .store ⌝ }
+    {
         let state = self.state;
-        let admitted = admit(state, store.len(), layout, octets);
-        let Checked::Packet(outline) = admitted else {
+        let admitted = admit(state, store.len(), inspected);
+        let Inspected::Packet { outline, summary } = admitted else {
             return Arrival {
                 state: self,
                 answer: Answer::Refused(admitted.refusal()),
             };
         };
-        let summary = summary_at(layout, octets, outline);
         let head = summary.head;
         let freshness = place(state, head.number);
         let Freshness::Fresh {

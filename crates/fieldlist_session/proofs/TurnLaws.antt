@@ -11,6 +11,8 @@ use Rattle.wire_spec.specs.declared.refusal.Refusal.{Refusal}
 use Rattle.wire_spec.specs.Layout.{Layout}
 use Rattle.wire_spec.specs.Result.{Result, refused, accepted}
 use Rattle.wire_spec.specs.Packet.{Content, readContent}
+use Rattle.depacketizer.specs.Answers.{inspectedOf}
+use Rattle.depacketizer.specs.declared.inspect.Inspected.{Inspected}
 use Rattle.depacketizer.specs.declared.state.Depacketizer.{Depacketizer}
 use Rattle.depacketizer.specs.declared.state.Opened.{Opened}
 use Rattle.depacketizer.specs.declared.state.Opened.the-variants as opened
@@ -20,7 +22,29 @@ use Rattle.fieldlist_lines.specs.Room.{lineRoom}
 use Rattle.fieldlist_records.specs.Records.{cellRoom}
 use Rattle.fieldlist_session.specs.declared.session.Session.{Session}
 use Rattle.fieldlist_session.specs.declared.session.Session.the-variants as session
+use Rattle.fieldlist_session.specs.Answers.{enteredBy, numberIn}
 use Rattle.fieldlist_session.specs.Session.{numberOf, entered, layoutIn, turn, turnBy, arrived}
+
+-- what was inspected in the session's layout: its number, and the depacketizer that it arrives at
+module _ (v : Session) (octets : List ℕ) (L : Layout) (i : Inspected)
+    (said : L ≡ layoutIn v) (is : i ≡ inspectedOf L octets (readContent L octets)) where
+  numbers : (r : Result Content) → numberIn (inspectedOf L octets r) ≡ numberOf r
+  numbers (refused x) = refl
+  numbers (accepted k) = refl
+
+  enters : (w : Session) (r : Result Content) → enteredBy w (inspectedOf L octets r) ≡ entered w r
+  enters (session.Waiting M) (refused x) = refl
+  enters (session.Waiting M) (accepted k) = refl
+  enters (session.Open M d) r = refl
+
+  pub number-found : numberIn i ≡ numberOf (readContent (layoutIn v) octets)
+  number-found =
+      ap numberIn is ∙ numbers (readContent L octets) ∙ ap (λ (M : Layout). numberOf (readContent M octets)) said
+
+  pub entry-found : enteredBy v i ≡ entered v (readContent (layoutIn v) octets)
+  entry-found =
+      ap (enteredBy v) is ∙ enters v (readContent L octets)
+      ∙ ap (λ (M : Layout). entered v (readContent M octets)) said
 
 module _ (v : Session) (octets store : List ℕ) (o : Opened) (entry : o ≡ entered v (readContent (layoutIn v) octets)) where
   abbrev content : Result Content

@@ -6,15 +6,35 @@ use lib.ListN.{length}
 use Rattle.wire_spec.specs.declared.refusal.Refusal.{Refusal}
 use Rattle.wire_spec.specs.Bits.{overwrite}
 use Rattle.wire_spec.specs.Result.{noRefusal}
+use Rattle.depacketizer_spec.specs.Step.{openOf}
+use Rattle.depacketizer.specs.Answers.{openedOf}
+use Rattle.depacketizer.specs.declared.inspect.Inspected.{Inspected}
+use Rattle.depacketizer.specs.declared.inspect.Inspected.the-variants as inspected
 use Rattle.depacketizer.specs.declared.state.Opened.{Opened}
 use Rattle.depacketizer.specs.declared.state.Opened.the-variants as opened
 use Rattle.fieldlist_session.specs.declared.session.Session.{Session}
+use Rattle.fieldlist_session.specs.declared.session.Session.the-variants as session
 use Rattle.fieldlist_session.specs.declared.session.Text.{Text}
 use Rattle.fieldlist_session.specs.declared.session.Text.the-variants as text
 use Rattle.fieldlist_lines.specs.Room.{roomy}
 use Rattle.program_spec.specs.Frames.{FrameProgram}
 use Rattle.program_spec.specs.Run.{roomTooSmall}
 use Rattle.fieldlist_session.specs.Session.{endText, title, turn}
+
+-- the number of a packet that was inspected, for its line
+abbrev pub numberIn : Inspected → ℕ
+numberIn (inspected.Refused x) = 0
+numberIn (inspected.Packet o m) = m .head .number .0
+
+-- the depacketizer that it opens
+abbrev pub openingBy : Inspected → Opened
+openingBy (inspected.Refused x) = opened.Refused x
+openingBy (inspected.Packet o m) = openedOf (openOf (m .head .source) (m .head .«payload_type»))
+
+-- the depacketizer that it arrives at
+abbrev pub enteredBy : Session → Inspected → Opened
+enteredBy (session.Waiting L) i = openingBy i
+enteredBy (session.Open L d) i = opened.Open d
 
 -- why none was opened
 abbrev pub openedRefusal : Opened → Refusal

@@ -4,10 +4,9 @@ ghost use mathlib.Core.Bool.{not};
 ghost use mathlib.Core.Path.{_≡_};
 ghost use lib.Dec.{leb};
 ghost use lib.ListN.{length};
-ghost use Rattle.wire_spec.specs.Packet.{readContent};
-ghost use Rattle.rtp_strict_reader.specs.Answers.{checkedOf};
 ghost use Rattle.text.specs.Put.{Put};
-ghost use Rattle.fieldlist_session.specs.Answers.{TextFits, fieldlist, openedRefusal, textAfter, textOf};
+ghost use Rattle.fieldlist_session.specs.Answers.{TextFits, fieldlist, textAfter, textOf};
+ghost use Rattle.fieldlist_session.specs.Answers.{enteredBy, numberIn, openedRefusal, openingBy};
 ghost use Rattle.program_spec.specs.Frames.{overFrames};
 ghost use Rattle.program_spec.specs.Run.{Answers};
 ghost use Rattle.rtp_frames.specs.Answers.{isCut};
@@ -15,6 +14,8 @@ ghost use Rattle.rtp_frames.specs.Frames.{front, isBroken, maxFrame};
 ghost use Rattle.fieldlist_lines.specs.Room.{countsRoom, lineRoom, roomy};
 ghost use Rattle.fieldlist_records.specs.Records.{cellRoom};
 ghost use Rattle.fieldlist_session.specs.Session as listing;
+use depacketizer::inspect::Inspected;
+use depacketizer::inspect::inspect;
 use depacketizer::state::Depacketizer;
 use depacketizer::state::Opened;
 use fieldlist_lines::put_answer;
@@ -24,9 +25,6 @@ use program_spec::buffers::Step;
 use rtp_frames::Front;
 use rtp_frames::LENGTH_SIZE;
 use rtp_frames::frame_at;
-use rtp_strict_reader::check::check;
-use rtp_strict_reader::check::summary_at;
-use rtp_strict_reader::packet::Checked;
 use text::put;
 use wire_spec::layout::Layout;
 use wire_spec::limit::MAX_FIELD_CELLS;
@@ -63,33 +61,29 @@ pub struct Reply {
     pub length: usize,
 }
 
-fn number_of(layout: Layout, octets: &[u8], checked: Checked) -> u64
-    requires { ⌜ checked ≡ checkedOf layout (now octets) (readContent layout (now octets)) ⌝ }
-    ensures { λ r. ⌜ r ≡ listing.numberOf (readContent layout (now (octets .entry))) ⌝ }
+fn number_of(inspected: Inspected) -> u64
+    ensures { λ r. ⌜ r ≡ numberIn inspected ⌝ }
 {
-    match checked {
-        Checked::Packet(outline) => {
-            let summary = summary_at(layout, octets, outline);
+    match inspected {
+        Inspected::Packet { outline, summary } => {
             let head = summary.head;
             let number = head.number;
             number.0 as u64
         }
-        Checked::Refused(_) => 0,
+        Inspected::Refused(_) => 0,
     }
 }
 
 // The first packet that passes 1 to 13, 15 and 16 opens the depacketizer.
-fn opening(layout: Layout, octets: &[u8], checked: Checked) -> Opened
-    requires { ⌜ checked ≡ checkedOf layout (now octets) (readContent layout (now octets)) ⌝ }
-    ensures { λ r. ⌜ r ≡ listing.opening (readContent layout (now (octets .entry))) ⌝ }
+fn opening(inspected: Inspected) -> Opened
+    ensures { λ r. ⌜ r ≡ openingBy inspected ⌝ }
 {
-    match checked {
-        Checked::Packet(outline) => {
-            let summary = summary_at(layout, octets, outline);
+    match inspected {
+        Inspected::Packet { outline, summary } => {
             let head = summary.head;
             Depacketizer::open(head.source, head.payload_type)
         }
-        Checked::Refused(refusal) => Opened::Refused(refusal),
+        Inspected::Refused(refusal) => Opened::Refused(refusal),
     }
 }
 
@@ -104,12 +98,11 @@ pub fn layout_of(session: Session) -> Layout
 }
 
 // The depacketizer that a packet arrives at.
-pub fn enter(session: Session, layout: Layout, octets: &[u8], checked: Checked) -> Opened
-    requires { ⌜ checked ≡ checkedOf layout (now octets) (readContent layout (now octets)) ⌝ }
-    ensures { λ r. ⌜ r ≡ listing.entered session (readContent layout (now (octets .entry))) ⌝ }
+pub fn enter(session: Session, inspected: Inspected) -> Opened
+    ensures { λ r. ⌜ r ≡ enteredBy session inspected ⌝ }
 {
     match session {
-        Session::Waiting(_) => opening(layout, octets, checked),
+        Session::Waiting(_) => opening(inspected),
         Session::Open(_, depacketizer) => Opened::Open(depacketizer),
     }
 }
@@ -133,14 +126,14 @@ fn list_packet(session: Session, octets: &[u8], store: &mut [u16], out: &mut [u8
     ensures { λ r. ⌜ Put (now (out .entry)) 0 (listing.turn session (now (octets .entry)) (now (store .entry)) .text) (now (out .exit)) (r .length) ⌝ }
 {
     let layout = layout_of(session);
-    let checked = check(layout, octets);
-    let number = number_of(layout, octets, checked);
-    let opened = enter(session, layout, octets, checked);
+    let inspected = inspect(layout, octets);
+    let number = number_of(inspected);
+    let opened = enter(session, inspected);
     let Opened::Open(depacketizer) = opened else {
         let length = put_refused(out, refusal_of(opened));
         return Reply { session, length };
     };
-    let arrival = depacketizer.arrive(layout, octets, store);
+    let arrival = depacketizer.arrive_checked(layout, octets, inspected, store);
     let answer = arrival.answer;
     let next = arrival.state;
     let length = put_answer(out, number, answer, store);

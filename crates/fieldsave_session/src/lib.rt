@@ -12,6 +12,7 @@ ghost use Rattle.fieldsave_session.specs.Answers.{fieldsave, octetsIn};
 ghost use Rattle.program_spec.specs.Frames.{overFrames};
 ghost use Rattle.program_spec.specs.Run.{Answers};
 ghost use Rattle.fieldsave_session.specs.Filing.{fieldIn, fieldRoom, filed, handedBy};
+use depacketizer::inspect::inspect;
 use depacketizer::state::Opened;
 use depacketizer_spec::state::Answer;
 use depacketizer_spec::state::Field;
@@ -26,7 +27,6 @@ use program_spec::buffers::Step;
 use rtp_frames::Front;
 use rtp_frames::LENGTH_SIZE;
 use rtp_frames::frame_at;
-use rtp_strict_reader::check::check;
 use wire_spec::limit::MAX_FIELD_CELLS;
 use wire_spec::refusal::Refusal;
 use wire_spec::written::Written;
@@ -82,12 +82,12 @@ fn file_packet(session: Session, octets: &[u8], store: &mut [u16], out: &mut [u8
     ensures { λ r. ⌜ Put (now (out .entry)) 0 (filed session (now (octets .entry)) (now (store .entry))) (now (out .exit)) (r .length) ⌝ }
 {
     let layout = layout_of(session);
-    let checked = check(layout, octets);
-    let opened = enter(session, layout, octets, checked);
+    let inspected = inspect(layout, octets);
+    let opened = enter(session, inspected);
     let Opened::Open(depacketizer) = opened else {
         return Reply { session, length: 0 };
     };
-    let arrival = depacketizer.arrive(layout, octets, store);
+    let arrival = depacketizer.arrive_checked(layout, octets, inspected, store);
     let answer = arrival.answer;
     let next = arrival.state;
     let length = put_answer(answer, store, out);

@@ -13,33 +13,44 @@ use Rattle.depacketizer.specs.Answers.{arrivalOf}
 use Rattle.text.proofs.PutLaws.{nothing, same}
 use Rattle.fieldlist_session.specs.declared.session.Session.the-variants as session
 use Rattle.fieldlist_session.specs.Session.{Turn, layoutIn, entered}
-use Rattle.fieldlist_session.proofs.TurnLaws.{turn-refused, turn-arrived}
+use Rattle.fieldlist_session.proofs.TurnLaws.{entry-found, turn-arrived, turn-refused}
 use Rattle.fieldsave_session.specs.Filing.{handedBy}
 use Rattle.fieldsave_session.proofs.FieldLaws.{handed-refused, handed-arrived}
 use Rattle.fieldsave_session.proofs.file_packet.Statement.{statement}
 use Rattle.fieldsave_session.proofs.file_packet.Tie as tie
 
+-- the depacketizer that the packet arrives at
+entry : (c : tie.After-enter) → let a = c .before .before .before .before .before .before .args in
+    c .enter .result ≡ entered (a .session) (readContent (layoutIn (a .session)) (a .octets .now))
+entry c =
+    let a = c .before .before .before .before .before .before .args in
+    c .enter .ensures ∙ entry-found (a .session) (a .octets .now) _ _ (c .before .before .layout-of .ensures) (c .before .inspect .ensures)
+
 returns : tie.Need-returns
 returns c =
     let a = c .before .before .before .before .before .before .before .before .args in
     let o = c .enum-told .given .1 in
-    let k = c .before .before .enter .ensures ∙ ap (λ (L : Layout). entered (a .session) (readContent L (a .octets .now))) (c .before .before .before .before .layout-of .ensures) in
-    let t = turn-refused (a .session) (a .octets .now) (a .store .now) (c .before .before .enter .result) k _ o in
-    let h = handed-refused (a .session) (a .octets .now) (a .store .now) (c .before .before .enter .result) k _ o in (
+    let k = entry (c .before .before) in
+    let t = turn-refused (a .session) (a .octets .now) (a .store .now) _ k _ o in
+    let h = handed-refused (a .session) (a .octets .now) (a .store .now) _ k _ o in (
       sym (ap (λ (x : Turn). x .session) t),
       (sym (ap (λ (x : Turn). x .store) t), same (sym (ap (fieldsOctets writtenVersion) h)) (nothing (a .out .now) 0 (omega arith))),
     )
+
+arrive-checked-requires : tie.Need-arrive-checked-requires
+arrive-checked-requires c κs = c .before .before .before .before .before .inspect .ensures
 
 returns-2 : tie.Need-returns-2
 returns-2 c =
     let a = c .before .before .before .before .before .before .before .before .before .before .before .before .before .before .before .before .before .before .before .args in
     let e = c .before .before .before .before .before .before .before .before .before .before .before .before .before .before .before .layout-of .ensures in
-    let k = c .before .before .before .before .before .before .before .before .before .before .before .before .before .enter .ensures ∙ ap (λ (L : Layout). entered (a .session) (readContent L (a .octets .now))) e in
-    let d = c .before .before .before .before .before .before .before .before .before .before .before .opened .given .0 .0 in
-    let t = turn-arrived (a .session) (a .octets .now) (a .store .now) (c .before .before .before .before .before .before .before .before .before .before .before .before .before .enter .result) k d (c .before .before .before .before .before .before .before .before .before .before .before .opened .given .1) in
-    let h = handed-arrived (a .session) (a .octets .now) (a .store .now) (c .before .before .before .before .before .before .before .before .before .before .before .before .before .enter .result) k d (c .before .before .before .before .before .before .before .before .before .before .before .opened .given .1) in
-    let r0 = c .before .before .before .before .before .before .before .before .arrive .ensures .0 ∙ ap (λ (L : Layout). arrivalOf (step (d .state) L (a .octets .now) (a .store .now))) e in
-    let r1 = c .before .before .before .before .before .before .before .before .arrive .ensures .1 ∙ ap (λ (L : Layout). step (d .state) L (a .octets .now) (a .store .now) .store) e in (
+    let k = entry (c .before .before .before .before .before .before .before .before .before .before .before .before .before) in
+    let o = c .before .before .before .before .before .before .before .before .before .before .before .opened .given in
+    let t = turn-arrived (a .session) (a .octets .now) (a .store .now) _ k (o .0 .0) (o .1) in
+    let h = handed-arrived (a .session) (a .octets .now) (a .store .now) _ k (o .0 .0) (o .1) in
+    let s = o .0 .0 .state in
+    let r0 = c .before .before .before .before .before .before .before .before .arrive-checked .ensures .0 ∙ ap (λ (L : Layout). arrivalOf (step s L (a .octets .now) (a .store .now))) e in
+    let r1 = c .before .before .before .before .before .before .before .before .arrive-checked .ensures .1 ∙ ap (λ (L : Layout). step s L (a .octets .now) (a .store .now) .store) e in (
       (λ i. session.Open (e i) (r0 i .state)) ∙ sym (ap (λ (x : Turn). x .session) t),
       (r1 ∙ sym (ap (λ (x : Turn). x .store) t), same ((λ i. fieldsOctets writtenVersion (handedBy (r0 i .answer) (r1 i))) ∙ sym (ap (fieldsOctets writtenVersion) h)) (c .before .before .put-answer .ensures)),
     )
@@ -47,5 +58,5 @@ returns-2 c =
 pub file-packet-spec : {M : Type 1} → statement M
 file-packet-spec =
     tie.close
-    (tie.spec (λ c κs. search needs) (λ c κs. search needs) (λ c κs. search needs) (λ c. search needs) (λ c. search needs) returns (λ c κs. search needs)
+    (tie.spec (λ c κs. search needs) (λ c κs. search needs) (λ c κs. search needs) (λ c. search needs) (λ c. search needs) returns arrive-checked-requires
     (λ c κs. search needs) (λ c. search needs) (λ c. search needs) returns-2)
