@@ -4,7 +4,7 @@ ghost use Rattle.std.specs.Prelude.{◌≡◌};
 ghost use Rattle.anc_filter.specs.Wanted.{matching, matching_pair, wanted_in, wanted_of};
 
 #[repr(C)]
-#[derive(Drop)]
+#[derive(Clone, Copy)]
 pub struct DidSdid {
     pub did: u8,
     pub sdid: u8,

@@ -22,14 +22,14 @@ use wire_words::octet::quad_at;
 use wire_words::word::fetch;
 
 // What one packet is.
-#[derive(Drop)]
+#[derive(Clone, Copy)]
 pub enum Verdict {
     Accepted(WordCount),
     Refused(Refusal),
 }
 
 // What a run of packets is: the octets that it takes, and the cells that its records take.
-#[derive(Drop)]
+#[derive(Clone, Copy)]
 pub enum Run {
     Accepted { octets: OctetCount, cells: usize },
     Refused(Refusal),

@@ -13,7 +13,7 @@ use wire_spec::layout::{
 use wire_spec::limit::MAX_INDEX;
 
 // What the record at the front of a list is: its n, and whether none of its words is a protected one.
-#[derive(Drop)]
+#[derive(Clone, Copy)]
 pub enum Front {
     Record { words: WordCount, clear: bool },
     Malformed,

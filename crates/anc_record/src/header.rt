@@ -11,7 +11,7 @@ use crate::location::{Line, Location, Offset};
 use wire_spec::count::WordCount;
 use wire_spec::refusal::Refusal;
 
-#[derive(Drop)]
+#[derive(Clone, Copy)]
 pub struct Header {
     // The colour-difference channel; otherwise luma, or no such channel.
     pub c: bool,
@@ -26,7 +26,7 @@ pub struct Header {
 }
 
 // What is found where a header is looked for.
-#[derive(Drop)]
+#[derive(Clone, Copy)]
 pub enum Found {
     Header(Header),
     Refused(Refusal),

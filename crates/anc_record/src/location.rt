@@ -3,7 +3,7 @@ ghost use Rattle.std.specs.Prelude.{◌≡◌};
 ghost use Rattle.anc_record.specs.Location.{line_of, line_number, offset_of, offset_number};
 
 // A line, or the region that stands for one.
-#[derive(Drop)]
+#[derive(Clone, Copy)]
 pub enum Line {
     Number(u16),
     // Without specific line.
@@ -49,7 +49,7 @@ impl Line {
 }
 
 // An offset from the start of active video (SAV), or the region that stands for one.
-#[derive(Drop)]
+#[derive(Clone, Copy)]
 pub enum Offset {
     Number(u16),
     // Without specific horizontal location.
@@ -102,7 +102,7 @@ impl Offset {
     }
 }
 
-#[derive(Drop)]
+#[derive(Clone, Copy)]
 pub struct Location {
     pub line: Line,
     pub offset: Offset,

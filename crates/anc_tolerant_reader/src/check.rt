@@ -12,14 +12,14 @@ use wire_spec::layout::Layout;
 use wire_spec::refusal::Refusal;
 
 // Records left out, and the cells of those that come through.
-#[derive(Drop)]
+#[derive(Clone, Copy)]
 pub struct Tally {
     pub omitted: usize,
     pub cells: usize,
 }
 
 // What a run of packets is: its tally, and the octets behind it.
-#[derive(Drop)]
+#[derive(Clone, Copy)]
 pub enum TolerantRun {
     Accepted { tally: Tally, left: OctetCount },
     Refused(Refusal),

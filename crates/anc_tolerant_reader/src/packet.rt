@@ -15,7 +15,7 @@ use wire_spec::refusal::Refusal;
 use wire_words::word::fetch;
 
 // What a packet is: its Data_Count, and whether its checksum is its own.
-#[derive(Drop)]
+#[derive(Clone, Copy)]
 pub enum Part {
     Taken { words: WordCount, own: bool },
     Refused(Refusal),

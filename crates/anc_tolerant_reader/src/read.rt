@@ -16,7 +16,7 @@ use wire_spec::layout::Layout;
 use wire_spec::limit::READ_INDEX;
 
 // The octets of a packet, and the cells written of it.
-#[derive(Drop)]
+#[derive(Clone, Copy)]
 pub struct Step {
     pub octets: OctetCount,
     pub cells: usize,

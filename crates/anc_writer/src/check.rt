@@ -14,7 +14,7 @@ use wire_spec::layout::Layout;
 use wire_spec::refusal::Refusal;
 
 // What a list is: its records, and the octets that they take as ANC data packets.
-#[derive(Drop)]
+#[derive(Clone, Copy)]
 pub enum Listed {
     Records { count: usize, octets: OctetCount },
     Refused(Refusal),
@@ -46,7 +46,7 @@ impl Listed {
 }
 
 // The same, without saying why a list is refused.
-#[derive(Drop)]
+#[derive(Clone, Copy)]
 pub enum Measured {
     Records { count: usize, octets: OctetCount },
     Refused,

@@ -14,7 +14,7 @@ const MAX_32: u64 = 0xffff_ffff;
 const MAX_8: u64 = 0xff;
 
 // What stands in a row: a state, or numbers that no state has.
-#[derive(Drop)]
+#[derive(Clone, Copy)]
 pub enum Restored {
     State(State),
     Unsound,

@@ -1,6 +1,6 @@
 // What a captured packet holds for a port.
 
-#[derive(Drop)]
+#[derive(Clone, Copy)]
 pub enum Found {
     // The payload of a datagram to the port: the octets from `start` to `end`.
     Frame { start: usize, end: usize },
@@ -13,7 +13,7 @@ pub enum Found {
 }
 
 // An extension header (RFC 8200, section 4): its octets, or what the packet is where it goes no further.
-#[derive(Drop)]
+#[derive(Clone, Copy)]
 pub enum Extension {
     Whole(usize),
     Ends(Found),

@@ -17,7 +17,7 @@ const IPV4: u32 = 228;
 
 const IPV6: u32 = 229;
 
-#[derive(Drop)]
+#[derive(Clone, Copy)]
 pub enum Link {
     Ethernet,
     // Linux cooked captures, and their version 2.

@@ -2,21 +2,21 @@
 use crate::format::MAX_INTERFACES;
 
 // The order of the octets of a number: most or least significant first.
-#[derive(Drop)]
+#[derive(Clone, Copy)]
 pub enum Order {
     Big,
     Little,
 }
 
 // By a magic number.
-#[derive(Drop)]
+#[derive(Clone, Copy)]
 pub enum Ordered {
     As(Order),
     Neither,
 }
 
 // Before the first octet; behind pcap's head, with the link type of all packets; or in a section of pcapng.
-#[derive(Drop)]
+#[derive(Clone, Copy)]
 pub enum Container {
     Unknown,
     Classic { order: Order, link: u32 },
@@ -24,7 +24,7 @@ pub enum Container {
 }
 
 // The first `described` of `links` are the link types of the section's interfaces, and `snap` is the first one's SnapLen.
-#[derive(Drop)]
+#[derive(Clone, Copy)]
 pub struct State {
     pub container: Container,
     pub links: [u32; MAX_INTERFACES],
@@ -33,7 +33,7 @@ pub struct State {
 }
 
 // The octets of a packet within an item.
-#[derive(Drop)]
+#[derive(Clone, Copy)]
 pub struct Place {
     pub at: usize,
     pub size: usize,
@@ -41,7 +41,7 @@ pub struct Place {
 }
 
 // A whole block of so many octets, one that is not whole yet, or the number of a refusal.
-#[derive(Drop)]
+#[derive(Clone, Copy)]
 pub enum Extent {
     Whole(usize),
     Short,
@@ -49,7 +49,7 @@ pub enum Extent {
 }
 
 // What stands at the front: no whole item; a refusal; the head of a capture or of a section; an interface; a packet; or another block.
-#[derive(Drop)]
+#[derive(Clone, Copy)]
 pub enum Item {
     Short,
     Refused(u8),

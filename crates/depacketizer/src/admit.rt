@@ -25,7 +25,7 @@ fn is_sound(state: State, room: usize) -> bool
 }
 
 // What a test of an arrival gives.
-#[derive(Drop)]
+#[derive(Clone, Copy)]
 pub enum Stage {
     Passed,
     Refused(Refusal),

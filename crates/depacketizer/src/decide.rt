@@ -10,7 +10,7 @@ use wire_spec::limit::{MAX_FIELD_CELLS, MAX_FIELD_PACKETS, MAX_FIELD_RECORDS};
 use wire_spec::number::Timestamp;
 
 // The answer, what is gathered then, and whether the packet's cells are appended.
-#[derive(Drop)]
+#[derive(Clone, Copy)]
 pub struct Decision {
     pub answer: Answer,
     pub phase: Phase,

@@ -9,7 +9,7 @@ use wire_spec::layout::Layout;
 use wire_spec::refusal::Refusal;
 
 // Where the parts of an accepted packet are, and what it says.
-#[derive(Drop)]
+#[derive(Clone, Copy)]
 pub enum Inspected {
     Packet { outline: Outline, summary: Summary },
     Refused(Refusal),

@@ -17,19 +17,19 @@ use wire_spec::number::PacketNumber;
 use wire_spec::refusal::Refusal;
 
 // A depacketizer, which a caller keeps between arrivals as its state.
-#[derive(Drop)]
+#[derive(Clone, Copy)]
 pub struct Depacketizer {
     pub state: State,
 }
 
 // The depacketizer then, and the answer to one arrival.
-#[derive(Drop)]
+#[derive(Clone, Copy)]
 pub struct Arrival {
     pub state: Depacketizer,
     pub answer: Answer,
 }
 
-#[derive(Drop)]
+#[derive(Clone, Copy)]
 pub enum Opened {
     Open(Depacketizer),
     Refused(Refusal),

@@ -11,7 +11,7 @@ const MAX_AHEAD: i32 = 2999;
 const MIN_LATE: i32 = -99;
 
 // What a distance says; `Ahead` with so many missing.
-#[derive(Drop)]
+#[derive(Clone, Copy)]
 pub enum Class {
     Late,
     Next,

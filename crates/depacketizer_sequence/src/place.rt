@@ -9,7 +9,7 @@ use wire_spec::number::{PacketNumber, Timestamp};
 
 // Late, far, or fresh with so many missing before it; `next` where it follows the last fresh one. It is fresh to the state `from`: the
 // one that it found, or one just opened where it restarts.
-#[derive(Drop)]
+#[derive(Clone, Copy)]
 pub enum Freshness {
     Late,
     Far,

@@ -3,7 +3,7 @@ use wire_spec::number::{PacketNumber, Timestamp};
 use wire_spec::refusal::Refusal;
 
 // Lost: a field cannot start before a marked packet. Ready: the next packet starts a field. Filling: a field is gathered.
-#[derive(Drop)]
+#[derive(Clone, Copy)]
 pub enum Phase {
     Lost,
     Ready,
@@ -12,7 +12,7 @@ pub enum Phase {
 
 // Flat, so that a state that refusal 35 names can be said. Not filling, `timestamp`, `f`, `records`, `cells` and `packets` are 0; so is
 // `remembered` where no number is remembered.
-#[derive(Drop)]
+#[derive(Clone, Copy)]
 pub struct State {
     pub source: u32,
     pub payload_type: u8,
@@ -35,7 +35,7 @@ pub struct State {
 }
 
 // A whole field: its records are the first `cells` cells of the store. It came in so many packets, with records or without.
-#[derive(Drop)]
+#[derive(Clone, Copy)]
 pub struct Field {
     pub timestamp: Timestamp,
     pub f: u8,
@@ -44,7 +44,7 @@ pub struct Field {
     pub packets: usize,
 }
 
-#[derive(Drop)]
+#[derive(Clone, Copy)]
 pub enum Answer {
     Skipped,
     Held,

@@ -14,7 +14,7 @@ pub const SLOT: usize = 1024;
 pub const MEMORY: usize = 65536;
 
 // A channel has eight places, `8 * c` to `8 * c + 7`, in a ring: its head is at place `heads[c]` of them, and it holds `counts[c]`.
-#[derive(Drop)]
+#[derive(Clone, Copy)]
 pub struct State {
     pub heads: [u8; CHANNELS],
     pub counts: [u8; CHANNELS],
@@ -25,28 +25,28 @@ pub struct State {
     pub next: u8,
 }
 
-#[derive(Drop)]
+#[derive(Clone, Copy)]
 pub enum OfferAnswer {
     Copied,
     Refused(Refusal),
 }
 
 // The outlet then, and the answer to an offer.
-#[derive(Drop)]
+#[derive(Clone, Copy)]
 pub struct Offered {
     pub state: State,
     pub answer: OfferAnswer,
 }
 
 // A packet handed out stands in the first `octets` of what was lent.
-#[derive(Drop)]
+#[derive(Clone, Copy)]
 pub enum TakeAnswer {
     HandedOut { channel: u8, octets: OctetCount },
     Refused(Refusal),
 }
 
 // The outlet then, and the answer to a take.
-#[derive(Drop)]
+#[derive(Clone, Copy)]
 pub struct Taken {
     pub state: State,
     pub answer: TakeAnswer,

@@ -57,7 +57,7 @@ pub fn turn(counts: [u8; CHANNELS], next: usize) -> usize
 }
 
 // Where a packet stands in the memory.
-#[derive(Drop)]
+#[derive(Clone, Copy)]
 pub struct Stored {
     pub from: usize,
     pub octets: usize,

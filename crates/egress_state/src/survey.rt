@@ -7,7 +7,7 @@ ghost use Rattle.egress_state.specs.Survey.{SeenOf};
 use egress_spec::state::{CHANNELS, HELD, MEMORY, SLOT, SLOTS, State};
 
 // Where it is sound, `used` has the slots that are held.
-#[derive(Drop)]
+#[derive(Clone, Copy)]
 pub struct Seen {
     pub sound: bool,
     pub used: [bool; SLOTS],

@@ -43,7 +43,7 @@ fn mark(state: State, memory: &[u8]) {
 }
 
 // A number of the state: a channel's head or count, or a place's slot or length.
-#[derive(Drop)]
+#[derive(Clone, Copy)]
 pub enum Which {
     Head,
     Count,

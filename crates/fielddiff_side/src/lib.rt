@@ -17,7 +17,7 @@ use wire_spec::refusal::Refusal;
 pub const WINDOW: usize = 328;
 
 // Still being read; a field, with the file's version; the end (54); or the number of a refusal.
-#[derive(Drop)]
+#[derive(Clone, Copy)]
 pub enum Standing {
     Reading(State),
     Field { found: Found, version: Version },
@@ -28,7 +28,7 @@ pub enum Standing {
 // The octets from `at` to `end` of the input are still to be scanned; `more` may follow; `failed`: the last
 // turn was a read, and it failed. If `more` may follow a read that failed, it failed in the middle of the
 // file.
-#[derive(Drop)]
+#[derive(Clone, Copy)]
 pub struct Side {
     pub standing: Standing,
     pub at: usize,

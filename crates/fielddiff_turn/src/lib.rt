@@ -23,7 +23,7 @@ pub const LINE_ROOM: usize = 105;
 pub const TEXT_ROOM: usize = LINE_ROOM * (Header::CELLS + MAX_WORDS);
 
 // Where the records of two fields at a position are compared: the record's index, how many both have, and where its cells stand in either store.
-#[derive(Drop)]
+#[derive(Clone, Copy)]
 pub struct Records {
     pub position: u64,
     pub index: usize,
@@ -32,14 +32,14 @@ pub struct Records {
     pub right: usize,
 }
 
-#[derive(Drop)]
+#[derive(Clone, Copy)]
 pub enum Phase {
     Places,
     Comparing(Records),
     Done,
 }
 
-#[derive(Drop)]
+#[derive(Clone, Copy)]
 pub struct Run {
     pub left: Side,
     pub right: Side,

@@ -4,7 +4,7 @@ use wire_spec::number::Timestamp;
 use wire_spec::refusal::Refusal;
 
 // What a field says, with the number of its records and of their cells, and the offset after it.
-#[derive(Drop)]
+#[derive(Clone, Copy)]
 pub struct Summary {
     pub timestamp: Timestamp,
     pub f: u8,
@@ -13,7 +13,7 @@ pub struct Summary {
     pub next: OctetCount,
 }
 
-#[derive(Drop)]
+#[derive(Clone, Copy)]
 pub enum FieldRead {
     Field(Summary),
     Refused(Refusal),

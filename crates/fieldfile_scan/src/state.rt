@@ -6,7 +6,7 @@ use wire_spec::number::Timestamp;
 use wire_spec::refusal::Refusal;
 
 // In a field: what its header says, the packets that are still to be read, and the records and cells that were.
-#[derive(Drop)]
+#[derive(Clone, Copy)]
 pub struct Part {
     pub version: Version,
     pub timestamp: Timestamp,
@@ -17,7 +17,7 @@ pub struct Part {
 }
 
 // Before the head, before a field, or in one.
-#[derive(Drop)]
+#[derive(Clone, Copy)]
 pub enum State {
     Start,
     Between(Version),
@@ -25,7 +25,7 @@ pub enum State {
 }
 
 // The refusal (54 at the end), a field of a file of this version, or where the reading then stands, so many octets on.
-#[derive(Drop)]
+#[derive(Clone, Copy)]
 pub enum Scanned {
     Refused(Refusal),
     Field { found: Found, version: Version },

@@ -2,7 +2,7 @@
 use wire_spec::number::Timestamp;
 
 // What a field says, with the number of its records and of their cells.
-#[derive(Drop)]
+#[derive(Clone, Copy)]
 pub struct Found {
     pub timestamp: Timestamp,
     pub f: u8,
@@ -11,7 +11,7 @@ pub struct Found {
 }
 
 // A field, the file's end (54), or the number that its reading was refused with.
-#[derive(Drop)]
+#[derive(Clone, Copy)]
 pub enum Place {
     Field(Found),
     Ended,

@@ -6,7 +6,7 @@ pub const NAME: usize = 0x41_4E46;
 pub const NAME_SIZE: usize = 3;
 
 // Versions 1 and 2 are read, and 2 is written (02, K2): a field's count has one octet in version 1, and two in version 2.
-#[derive(Drop)]
+#[derive(Clone, Copy)]
 pub enum Version {
     One,
     Two,

@@ -30,27 +30,27 @@ pub const LINE_ROOM: usize = 160;
 pub const FIELD_ROOM: usize = LINE_ROOM + CELL_ROOM * MAX_FIELD_CELLS;
 
 // Waiting for the first packet that opens the depacketizer, or opened; all packets are in one layout.
-#[derive(Drop)]
+#[derive(Clone, Copy)]
 pub enum Session {
     Waiting(Layout),
     Open(Layout, Depacketizer),
 }
 
 // What is answered for the frame at the front, and the session then.
-#[derive(Drop)]
+#[derive(Clone, Copy)]
 pub struct Listed {
     pub session: Session,
     pub step: Step,
 }
 
-#[derive(Drop)]
+#[derive(Clone, Copy)]
 pub enum Text {
     Octets(usize),
     Refused(Refusal),
 }
 
 // The session after a packet, and the octets of its text.
-#[derive(Drop)]
+#[derive(Clone, Copy)]
 pub struct Reply {
     pub session: Session,
     pub length: usize,

@@ -13,7 +13,7 @@ use program_spec::buffers::Buffers;
 use wire_spec::layout::Layout;
 
 // The session, and what it left in the buffers.
-#[derive(Drop)]
+#[derive(Clone, Copy)]
 pub struct Run {
     pub session: Session,
     pub buffers: Buffers,

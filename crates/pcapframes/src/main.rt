@@ -24,7 +24,7 @@ const INPUT_SIZE: usize = 2 * MAX_ITEM;
 const OUT_SIZE: usize = 4 * MAX_FRAME;
 
 // What the walk came to, and the buffers at the end, which say whether all frames were written.
-#[derive(Drop)]
+#[derive(Clone, Copy)]
 struct Outcome {
     session: Session,
     buffers: Buffers,

@@ -3,14 +3,14 @@ use capture_spec::state::State;
 use program_spec::buffers::Step;
 
 // The number of the refusal that ended the walk, if any did.
-#[derive(Drop)]
+#[derive(Clone, Copy)]
 pub enum Standing {
     Open,
     Refused(u8),
 }
 
 // Where the reading stands; how many packets there were, and of these fragments and packets that were cut.
-#[derive(Drop)]
+#[derive(Clone, Copy)]
 pub struct Session {
     pub state: State,
     pub standing: Standing,
@@ -19,7 +19,7 @@ pub struct Session {
     pub cut: u64,
 }
 
-#[derive(Drop)]
+#[derive(Clone, Copy)]
 pub struct Reply {
     pub session: Session,
     pub step: Step,

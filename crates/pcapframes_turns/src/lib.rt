@@ -13,7 +13,7 @@ use program::buffers::after_step;
 use program_spec::buffers::Buffers;
 
 // The session, and what it left in the buffers.
-#[derive(Drop)]
+#[derive(Clone, Copy)]
 pub struct Run {
     pub session: Session,
     pub buffers: Buffers,

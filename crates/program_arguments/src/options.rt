@@ -6,7 +6,7 @@ use check::same;
 use libc::{STDERR_FILENO, STDOUT_FILENO};
 
 // What an argument tells a program.
-#[derive(Drop)]
+#[derive(Clone, Copy)]
 pub enum Told {
     // It is no option.
     Operand,

@@ -9,7 +9,7 @@ const MAX_PORT: u32 = 65535;
 const NO_PORT: u32 = MAX_PORT + 1;
 
 // A port from 1 to 65,535, or a word that is none.
-#[derive(Drop)]
+#[derive(Clone, Copy)]
 pub enum Port {
     Number(u16),
     Wrong,

@@ -2,7 +2,7 @@
 use wire_spec::refusal::Refusal;
 
 // The octets from `at` to `end` of the input are still to be used, and the first `filled` of the text to be written.
-#[derive(Drop)]
+#[derive(Clone, Copy)]
 pub struct Buffers {
     pub at: usize,
     pub end: usize,
@@ -13,7 +13,7 @@ pub struct Buffers {
 }
 
 // Which call failed, if one did.
-#[derive(Drop)]
+#[derive(Clone, Copy)]
 pub enum Failure {
     Nothing,
     Read,
@@ -21,14 +21,14 @@ pub enum Failure {
 }
 
 // All of so many octets were written, or a write failed.
-#[derive(Drop)]
+#[derive(Clone, Copy)]
 pub enum Written {
     All(usize),
     Failed,
 }
 
 // What stands at the front: no whole item; one of `used` octets, whose text has `length`; nothing that is taken any more; or too little was lent (23).
-#[derive(Drop)]
+#[derive(Clone, Copy)]
 pub enum Step {
     Short,
     Taken { used: usize, length: usize },

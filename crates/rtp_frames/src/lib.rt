@@ -13,7 +13,7 @@ pub const LENGTH_SIZE: usize = 2;
 pub const MAX_FRAME: usize = LENGTH_SIZE + MAX_PACKET;
 
 // What stands at the front: a frame with a packet of so many octets, one that is broken off, or nothing.
-#[derive(Drop)]
+#[derive(Clone, Copy)]
 pub enum Front {
     Packet(usize),
     Cut,

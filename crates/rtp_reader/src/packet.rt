@@ -6,7 +6,7 @@ use rtp_strict_reader::packet::{Read, Summary};
 use wire_spec::refusal::Refusal;
 
 // What a packet says, with the number of its records that came through and of their cells, and how many were left out.
-#[derive(Drop)]
+#[derive(Clone, Copy)]
 pub enum TolerantRead {
     Packet { summary: Summary, omitted: u8 },
     Refused(Refusal),

@@ -19,7 +19,7 @@ use wire_spec::refusal::Refusal;
 use wire_words::octet::pair_at;
 
 // Where a packet's ANC data packets stand, from one octet to another, how many they are, and the octets of the header before them.
-#[derive(Drop)]
+#[derive(Clone, Copy)]
 pub struct Region {
     pub header: OctetCount,
     pub at: usize,

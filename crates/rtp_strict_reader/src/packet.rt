@@ -7,7 +7,7 @@ use wire_spec::number::{PacketNumber, Timestamp};
 use wire_spec::refusal::Refusal;
 
 // The six values that stand beside a packet's records.
-#[derive(Drop)]
+#[derive(Clone, Copy)]
 pub struct Head {
     pub source: u32,
     pub payload_type: u8,
@@ -18,21 +18,21 @@ pub struct Head {
 }
 
 // What a packet says, with the number of its records and of their cells.
-#[derive(Drop)]
+#[derive(Clone, Copy)]
 pub struct Summary {
     pub head: Head,
     pub records: u8,
     pub cells: usize,
 }
 
-#[derive(Drop)]
+#[derive(Clone, Copy)]
 pub enum Read {
     Packet(Summary),
     Refused(Refusal),
 }
 
 // A packet that was checked: the octets before its payload header, those of its ANC data packets, and how many records and cells these are.
-#[derive(Drop)]
+#[derive(Clone, Copy)]
 pub struct Outline {
     pub header: OctetCount,
     pub length: OctetCount,
@@ -40,7 +40,7 @@ pub struct Outline {
     pub cells: usize,
 }
 
-#[derive(Drop)]
+#[derive(Clone, Copy)]
 pub enum Checked {
     Packet(Outline),
     Refused(Refusal),

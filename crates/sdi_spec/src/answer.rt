@@ -2,14 +2,14 @@
 use wire_spec::refusal::Refusal;
 
 // The word behind the written stretch.
-#[derive(Drop)]
+#[derive(Clone, Copy)]
 pub enum WrittenLine {
     End(usize),
     Refused(Refusal),
 }
 
 // The records that were listed: how many, the cells that they take, and the word behind the last packet.
-#[derive(Drop)]
+#[derive(Clone, Copy)]
 pub enum ReadLine {
     Records {
         count: usize,
@@ -20,14 +20,14 @@ pub enum ReadLine {
 }
 
 // The packets that were found: how many, and the words that they take.
-#[derive(Drop)]
+#[derive(Clone, Copy)]
 pub enum Found {
     Packets { count: usize, words: usize },
     Refused(Refusal),
 }
 
 // What one packet is: its Data_Count.
-#[derive(Drop)]
+#[derive(Clone, Copy)]
 pub enum Verdict {
     Accepted(usize),
     Refused(Refusal),

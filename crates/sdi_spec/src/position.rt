@@ -1,6 +1,6 @@
 // What a line does not say of its packets (02, K6: "C, place, S and StreamNum come from the caller").
 
-#[derive(Drop)]
+#[derive(Clone, Copy)]
 pub struct Position {
     pub c: u16,
     // Line_Number and Horizontal_Offset, as the fields' numbers.

@@ -10,7 +10,7 @@ use sdp_spec::item::Item;
 use sdp_spec::parameters::Vpid;
 
 // Digits at the front of a text: the number that they write, and how many they are.
-#[derive(Drop)]
+#[derive(Clone, Copy)]
 pub struct Digits {
     pub value: u16,
     pub count: usize,

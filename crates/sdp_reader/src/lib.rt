@@ -12,14 +12,14 @@ use sdp_spec::item::Item;
 use sdp_spec::parameters::{Parameters, Vpid};
 use wire_spec::refusal::Refusal;
 
-#[derive(Drop)]
+#[derive(Clone, Copy)]
 pub enum Reading {
     Accepted(Parameters),
     Refused(Refusal),
 }
 
 // The item at the front of a text, how many octets lie before the next one, and whether there is a next one.
-#[derive(Drop)]
+#[derive(Clone, Copy)]
 pub struct Step {
     pub item: Item,
     pub used: usize,

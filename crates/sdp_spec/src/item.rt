@@ -1,6 +1,6 @@
 // One item of a text.
 
-#[derive(Drop)]
+#[derive(Clone, Copy)]
 pub enum Item {
     // `DID_SDID={0xH,0xH}`.
     DidSdid { did: u8, sdid: u8 },

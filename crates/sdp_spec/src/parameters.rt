@@ -1,7 +1,7 @@
 // What a text of parameters says.
 
 // The VPID code, where one is given.
-#[derive(Drop)]
+#[derive(Clone, Copy)]
 pub enum Vpid {
     Code(u8),
     Absent,
@@ -12,7 +12,7 @@ impl Vpid {
 }
 
 // How many pairs, and the VPID code.
-#[derive(Drop)]
+#[derive(Clone, Copy)]
 pub struct Parameters {
     pub pairs: usize,
     pub vpid: Vpid,

@@ -25,7 +25,7 @@ use wire_spec::refusal::Refusal;
 pub const LINES_ROOM: usize = 120;
 
 // All packets are in one layout; the index is that of the next frame.
-#[derive(Drop)]
+#[derive(Clone, Copy)]
 pub struct Session {
     pub layout: Layout,
     pub index: u64,
@@ -33,20 +33,20 @@ pub struct Session {
 }
 
 // What is answered for the frame at the front, and the session then.
-#[derive(Drop)]
+#[derive(Clone, Copy)]
 pub struct Reported {
     pub session: Session,
     pub step: Step,
 }
 
-#[derive(Drop)]
+#[derive(Clone, Copy)]
 pub enum Text {
     Octets(usize),
     Refused(Refusal),
 }
 
 // The state behind a packet, and the octets of its lines.
-#[derive(Drop)]
+#[derive(Clone, Copy)]
 pub struct Reply {
     pub checker: Checker,
     pub length: usize,

@@ -4,7 +4,7 @@ use wire_spec::number::{PacketNumber, Timestamp};
 use wire_spec::refusal::Refusal;
 
 // The last packet that was not refused. Its source and payload type are those of the first accepted. None known, the numbers are 0.
-#[derive(Drop)]
+#[derive(Clone, Copy)]
 pub struct Checker {
     pub known: bool,
     pub source: u32,
@@ -17,7 +17,7 @@ pub struct Checker {
 }
 
 // What a packet that is not refused breaks.
-#[derive(Drop)]
+#[derive(Clone, Copy)]
 pub struct Findings {
     pub number: bool,
     pub change: bool,
@@ -25,14 +25,14 @@ pub struct Findings {
     pub raster: bool,
 }
 
-#[derive(Drop)]
+#[derive(Clone, Copy)]
 pub enum Outcome {
     Refused(Refusal),
     Sound(Findings),
 }
 
 // The next state, and what the packet showed.
-#[derive(Drop)]
+#[derive(Clone, Copy)]
 pub struct Step {
     pub checker: Checker,
     pub outcome: Outcome,

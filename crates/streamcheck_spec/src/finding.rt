@@ -1,7 +1,7 @@
 // What a packet of the stream breaks.
 use wire_spec::refusal::Refusal;
 
-#[derive(Drop)]
+#[derive(Clone, Copy)]
 pub enum Finding {
     Refused(Refusal),
     // A broken last frame.

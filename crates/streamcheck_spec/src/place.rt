@@ -1,7 +1,7 @@
 // The raster order of the records of a field.
 
 // The last plain place within the field; not known, the numbers are 0.
-#[derive(Drop)]
+#[derive(Clone, Copy)]
 pub struct Place {
     pub known: bool,
     pub line: u16,
@@ -9,7 +9,7 @@ pub struct Place {
 }
 
 // What the records of a packet so far show: whether one is out of order, and the last plain place.
-#[derive(Drop)]
+#[derive(Clone, Copy)]
 pub struct Scan {
     pub descends: bool,
     pub place: Place,

@@ -6,7 +6,7 @@ use wire_spec::count::OctetCount;
 use wire_spec::refusal::Refusal;
 
 // A stage passed, with the octets that it found, or the refusal.
-#[derive(Drop)]
+#[derive(Clone, Copy)]
 pub enum Stage {
     Passed(OctetCount),
     Refused(Refusal),

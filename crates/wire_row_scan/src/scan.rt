@@ -12,14 +12,14 @@ use wire_row_reader::lane::{eight_at, lanes, step};
 use wire_words::word::{fetch, words_before_octet};
 
 // Of words: the sum of their low nine bits, modulo 512, and whether none is protected.
-#[derive(Drop)]
+#[derive(Clone, Copy)]
 pub struct Scan {
     pub sum: u16,
     pub clear: bool,
 }
 
 // The same in the making: a sum that is right modulo 512, and a number that is under 8 where a word is protected.
-#[derive(Drop)]
+#[derive(Clone, Copy)]
 struct Tally {
     sum: u16,
     low: u16,

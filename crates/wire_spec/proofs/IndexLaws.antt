@@ -24,6 +24,7 @@ anc-among n (inr (inr (inr (inl e)))) = inr (inr (inr (inr (inl e))))
 anc-among n (inr (inr (inr (inr (inl e))))) = inr (inr (inr (inr (inr (inl e)))))
 anc-among n (inr (inr (inr (inr (inr (inl e)))))) = inr (inr (inl e))
 anc-among n (inr (inr (inr (inr (inr (inr (inl e))))))) = inr (inr (inr (inl e)))
+anc-among n (inr (inr (inr (inr (inr (inr (inr x7))))))) = elim x7 [ ]
 
 -- those before, 2 twice
 pub front-among : (n : ℕ) → Among (1 ∷ 2 ∷ 3 ∷ 2 ∷ 4 ∷ 5 ∷ 6 ∷ 7 ∷ 8 ∷ []) n → Among (1 ∷ 2 ∷ 3 ∷ 4 ∷ 5 ∷ 6 ∷ 7 ∷ 8 ∷ 13 ∷ 14 ∷ []) n
@@ -36,6 +37,7 @@ front-among n (inr (inr (inr (inr (inr (inl e)))))) = inr (inr (inr (inr (inl e)
 front-among n (inr (inr (inr (inr (inr (inr (inl e))))))) = inr (inr (inr (inr (inr (inl e)))))
 front-among n (inr (inr (inr (inr (inr (inr (inr (inl e)))))))) = inr (inr (inr (inr (inr (inr (inl e))))))
 front-among n (inr (inr (inr (inr (inr (inr (inr (inr (inl e))))))))) = inr (inr (inr (inr (inr (inr (inr (inl e)))))))
+front-among n (inr (inr (inr (inr (inr (inr (inr (inr (inr x9))))))))) = elim x9 [ ]
 
 -- THE INDEX OF A REFUSED PACKET is the ANC packet's for 9 to 12, 15 and 16, and 0 otherwise; and these are the numbers of reading
 pub refused-index : (L : Layout) (s : List ℕ) (n i : ℕ) → ReadRefused L s n i → ReadIndex (anc_count s) n i
@@ -57,6 +59,7 @@ cell-among n (inl e) = e
 cell-among n (inr (inl e)) = e
 cell-among n (inr (inr (inl e))) = e
 cell-among n (inr (inr (inr (inl e)))) = e
+cell-among n (inr (inr (inr (inr x4)))) = elim x4 [ ]
 
 clear-among : (n i : ℕ) (rs : List Record) → InTurn clear_faults (drop 1) rs n i → (16 ≡ n) × (i < length rs)
 clear-among n zero [] x = absurd x.here

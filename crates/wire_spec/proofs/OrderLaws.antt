@@ -44,6 +44,8 @@ passed_none (f ∷ fs) ((true, m) ∷ ts) a =
     (λ p. (λ (x : f.1). absurd (true≢false (a.1.1 x)), ih.0 p.1), λ h. (refl, ih.1 h.1))
 passed_none (f ∷ fs) ((false, m) ∷ ts) a =
     (λ p. absurd (true≢false (sym p.0)), λ h. absurd (h.0 (a.1.0 refl)))
+passed_none [] (_ ∷ ts) a = elim a [ ]
+passed_none (f ∷ fs) [] a = elim a [ ]
 
 -- A REFUSAL BY CHECKS is that of the first fault, or there is none and it is given behind them
 pub judge-first : {A : Type 0} (i : ℕ) (fs : Faults) (ts : Checks) → Agree fs ts → (r : Result A) (n k : ℕ)
@@ -76,6 +78,8 @@ judge-first {A} i (f ∷ fs) ((false, m) ∷ ts) a r n k =
     go there (inl (inl y, e)) = ap₂ (λ (x y : ℕ). refuse x y) (a.0 ∙ y.1) (sym e)
     go there (inl (inr y, e)) = absurd (y.0 there)
     go there (inr x) = absurd (x.0.0 there)
+judge-first {A = A} i [] (_ ∷ ts) a r n k = elim a [ ]
+judge-first {A = A} i (f ∷ fs) [] a r n k = elim a [ ]
 
 -- a refusal before a step that answers is the refusal of both
 pub then-first : {A B : Type 0} (x : Result A) (f : A → B) (n k : ℕ) → ((x then λ a. accepted (f a)) ≡ refuse n k) ↔ (x ≡ refuse n k)
@@ -102,3 +106,4 @@ numbers_of (f ∷ fs) = f.0 ∷ numbers_of fs
 pub first-number : (n : ℕ) (fs : Faults) → First n fs → Some (λ (m : ℕ). m ≡ n) (numbers_of fs)
 first-number n (f ∷ fs) (inl x) = inl x.1
 first-number n (f ∷ fs) (inr x) = inr (first-number n fs x.1)
+first-number n [] x' = elim x' [ ]

@@ -49,6 +49,7 @@ then-accepts (accepted a) f b e = (a, refl, e)
 -- what is not refused is an answer
 pub accepted-is : {A : Type 0} (x : Result A) → IsAccepted x → (a : A) × (x ≡ accepted a)
 accepted-is (accepted a) h = (a, refl)
+accepted-is {A = A} (refused _) h = elim h [ ]
 
 -- both of two tests that hold together hold
 pub and-true : (a b : Bool) → a && b ≡ true → (a ≡ true) × (b ≡ true)

@@ -1,7 +1,7 @@
 // Where things stand in a packet (RFC 3550, section 5.1; RFC 8331, section 2.1; in its drafts of 2015, document 001, section 2.1).
 
 // The layouts of the payload: RFC 8331's, and that of its drafts of 2015. The caller tells which (02, K3).
-#[derive(Drop)]
+#[derive(Clone, Copy)]
 pub enum Layout {
     Rfc8331,
     Draft2015,
