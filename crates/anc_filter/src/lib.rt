@@ -1,3 +1,4 @@
+#![tactic(auto)]
 // Whether a record is wanted (01, "SDP parameters": "a record is wanted if the row is empty or both its DID and SDID match an entry"; 02, K1: of
 // Type 1 "when the DID matches").
 ghost use Rattle.std.specs.Prelude.{◌≡◌};

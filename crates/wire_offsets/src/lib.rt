@@ -1,3 +1,4 @@
+#![tactic(auto)]
 // Where things stand in a packet of each layout, and its size (RFC 8331, section 2.1; document 001, section 2.1; 02, K3).
 ghost use Rattle.std.specs.Prelude.{◌≡◌, ◌+◌, ◌-◌, ◌/◌, ◌<◌, ◌^◌};
 ghost use Rattle.wire_spec.specs.Anc.{anc_size, body_bits, did_at, words_at};

@@ -4,8 +4,7 @@ use borrow.Author.Rules.{rules}
 use mathlib.Core.Path.{◌≡◌}
 use Prim.Native.Nat.{ℕ, zero, suc, ◌+◌, ◌-◌, ◌*◌, ◌/◌, ◌%◌, ◌<◌, ◌≤◌}
 use native.Mathlib.Omega.{arith}
-use Rattle.wire_words.proofs.word.words_before_octet.Statement.{statement}
-use Rattle.wire_words.proofs.word.words_before_octet.Tie as tie
+use Rattle.wire_words.proofs.word.words_before_octet.Goals as goal
 
 before-cases : (bit e : ℕ) → e < 4 → bit % 8 ≡ 2 * e → ((8 - bit % 8) / 2 % 4 ≤ 3) × ((bit + 10 * ((8 - bit % 8) / 2 % 4)) % 8 ≡ 0)
 before-cases bit zero l h = rw h (omega arith)
@@ -17,9 +16,5 @@ before-cases bit (suc (suc (suc (suc e)))) l h = absurd (omega arith)
 before-octet : (bit : ℕ) → bit % 2 ≡ 0 → ((8 - bit % 8) / 2 % 4 ≤ 3) × ((bit + 10 * ((8 - bit % 8) / 2 % 4)) % 8 ≡ 0)
 before-octet bit h = before-cases bit (bit % 8 / 2) (omega arith) (omega arith)
 
-returns : tie.Need-returns
+pub returns : goal.returns
 returns c = before-octet c.args.bit c.requires
-
-pub words-before-octet-spec : {M : Type 1} → statement M
-words-before-octet-spec = tie.close
-    (tie.spec (λ c. search rules) returns)

@@ -1,5 +1,3 @@
--- `wanted` tells whether a record is wanted, by pairs in plain octets.
--- Invariant: an entry of what is left matches exactly where an entry of the whole does.
 use borrow.Author.Rules.{rules}
 use mathlib.Core.Path.{◌≡◌, refl, sym, ◌∙◌, ap}
 use mathlib.Core.Bool.{Bool, true, false, ◌||◌, or-true, or-false}
@@ -11,8 +9,7 @@ use lib.Dec.{ltb}
 use lib.ListN.{length, get_or, drop, length-drop}
 use lib.Seq.{drop-cons}
 use Rattle.anc_filter.specs.Wanted.{matching, any_in, wanted_in}
-use Rattle.anc_filter.proofs.wanted.Statement.{statement}
-use Rattle.anc_filter.proofs.wanted.Tie as tie
+use Rattle.anc_filter.proofs.wanted.Goals as goal
 
 abbrev same : ℕ → ℕ → List ℕ → ℕ → Bool
 same d s l i = matching d s (get_or l i 0) (get_or l (i + 1) 0)
@@ -44,23 +41,11 @@ none d s (x ∷ (y ∷ r)) h = absurd (omega arith)
 on-end : (d s : ℕ) (l : List ℕ) (i : ℕ) → length l - i ≤ 1 → any_in d s (drop i l) ≡ any_in d s l → ltb (length l) 2 ≡ wanted_in d s l
 on-end d s l i h e = sym (or-false (ltb (length l) 2)) ∙ ap (λ (a : Bool). ltb (length l) 2 || a) (sym (none d s (drop i l) (omega (arith, length-drop i l))) ∙ e)
 
-abbrev invariant-loop : tie.invariant-loop
-invariant-loop did sdid pairs i₀ i = (i ≤ length pairs) × (any_in did sdid (drop i pairs) ≡ any_in did sdid pairs)
+pub returns-then-matches : goal.returns-then-matches
+returns-then-matches c = let l = c.loop-i in on-hit _ _ _ l.i c.loop-i-test.true l.invariant.1 (sym c.matches.ensures ∙ c.if-matches.true)
 
-abbrev decreases-loop : tie.decreases-loop
-decreases-loop did sdid pairs i₀ i = length pairs - i
+pub loop-i-preserved : goal.loop-i-preserved
+loop-i-preserved c = let l = c.loop-i in (search rules, on-miss _ _ _ l.i c.loop-i-test.true l.invariant.1 (sym c.matches.ensures ∙ c.if-matches.false))
 
-returns : tie.Need-returns invariant-loop decreases-loop
-returns c = let l = c.before.before.before.before.before.loop in on-hit _ _ _ l.i c.before.before.before.before.loop-test.true l.invariant.1 (sym c.before.matches.ensures ∙ c.if1.true)
-
-loop-again : tie.Need-loop-preserved invariant-loop decreases-loop
-loop-again c = let l = c.before.before.before.before.before.loop in (search rules, on-miss _ _ _ l.i c.before.before.before.before.loop-test.true l.invariant.1 (sym c.before.matches.ensures ∙ c.if1.false))
-
-returns-2 : tie.Need-returns-2 invariant-loop decreases-loop
-returns-2 c = on-end _ _ _ _ c.loop-test.false c.before.loop.invariant.1
-
-pub wanted-spec : {M : Type 1} → statement M
-wanted-spec =
-    tie.close
-    (tie.spec invariant-loop decreases-loop (λ c. search rules) (λ c. search rules) (λ c. search rules) (λ c. search rules) (λ c. search rules)
-    (λ c κs. search rules) returns (λ c. search rules) (λ c. search rules) loop-again returns-2)
+pub returns : goal.returns
+returns c = on-end _ _ _ _ c.loop-i-test.false c.loop-i.invariant.1
