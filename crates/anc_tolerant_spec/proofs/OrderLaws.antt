@@ -52,6 +52,7 @@ anc-among n (inr (inr (inl e))) = inl e
 anc-among n (inr (inr (inr (inl e)))) = inr (inr (inr (inl e)))
 anc-among n (inr (inr (inr (inr (inl e))))) = inr (inr (inr (inr (inl e))))
 anc-among n (inr (inr (inr (inr (inr (inl e)))))) = inr (inr (inl e))
+anc-among n (inr (inr (inr (inr (inr (inr x6)))))) = elim x6 [ ]
 
 -- the index is the ANC packet's for 9, 10, 12, 15 and 16, and 0 otherwise; 11 is not among the numbers
 pub tolerant-index : (L : Layout) (s : List ℕ) (room n i : ℕ) → ToleratedNot L s room n i → TolerantIndex (anc_count s) n i

@@ -1,3 +1,4 @@
+#![tactic(auto)]
 // What one captured packet holds for a UDP port. `find` and `is_link_taken` take whatever is captured; the functions on one header ask that its place
 // lies in the packet.
 ghost use Rattle.std.specs.Prelude.{◌≡◌};

@@ -1,3 +1,4 @@
+#![tactic(auto)]
 // Text put into lent octets, piece by piece: each function puts one piece at `at`, asks for its room, and says where the next goes.
 ghost use Rattle.std.specs.Prelude.{◌++◌, ◌+◌, ◌<◌, ◌≤◌, ◌≡◌, length};
 ghost use Rattle.text.specs.Put.{Put};

@@ -1,0 +1,27 @@
+use borrow.Author.Rules.{rules}
+use mathlib.Core.Path.{◌≡◌, refl, sym, ◌∙◌}
+use Prim.Native.Nat.{◌≤◌, ◌-◌, ◌+◌}
+use native.Mathlib.Numerals.{add-one}
+use native.Mathlib.Omega.{arith}
+use lib.ListN.{length, drop, length-set}
+use lib.Seq.{drop-cons, drop-length}
+use Rattle.wire_spec.specs.Bits.{overwrite, splice}
+use Rattle.wire_spec.proofs.ListLaws.{splice-set, splice-none}
+use Rattle.capi_state.proofs.row.put.Goals as goal
+
+pub loop-k-init : goal.loop-k-init
+loop-k-init c = (omega arith, refl, refl)
+
+pub loop-k-preserved : goal.loop-k-preserved
+loop-k-preserved c = let a = c.args in
+    let l = c.loop-k in (
+      omega arith,
+      simp length-set (omega arith),
+      splice-set l.row l.k _ (drop (l.k + 1) a.values.now) (omega arith) ∙ rw (add-one l.k) (rw (drop-cons a.values.now l.k 0 (omega arith)) at l.invariant.2),
+    )
+
+pub returns : goal.returns
+returns c = let l = c.loop-k in
+    let f = c.args.values.now in
+    let e : l.k ≡ length f = omega arith in
+    sym (splice-none l.row (length f)) ∙ (rw (e, drop-length f) at l.invariant.2)

@@ -1,0 +1,8 @@
+-- `left` takes the head off a channel's queue.
+use borrow.Author.Rules.{rules}
+use mathlib.Core.Path.{◌≡◌, refl, sym, ◌∙◌, ap}
+use native.Mathlib.Omega.{arith}
+use Rattle.egress_state.proofs.place.left.Goals as goal
+
+pub returns : goal.returns
+returns c = rw (c.behind.ensures.0, c.behind-2.ensures.0)

@@ -1,0 +1,29 @@
+use borrow.Author.Rules.{rules}
+use mathlib.Core.Path.{◌≡◌, refl, sym, ◌∙◌, ap}
+use mathlib.Core.Bool.{Bool, true, false, not, ◌&&◌}
+use Prim.Native.Nat.{ℕ, ◌≤◌, ◌-◌, ◌+◌, ◌<◌}
+use native.Mathlib.Omega.{arith}
+use lib.Dec.{ltb}
+use borrow.Author.Tests.{not-true, not-false}
+use Rattle.egress_spec.specs.Places.{all_upto, slot_ok}
+use Rattle.egress_spec.proofs.Upto.{upto-fails, upto-more, upto-none}
+use Rattle.egress_state.proofs.survey.slots_fit.Goals as goal
+
+pub returns-then-not-slot_fits : goal.returns-then-not-slot_fits
+returns-then-not-slot_fits c = let st = c.args.state in
+    let l = c.loop-k in
+    let f : slot_ok st l.k ≡ false = sym c.slot_fits.ensures ∙ c.if-not-slot_fits.true in
+    rw (upto-fails (slot_ok st) 64 l.k f (omega arith))
+
+pub loop-k-preserved : goal.loop-k-preserved
+loop-k-preserved c = let st = c.args.state in
+    let l = c.loop-k in
+    let f : slot_ok st l.k ≡ true = sym c.slot_fits.ensures ∙ c.if-not-slot_fits.false in
+    (omega arith, upto-more (slot_ok st) l.k l.invariant.1 f)
+
+pub returns : goal.returns
+returns c = let e : c.loop-k.k ≡ 64 = omega arith in
+    sym (rw e at c.loop-k.invariant.1)
+
+pub loop-k-init : goal.loop-k-init
+loop-k-init c = (omega arith, upto-none _)

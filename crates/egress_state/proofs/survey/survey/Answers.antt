@@ -1,0 +1,116 @@
+use borrow.Author.Rules.{rules}
+use mathlib.Core.Path.{◌≡◌, refl, sym, ◌∙◌, ap, subst}
+use mathlib.Core.Bool.{Bool, true, false, not, ◌&&◌}
+use mathlib.Core.Logic.{⊎_elim}
+use Prim.Native.Nat.{ℕ, ◌≤◌, ◌-◌, ◌+◌, ◌*◌, ◌<◌}
+use native.Mathlib.Omega.{arith}
+use lib.ListN.{set}
+use borrow.Author.Tests.{not-true, not-false}
+use Rattle.egress_spec.specs.Places.{held, slot_at}
+use Rattle.egress_state.proofs.SurveyLaws.{Fit, Passed, fits_below, held_of, mark-at, no-marks}
+use Rattle.egress_state.proofs.SurveyLaws.{passed-free, passed-held, passes, twice, unfit}
+use Rattle.egress_state.proofs.SurveyLaws.{refuses-memory, refuses-numbers, refuses-place}
+use Rattle.egress_spec.proofs.PlaceLaws.{head-fits, slot-fits}
+use Rattle.egress_spec.proofs.Upto.{upto-none}
+use Rattle.egress_state.proofs.survey.survey.Goals as goal
+
+pub returns-then-memory-ne-MEMORY : goal.returns-then-memory-ne-MEMORY
+returns-then-memory-ne-MEMORY c = refuses-memory _ _ _ c.if-memory-ne-MEMORY.true
+
+pub returns-then-not-numbers_fit : goal.returns-then-not-numbers_fit
+returns-then-not-numbers_fit c = refuses-numbers _ _ _ (sym c.numbers_fit.ensures ∙ c.if-not-numbers_fit.true)
+
+pub loop-c-init : goal.loop-c-init
+loop-c-init c = (
+  omega arith,
+  record {
+    size = omega arith;
+    long = refl;
+    numbers = sym c.numbers_fit.ensures ∙ c.if-not-numbers_fit.false;
+    places = upto-none _;
+    marks = no-marks c.args.state;
+  },
+)
+
+pub loop-i-init : goal.loop-i-init
+loop-i-init c = let l = c.loop-c in
+    let a = c.args in
+    let z : 8 * l.c ≡ 8 * l.c + 0 = omega arith in
+    (omega arith, omega arith, subst (λ (k : ℕ). Passed a.state a.memory k l.used) z l.invariant.1)
+
+pub is_held-requires : goal.is_held-requires
+is_held-requires c = let a = c.args in
+    let l = c.loop-i in
+    let k = 8 * c.loop-c.c + l.i in
+    (omega (arith, l.invariant.0), head-fits a.state c.loop-c.c l.invariant.2.numbers l.invariant.0)
+
+pub returns-then-not-length_fits : goal.returns-then-not-length_fits
+returns-then-not-length_fits c = let a = c.args in
+    let l = c.loop-i in
+    let k = 8 * c.loop-c.c + l.i in
+    let low : k < 64 = omega (arith, l.invariant.0) in
+    let place = sym (held_of a.state c.loop-c.c l.i (omega arith)) in
+    let h : held a.state k ≡ true = place ∙ sym c.is_held.ensures ∙ c.if-is_held.true in
+    let f = sym c.length_fits.ensures ∙ c.if-not-length_fits.true in
+    refuses-place a.state a.memory l.used k low (unfit a.state k h f)
+
+pub overflow_cast-slot : goal.overflow_cast-slot
+overflow_cast-slot c = let a = c.args in
+    let l = c.loop-i in
+    let k = 8 * c.loop-c.c + l.i in
+    let h : slot_at a.state k < 64 = slot-fits a.state k l.invariant.2.numbers (omega (arith, l.invariant.0)) in
+    fits_below h
+
+pub bounds-used-slot : goal.bounds-used-slot
+bounds-used-slot c = let a = c.args in
+    let l = c.loop-i in
+    let k = 8 * c.loop-c.c + l.i in
+    slot-fits a.state k l.invariant.2.numbers (omega (arith, l.invariant.0))
+
+pub returns-then-used-slot : goal.returns-then-used-slot
+returns-then-used-slot c = let a = c.args in
+    let l = c.loop-i in
+    let k = 8 * c.loop-c.c + l.i in
+    let low : k < 64 = omega (arith, l.invariant.0) in
+    let place = sym (held_of a.state c.loop-c.c l.i (omega arith)) in
+    let held-here = c.is_held.ensures in
+    let h : held a.state k ≡ true = place ∙ sym held-here ∙ c.if-is_held.true in
+    let m = mark-at a.state a.memory k l.used l.invariant.2 low in
+    refuses-place a.state a.memory l.used k low (twice a.state k h (sym m ∙ c.if-used-slot.true))
+
+pub bounds-used-slot-then-is_held : goal.bounds-used-slot-then-is_held
+bounds-used-slot-then-is_held c = let a = c.args in
+    let l = c.loop-i in
+    let k = 8 * c.loop-c.c + l.i in
+    slot-fits a.state k l.invariant.2.numbers (omega (arith, l.invariant.0))
+
+pub loop-i-preserved : goal.loop-i-preserved
+loop-i-preserved c = let a = c.args in
+    let l = c.loop-i in
+    let k = 8 * c.loop-c.c + l.i in
+    let low : k < 64 = omega (arith, l.invariant.0) in
+    let place = sym (held_of a.state c.loop-c.c l.i (omega arith)) in
+    let told = place ∙ sym c.is_held.ensures in
+    let z : k + 1 ≡ 8 * c.loop-c.c + (l.i + 1) = omega arith in
+    ⊎_elim
+    (λ w.
+    let e : Fit a.state k = sym w.2.ensures ∙ not-false _ w.3.left in
+    let marked = set l.used (slot_at a.state k) true in
+    let p = passed-held a.state a.memory k l.used l.invariant.2 low (told ∙ w.0.taken) e w.5.left in
+    (l.invariant.0, omega arith, rw w.6 (subst (λ (j : ℕ). Passed a.state a.memory j marked) z p)))
+    (λ w.
+    let p = passed-free a.state a.memory k l.used l.invariant.2 (told ∙ w.0.left) in
+    (l.invariant.0, omega arith, rw w.1 (subst (λ (j : ℕ). Passed a.state a.memory j l.used) z p)))
+    c.if-is_held.branch
+
+pub loop-c-preserved : goal.loop-c-preserved
+loop-c-preserved c = let a = c.args in
+    let l = c.loop-i in
+    let k = 8 * c.loop-c.c + l.i in
+    let z : k ≡ 8 * (c.loop-c.c + 1) = omega arith in
+    (omega (arith, l.invariant.0), subst (λ (j : ℕ). Passed a.state a.memory j l.used) z l.invariant.2)
+
+pub returns : goal.returns
+returns c = let l = c.loop-c in
+    let a = c.args in
+    passes a.state a.memory (8 * l.c) l.used (omega arith) l.invariant.1

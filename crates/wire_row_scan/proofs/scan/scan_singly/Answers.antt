@@ -1,0 +1,8 @@
+-- `scan_singly` tells of the words from a bit on: their sum modulo 512, and whether none is protected.
+-- By their tally.
+use Rattle.std.proofs.Common.{◌∙◌, rules}
+use Rattle.wire_row_scan.proofs.scan.scan_singly.Goals as goal
+
+pub returns : goal.returns
+returns c = let t = c.tally_singly.ensures in
+    record { sum_is = c.told.ensures.0 ∙ t.sum_is; clear-is = c.told.ensures.1 ∙ t.clear-is }

@@ -1,0 +1,10 @@
+-- `step` is 1.
+-- By the last word's factor.
+use Rattle.std.proofs.Common.{arith, rules}
+use Rattle.wire_row_writer.proofs.row.step.Goals as goal
+
+pub overflow_cast-result : goal.overflow_cast-result
+overflow_cast-result c = rw (c.requires, c.zero-z.ensures) (omega arith)
+
+pub returns : goal.returns
+returns c = rw (c.requires, c.zero-z.ensures)

@@ -1,0 +1,29 @@
+use Rattle.std.proofs.Common.{◌≡◌, ◌+◌, ◌-◌, ◌*◌, ◌≤◌, length, take, sym, refl, ◌∙◌, arith, rules}
+use Rattle.wire_spec.specs.Bits.{bits, field_bits, row, splice}
+use Rattle.wire_spec.specs.Words.{word_bits}
+use Rattle.wire_spec.proofs.BitLaws.{below_at, length-bits}
+use Rattle.wire_row_writer.proofs.Fields.{none-stored, next-stored, all-stored}
+use Rattle.wire_row_writer.proofs.row.write_singly.Goals as goal
+
+pub loop-k-init : goal.loop-k-init
+loop-k-init c = let a = c.args in
+    (omega arith, refl, none-stored (bits a.octets.now) a.bit a.words.now)
+
+pub store-requires : goal.store-requires
+store-requires c = let a = c.args in
+    let l = c.loop-k in
+    (omega arith, below_at 1024 a.words.now l.k c.requires.1 (omega arith))
+
+pub loop-k-preserved : goal.loop-k-preserved
+loop-k-preserved c = let a = c.args in
+    let l = c.loop-k in
+    let s = c.store in (
+      omega arith,
+      c.store.auto.octets ∙ l.invariant.1,
+      next-stored (bits a.octets.now) a.bit l.k a.words.now (omega (arith, length-bits a.octets.now)) (omega arith) l.invariant.2 c.store.ensures,
+    )
+
+pub returns : goal.returns
+returns c = let l = c.loop-k in
+    let a = c.args in
+    all-stored (bits a.octets.now) a.bit l.k a.words.now (omega arith) l.invariant.2
