@@ -1,3 +1,4 @@
+#![tactic(auto)]
 // The shared outlet (02, K10): each channel gets its turn, and none can fill the outlet for the others.
 //
 // `open`, `offer` and `take` are the entry points. State and memory are the caller's, who hands both on unaltered from call to call.

@@ -1,0 +1,24 @@
+-- `no_stream` tells whether S and StreamNum of each record are zero.
+-- Invariant: the test of the records that were seen, with the test of those that are left, is the test of all.
+use mathlib.Core.Bool.{Bool, true, ◌&&◌, and_assoc, and-true}
+use mathlib.Core.Path.{◌≡◌, refl, ap, sym, ◌∙◌, subst}
+use mathlib.Core.List.{List, [], ◌∷◌}
+use Prim.Native.Nat.{ℕ, ◌+◌, ◌≤◌}
+use native.Mathlib.Omega.{arith}
+use lib.Dec.{eqb}
+use lib.ListN.{get_or, length, length-drop}
+use Rattle.wire_spec.specs.Result.{IsAccepted}
+use Rattle.wire_spec.specs.Anc.{Record}
+use Rattle.wire_spec.specs.Cells.{head_cells, cell_count, cell_record, records_from, clear_from, rest, read_list}
+use Rattle.wire_spec.specs.Writing.{no_stream}
+use Rattle.wire_spec.proofs.ListLaws.{part-all}
+use Rattle.anc_record.proofs.FrontLaws.{rest-is}
+use Rattle.anc_writer.specs.Answers.{list_records}
+use Rattle.anc_writer.proofs.ListFront.{Front, front}
+use Rattle.anc_writer.proofs.check.no_stream.Given as goal
+
+abbrev pub invariant-loop-rest : goal.invariant-loop-rest
+invariant-loop-rest l = IsAccepted (read_list l.rest) × (l.none && no_stream (list_records (read_list l.rest)) ≡ no_stream (list_records (read_list l.cells)))
+
+abbrev pub decreases-loop-rest : goal.decreases-loop-rest
+decreases-loop-rest l = length l.rest

@@ -1,0 +1,12 @@
+-- `is_header_word` tests a word by the table.
+-- By the table's entry for the number that the word carries.
+use borrow.Author.Rules.{rules}
+use mathlib.Core.Path.{ap}
+use Prim.Native.Nat.{ℕ, ◌%◌}
+use native.Mathlib.Omega.{arith}
+use lib.Dec.{eqb}
+use Rattle.wire_spec.specs.Words.{header_numbers}
+use Rattle.sdi_check.proofs.check.is_header_word.Goals as goal
+
+pub returns : goal.returns
+returns c = ap (λ (x : ℕ). eqb c.args.w x) (c.requires.entry (c.args.w % header_numbers) (omega arith))
