@@ -1,3 +1,4 @@
+#![tactic(auto)]
 // Runs of ANC data packets in the tolerant way (02, K9): a record that fails only its checksum is left out and counted.
 //
 // `check_run` is the entry point: it takes any octets. `read_run` writes what `check_run` has accepted, and asks for that. A run that the strict way

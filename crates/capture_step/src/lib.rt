@@ -1,3 +1,4 @@
+#![tactic(auto)]
 // One step over a capture: the item at the front, and where the reading stands behind it.
 //
 // `begin`, `item_at` and `next_state` are the entry points.

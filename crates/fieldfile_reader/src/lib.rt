@@ -1,3 +1,4 @@
+#![tactic(auto)]
 // Field files read (01, "Field file"; 02, K2).
 //
 // `read_field` is the entry point, and `check::check` is `read_field` without the writing.

@@ -1,3 +1,4 @@
+#![tactic(auto)]
 // RTP packets with ANC payload (RFC 3550, section 5.1; RFC 8331): what they say, and the reader.
 //
 // `read_strict` is the strict entry point, and `check::check` is the same without the writing; the tolerant one is `rtp_reader::read` (02, K9). The writer

@@ -1,3 +1,4 @@
+#![tactic(auto)]
 // One item of the SDP format parameters (RFC 8331, sections 3.1 and 4; 01, "SDP parameters"), read from the front of a text.
 //
 // `read_item` is the entry point: it takes any octets.

@@ -1,0 +1,10 @@
+-- `header_size` is the octets of a field's header.
+-- By the version.
+use borrow.Author.Rules.{rules}
+use Rattle.fieldfile_reader.proofs.version.header_size.Goals as goal
+
+pub returns-in-One : goal.returns-in-One
+returns-in-One c = rw c.in-One.is
+
+pub returns-in-Two : goal.returns-in-Two
+returns-in-Two c = rw c.in-Two.is

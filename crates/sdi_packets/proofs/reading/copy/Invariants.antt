@@ -1,0 +1,18 @@
+-- `copy` writes all words of one slice to the first of another, and no other word.
+-- Invariant: the words that are left, written behind those that are, make all of them written.
+use borrow.Author.Rules.{rules}
+use mathlib.Core.Path.{◌≡◌, refl, sym, ◌∙◌}
+use Prim.Native.Nat.{◌≤◌, ◌-◌, ◌+◌}
+use native.Mathlib.Numerals.{add-one}
+use native.Mathlib.Omega.{arith}
+use lib.ListN.{length, drop, length-set}
+use lib.Seq.{drop-cons, drop-length}
+use Rattle.wire_spec.specs.Bits.{overwrite, splice}
+use Rattle.wire_spec.proofs.ListLaws.{splice-set, splice-none}
+use Rattle.sdi_packets.proofs.reading.copy.Given as goal
+
+abbrev pub invariant-loop-k : goal.invariant-loop-k
+invariant-loop-k l = (l.k ≤ length l.from) × (length l.to ≡ length l.initial.to) × (splice l.to l.k (drop l.k l.from) ≡ overwrite l.from l.initial.to)
+
+abbrev pub decreases-loop-k : goal.decreases-loop-k
+decreases-loop-k l = length l.from - l.k

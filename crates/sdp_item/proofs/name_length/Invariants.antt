@@ -1,0 +1,18 @@
+-- `name_length` counts the octets of a name at the front.
+-- Invariant: the octets passed, with the count of what is left, are the whole count.
+use borrow.Author.Rules.{rules}
+use mathlib.Core.Path.{◌≡◌, sym, ◌∙◌}
+use Prim.Native.Nat.{◌≤◌, ◌+◌, ◌-◌}
+use native.Mathlib.Nat.{zero-add}
+use native.Mathlib.Omega.{arith}
+use lib.ListN.{length, drop}
+use borrow.Author.Tests.{not-true, not-false}
+use Rattle.sdp_spec.specs.Reading.{name_length}
+use Rattle.sdp_spec.proofs.ItemLaws.{name-next, name-stops, name-ends}
+use Rattle.sdp_item.proofs.name_length.Given as goal
+
+abbrev pub invariant-loop-i : goal.invariant-loop-i
+invariant-loop-i l = (l.i ≤ length l.text) × (l.i + name_length (drop l.i l.text) ≡ name_length l.text)
+
+abbrev pub decreases-loop-i : goal.decreases-loop-i
+decreases-loop-i l = length l.text - l.i
