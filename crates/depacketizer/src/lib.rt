@@ -1,3 +1,4 @@
+#![tactic(auto)]
 // Fields from packets (01, "The keeper"): the depacketizer's state, and what one arrival does to it.
 //
 // `state::Depacketizer::open` and `state::Depacketizer::arrive` are the entry points. A caller that also needs a

@@ -1,3 +1,4 @@
+#![tactic(auto)]
 // A field file read in turns over the octets at hand (02, K14: files of any length): the head, a field's header, one ANC data packet, or the limits behind
 // the last packet. The records go into a store; past the limits they are only counted, for 21 comes behind 9 to 16.
 ghost use Rattle.std.specs.Prelude.{◌≡◌, ◌+◌, ◌<◌, ◌^◌, length};

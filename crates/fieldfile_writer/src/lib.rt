@@ -1,3 +1,4 @@
+#![tactic(auto)]
 // Field files written (01, "Field file"; 02, K2): version 2.
 //
 // `begin` and `write_field` are the entry points. A refusal leaves the octets to write to as they were.

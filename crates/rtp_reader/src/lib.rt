@@ -1,3 +1,4 @@
+#![tactic(auto)]
 // The packet reader in its default, the tolerant way (02, K9): "a record that fails only its checksum is left out and counted, the rest come through
 // in order".
 //

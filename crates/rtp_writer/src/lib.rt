@@ -1,3 +1,4 @@
+#![tactic(auto)]
 // RTP packets with ANC payload (RFC 3550, section 5.1; RFC 8331) written from records in cells.
 //
 // `write` is the entry point.

@@ -1,3 +1,4 @@
+#![tactic(auto)]
 // Lines of the serial interface (02, K6): ANC data packets in a line of ten-bit words.
 //
 // `write` and `read` are the entry points: they take any line, start and list. They check all before they write anything.

@@ -1,3 +1,4 @@
+#![tactic(auto)]
 // SDP format parameters read (RFC 8331, sections 3.1 and 4; 01, "SDP parameters"): the items checked from left to right, then the pairs written.
 //
 // `read` is the entry point: it takes any octets. The writer is crate `sdp_writer`.

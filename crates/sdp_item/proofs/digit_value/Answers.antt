@@ -15,16 +15,16 @@ pub returns-then-in_range : goal.returns-then-in_range
 unfolding digit_value
 returns-then-in_range c = let h = sym c.in_range.ensures ∙ c.if-in_range.true in rw h
 
-sub-result-2 : tie.Need-overflow-sub-result-2
-sub-result-2 c = let h : (65 ≤ c.before.before.before.before.args.octet) × (c.before.before.before.before.args.octet ≤ 70) = within-true 65 70 _ (sym c.before.in-range2.ensures ∙ c.if2.true) in omega arith
+pub overflow_sub-result-then-in_range-2 : goal.overflow_sub-result-then-in_range-2
+overflow_sub-result-then-in_range-2 c = let h : (65 ≤ c.args.octet) × (c.args.octet ≤ 70) = within-true 65 70 _ (sym c.in_range-2.ensures ∙ c.if-in_range-2.true) in omega arith
 
 pub returns-then-in_range-2 : goal.returns-then-in_range-2
 unfolding digit_value
 returns-then-in_range-2 c = let h1 = sym c.in_range.ensures ∙ c.if-in_range.false in
     let h2 = sym c.in_range-2.ensures ∙ c.if-in_range-2.true in rw (h1, h2)
 
-sub-result-3 : tie.Need-overflow-sub-result-3
-sub-result-3 c = let h : (97 ≤ c.before.before.before.before.before.before.args.octet) × (c.before.before.before.before.before.before.args.octet ≤ 102) = within-true 97 102 _ (sym c.before.in-range3.ensures ∙ c.if3.true) in omega arith
+pub overflow_sub-result-then-in_range-3 : goal.overflow_sub-result-then-in_range-3
+overflow_sub-result-then-in_range-3 c = let h : (97 ≤ c.args.octet) × (c.args.octet ≤ 102) = within-true 97 102 _ (sym c.in_range-3.ensures ∙ c.if-in_range-3.true) in omega arith
 
 pub returns-then-in_range-3 : goal.returns-then-in_range-3
 unfolding digit_value
