@@ -1,3 +1,4 @@
+#![tactic(auto)]
 // The raster order of the records of a packet (02, K12): each record's header tells a plain line and offset from the special values.
 ghost use Rattle.std.specs.Prelude.{◌≡◌};
 ghost use Rattle.wire_spec.specs.Cells.{read_list};

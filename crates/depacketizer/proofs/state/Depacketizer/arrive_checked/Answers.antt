@@ -27,6 +27,7 @@ use Rattle.depacketizer.proofs.AdmitLaws.{admits, inspected-packet, is_fresh, pa
 use Rattle.depacketizer.proofs.DecideLaws.{Sound}
 use Rattle.depacketizer.proofs.ArriveLaws.{refused-step, fresh-sound, fresh_step, fresh-room}
 use Rattle.depacketizer.proofs.state.Depacketizer.arrive_checked.Goals as goal
+use Rattle.depacketizer.proofs.state.Depacketizer.arrive_checked.Goals.{then-decision, else-decision}
 
 kept : (b : Bool) (l : List ℕ) (at : ℕ) (x : List ℕ) → (b ≡ true → at + length x ≤ length l) → length (cond b (splice l at x) l) ≡ length l
 kept true l at x h = length-splice l at x (h refl)
@@ -42,11 +43,10 @@ returns-in_default c = let let-pass : let a = c.args in c.admit-admitted.result 
     rw (c.refusal.ensures, c.in_default.is) (record { value = ap arrival_of (sym e); store_after = ap (λ (x : Step). x.store) (sym e) })
 
 -- one that is not fresh
-unfresh : (f : Freshness) → (tag_of the_type f ≡ 0) ⊎ (tag_of the_type f ≡ 1) → is_fresh f ≡ false
+unfresh : (f : Freshness) → ((m : ℕ) (n : Bool) (x : State) → f ≡ freshness.Fresh m n x → ⊥) → is_fresh f ≡ false
 unfresh freshness.Late h = refl
 unfresh freshness.Far h = refl
-unfresh (freshness.Fresh m n x) (inl e) = absurd (omega arith)
-unfresh (freshness.Fresh m n x) (inr e) = absurd (omega arith)
+unfresh (freshness.Fresh m n x) h = absurd (h m n x refl)
 
 pub returns-in_default-freshness : goal.returns-in_default-freshness
 returns-in_default-freshness c = let let-pass : let a = c.args in c.admit-admitted.result ≡ inspected_of a.layout a.octets.now (admission a.self.state a.layout (length a.store.now) a.octets.now) = let a = c.args in
@@ -64,7 +64,7 @@ returns-in_default-freshness c = let let-pass : let a = c.args in c.admit-admitt
     let f = c.place-freshness.result in
     let q = c.place-freshness.ensures ∙ ap (λ (x : ℕ). freshness_of a.self.state.heard a.self.state x) (number_is) in
     let e = step-admitted a.self.state a.layout a.octets.now a.store.now k (says).reads in
-    let r = packet-refused a.self.state k a.store.now a.self.state.heard (ap is_fresh (sym q) ∙ unfresh f c.in_default-freshness.keys2) in record {
+    let r = packet-refused a.self.state k a.store.now a.self.state.heard (ap is_fresh (sym q) ∙ unfresh f c.in_default-freshness.not-Fresh) in record {
       value = c.refuse.ensures
           ∙ (λ i. refused_of (q i) a.self.state (number_is i))
           ∙ sym r.0
@@ -230,12 +230,11 @@ shape_of-store c = let let-pass : let a = c.args in c.admit-admitted.result ≡ 
     (from) (placed) c.decide-decision.result (decided) in
     let written : let a = c.args in c.if-decision.store ≡ cond c.decide-decision.result.append (splice a.store.now (from).cells (list_in (from).packets (says).says.records)) a.store.now = let a = c.args in
     let x = list_in (from).packets (says).says.records in
-    ⊎_elim
-    (λ w.
-    w.6 ∙ part-written (from).cells a.store.now x _ (w.3.ensures ∙ ap (λ (r : Result Content). cells_after_in (from).packets r (take (length a.store.now - (from).cells) (drop (from).cells a.store.now))) (passes).1)
-    ∙ ap (λ (b : Bool). cond b (splice a.store.now (from).cells x) a.store.now) (sym w.0.taken))
-    (λ w. w.1 ∙ ap (λ (b : Bool). cond b (splice a.store.now (from).cells x) a.store.now) (sym w.0.left))
-    c.if-decision.branch in
+    elim c.if-decision.branch [
+      then-decision w ↦ w.store-is ∙ part-written (from).cells a.store.now x _ (w.read_records.ensures ∙ ap (λ (r : Result Content). cells_after_in (from).packets r (take (length a.store.now - (from).cells) (drop (from).cells a.store.now))) (passes).1)
+    ∙ ap (λ (b : Bool). cond b (splice a.store.now (from).cells x) a.store.now) (sym w.if-decision.true)
+    | else-decision w ↦ w.store-is ∙ ap (λ (b : Bool). cond b (splice a.store.now (from).cells x) a.store.now) (sym w.if-decision.false)
+    ] in
     let same_size : length c.if-decision.store ≡ length c.args.store.now = let a = c.args in
     let rs = (says).says.records in
     let n = (from).packets in
@@ -267,12 +266,11 @@ returns c = let let-pass : let a = c.args in c.admit-admitted.result ≡ inspect
     (from) (placed) c.decide-decision.result (decided) in
     let written : let a = c.args in c.if-decision.store ≡ cond c.decide-decision.result.append (splice a.store.now (from).cells (list_in (from).packets (says).says.records)) a.store.now = let a = c.args in
     let x = list_in (from).packets (says).says.records in
-    ⊎_elim
-    (λ w.
-    w.6 ∙ part-written (from).cells a.store.now x _ (w.3.ensures ∙ ap (λ (r : Result Content). cells_after_in (from).packets r (take (length a.store.now - (from).cells) (drop (from).cells a.store.now))) (passes).1)
-    ∙ ap (λ (b : Bool). cond b (splice a.store.now (from).cells x) a.store.now) (sym w.0.taken))
-    (λ w. w.1 ∙ ap (λ (b : Bool). cond b (splice a.store.now (from).cells x) a.store.now) (sym w.0.left))
-    c.if-decision.branch in
+    elim c.if-decision.branch [
+      then-decision w ↦ w.store-is ∙ part-written (from).cells a.store.now x _ (w.read_records.ensures ∙ ap (λ (r : Result Content). cells_after_in (from).packets r (take (length a.store.now - (from).cells) (drop (from).cells a.store.now))) (passes).1)
+    ∙ ap (λ (b : Bool). cond b (splice a.store.now (from).cells x) a.store.now) (sym w.if-decision.true)
+    | else-decision w ↦ w.store-is ∙ ap (λ (b : Bool). cond b (splice a.store.now (from).cells x) a.store.now) (sym w.if-decision.false)
+    ] in
     let a = c.args in
     let e = ap (λ (x : ℕ). after_of (from) x c.decide-decision.result c.in-Fresh.missing) (number_is) in
     record { value = (λ i. record { state = record { state = (c.after.ensures ∙ e) i }; answer = c.decide-decision.result.answer }) ∙ ap arrival_of (sym (stepped)); store_after = written ∙ ap (λ (x : Step). x.store) (sym (stepped)) }

@@ -13,8 +13,7 @@ use Rattle.sdp_spec.specs.declared.item.Item.TheVariants.{DidSdid}
 use Rattle.sdp_spec.specs.declared.item.Item.{Item}
 use Rattle.sdp_reader.specs.Answers.{item_pairs}
 use Rattle.text.proofs.LeftLaws.{set-two}
-use Rattle.sdp_reader.proofs.store_item.Statement.{statement}
-use Rattle.sdp_reader.proofs.store_item.Tie as tie
+use Rattle.sdp_reader.proofs.store_item.Goals as goal
 
 room : (x y : Item) (to n : ℕ) → x ≡ y → to + length (item_pairs x) ≤ n → to + length (item_pairs y) ≤ n
 room x y to n e h = subst (λ (z : Item). to + length (item_pairs z) ≤ n) e h
@@ -28,26 +27,20 @@ pair : (x : Item) (did sdid to : ℕ) (l : List ℕ) → x ≡ DidSdid did sdid 
     → (to + 2 ≡ to + length (item_pairs x)) × (set (set l to did) (to + 1) sdid ≡ splice l to (item_pairs x))
 pair x did sdid to l e h = let k = room x (DidSdid did sdid) to (length l) e h in rw e (refl, set-two l to did sdid (omega arith))
 
-slice-write-pairs : tie.Need-slice-write-pairs
-slice-write-pairs c = let h = room _ _ _ _ c.before.item.given.1 c.before.before.before.requires in omega (arith, h)
+pub bounds-pairs-to : goal.bounds-pairs-to
+bounds-pairs-to c = let h = room _ _ _ _ c.in-DidSdid.is c.requires in omega (arith, h)
 
-slice-write-pairs-2 : tie.Need-slice-write-pairs-2
-slice-write-pairs-2 c = let h = room _ _ _ _ c.before.item.given.1 c.before.before.before.requires in simp length-set (omega (arith, h))
+pub bounds-pairs-to-in-DidSdid : goal.bounds-pairs-to-in-DidSdid
+bounds-pairs-to-in-DidSdid c = let h = room _ _ _ _ c.in-DidSdid.is c.requires in simp length-set (omega (arith, h))
 
-returns : tie.Need-returns
-returns c = pair c.before.before.before.args.item _ _ _ _ c.before.item.given.1 c.before.before.before.requires
+pub returns-in-DidSdid : goal.returns-in-DidSdid
+returns-in-DidSdid c = pair c.args.item _ _ _ _ c.in-DidSdid.is c.requires
 
-returns-2 : tie.Need-returns-2
-returns-2 c = unchanged c.before.before.args.item _ _ (ap item_pairs c.enum_told.given.1)
+pub returns-in-VpidCode : goal.returns-in-VpidCode
+returns-in-VpidCode c = unchanged c.args.item _ _ (ap item_pairs c.in-VpidCode.is)
 
-returns-3 : tie.Need-returns-3
-returns-3 c = unchanged c.before.before.args.item _ _ (ap item_pairs c.enum-told2.given.1)
+pub returns-in-Other : goal.returns-in-Other
+returns-in-Other c = unchanged c.args.item _ _ (ap item_pairs c.in-Other.is)
 
-returns-4 : tie.Need-returns-4
-returns-4 c = unchanged c.before.before.args.item _ _ (ap item_pairs c.enum-told3.given.1)
-
-pub store-item-spec : {M : Type 1} → statement M
-store-item-spec =
-    tie.close
-    (tie.spec (λ c. search rules) slice-write-pairs (λ c. search rules) slice-write-pairs-2 (λ c. search rules) (λ c. search rules)
-    (λ c. search rules) (λ c. search rules) (λ c. search rules) returns returns-2 returns-3 returns-4)
+pub returns-in-Malformed : goal.returns-in-Malformed
+returns-in-Malformed c = unchanged c.args.item _ _ (ap item_pairs c.in-Malformed.is)

@@ -19,8 +19,7 @@ use Rattle.sdp_reader.specs.declared.Reading.{Reading}
 use Rattle.sdp_reader.specs.declared.Reading.TheVariants as reading
 use Rattle.sdp_reader.specs.Answers.{reading_of, content_reading, content_pairs}
 use Rattle.sdp_reader.proofs.GatherLaws.{reading-accepted, reading-refused}
-use Rattle.sdp_reader.proofs.read.Statement.{statement}
-use Rattle.sdp_reader.proofs.read.Tie as tie
+use Rattle.sdp_reader.proofs.read.Goals as goal
 
 -- the answer, and the octets of the pairs
 abbrev Answers : Reading → List ℕ → List ℕ → List ℕ → Type 0
@@ -62,26 +61,17 @@ module _ (s old : List ℕ) (short : length s ≤ max_text) where
     all : p.pairs ≤ length old / 2 → (new : List ℕ) → new ≡ overwrite (pairs_of (items s)) old → Answers (reading.Accepted p) s new old
     all h new e = let a = answers s old _ (content h) in (counted ∙ a.0, e ∙ a.1)
 
-returns : tie.Need-returns
-returns c = rw c.refuse.ensures (answers c.before.before.before.before.args.text.now c.before.before.before.before.args.pairs.now _ (too_long c.before.before.before.before.args.text.now c.before.before.before.before.args.pairs.now c.before.if1.true))
+pub returns-then-text-gt-MAX_TEXT : goal.returns-then-text-gt-MAX_TEXT
+returns-then-text-gt-MAX_TEXT c = rw c.refuse.ensures (answers c.args.text.now c.args.pairs.now _ (too_long c.args.text.now c.args.pairs.now c.if-text-gt-MAX_TEXT.true))
 
-returns-2 : tie.Need-returns-2
-returns-2 c =
-    let e = c.before.before.check-items.ensures in
-    let x = c.enum_told.given.1 in
-    rw x (answers c.before.before.before.before.before.before.args.text.now c.before.before.before.before.before.before.args.pairs.now _ (offends c.before.before.before.before.before.before.args.text.now c.before.before.before.before.before.before.args.pairs.now c.before.before.before.if1.false _ (sym e ∙ x)))
+pub returns-in_default : goal.returns-in_default
+returns-in_default c = rw c.in_default.is (answers c.args.text.now c.args.pairs.now _ (offends c.args.text.now c.args.pairs.now c.if-text-gt-MAX_TEXT.false _ (sym c.check_items-reading.ensures ∙ c.in_default.is)))
 
-returns-3 : tie.Need-returns-3
-returns-3 c = rw c.refuse2.ensures (answers c.before.before.before.before.before.before.before.before.before.before.args.text.now c.before.before.before.before.before.before.before.before.before.before.args.pairs.now _ (no_room c.before.before.before.before.before.before.before.before.before.before.args.text.now c.before.before.before.before.before.before.before.before.before.before.args.pairs.now c.before.before.before.before.before.before.before.if1.false _ (sym c.before.before.before.before.before.before.check-items.ensures ∙ c.before.before.before.before.reading.given.1) c.before.if2.true))
+pub returns-then-pairs-parameters : goal.returns-then-pairs-parameters
+returns-then-pairs-parameters c = rw c.refuse-then-pairs-parameters.ensures (answers c.args.text.now c.args.pairs.now _ (no_room c.args.text.now c.args.pairs.now c.if-text-gt-MAX_TEXT.false _ (sym c.check_items-reading.ensures ∙ c.in-Accepted.is) c.if-pairs-parameters.true))
 
-store-pairs-requires : tie.Need-store-pairs-requires
-store-pairs-requires c κs = fits c.before.before.before.before.before.before.before.before.before.before.args.text.now c.before.before.before.before.before.before.before.before.before.before.args.pairs.now c.before.before.before.before.before.before.before.if1.false _ (sym c.before.before.before.before.before.before.check-items.ensures ∙ c.before.before.before.before.reading.given.1) c.before.if2.false
+pub store_pairs-requires : goal.store_pairs-requires
+store_pairs-requires c = fits c.args.text.now c.args.pairs.now c.if-text-gt-MAX_TEXT.false _ (sym c.check_items-reading.ensures ∙ c.in-Accepted.is) c.if-pairs-parameters.false
 
-returns-4 : tie.Need-returns-4
-returns-4 c = all c.before.before.before.before.before.before.before.before.before.before.before.before.before.args.text.now c.before.before.before.before.before.before.before.before.before.before.before.before.before.args.pairs.now c.before.before.before.before.before.before.before.before.before.before.if1.false _ (sym c.before.before.before.before.before.before.before.before.before.check-items.ensures ∙ c.before.before.before.before.before.before.before.reading.given.1) c.before.before.before.before.if2.false _ c.before.before.store-pairs.ensures
-
-pub read_spec : {M : Type 1} → statement M
-read_spec =
-    tie.close
-    (tie.spec (λ c κs. search rules) returns (λ c κs. search rules) (λ c. search rules) (λ c. search rules) returns-2 (λ c κs. search rules) returns-3
-    store-pairs-requires (λ c. search rules) returns-4)
+pub returns : goal.returns
+returns c = let both = all c.args.text.now c.args.pairs.now c.if-text-gt-MAX_TEXT.false _ (sym c.check_items-reading.ensures ∙ c.in-Accepted.is) c.if-pairs-parameters.false _ c.store_pairs.ensures in record { value = both.0; pairs_after = both.1 }

@@ -14,8 +14,7 @@ use Rattle.sdp_spec.specs.declared.item.Item.{Item}
 use Rattle.sdp_spec.specs.Reading.{item_of, skip_spaces, front, next}
 use Rattle.sdp_spec.proofs.CutLaws.{front-take, front-inside, next-none}
 use Rattle.sdp_reader.specs.Answers.{Stepped}
-use Rattle.sdp_reader.proofs.next_item.Statement.{statement}
-use Rattle.sdp_reader.proofs.next_item.Tie as tie
+use Rattle.sdp_reader.proofs.next_item.Goals as goal
 
 module _ (s : List ℕ) (n : ℕ) (x : Item) (same : n ≡ length (front s)) (item : x ≡ item_of (take n s)) where
   inside : n ≤ length s
@@ -58,29 +57,23 @@ module _ (s : List ℕ) (n : ℕ) (x : Item) (same : n ≡ length (front s)) (it
               ∙ ap (λ (m : ℕ). skip_spaces (drop (m + 1) s)) same;
         }
 
-slice-aggregate-read-item : tie.Need-slice-aggregate-read-item
-slice-aggregate-read-item c = sym (length-take-le c.before.front_length.result c.before.before.before.args.text.now (let e = c.before.front_length.ensures in omega (arith, front-inside c.before.before.before.args.text.now)))
+pub slice_bounds-read_item-end : goal.slice_bounds-read_item-end
+slice_bounds-read_item-end c = sym (length-take-le c.front_length-n.result c.args.text.now (omega (arith, front-inside c.args.text.now)))
 
-returns : tie.Need-returns
-returns c = last _ _ _ c.before.before.before.front_length.ensures c.before.read-item.ensures c.if1.true
+pub returns-then-n-text : goal.returns-then-n-text
+returns-then-n-text c = last _ _ _ c.front_length-n.ensures c.read_item-item.ensures c.if-n-text.true
 
-add_start : tie.Need-overflow-add-start
-add_start c = let b = below _ _ _ c.before.before.before.front_length.ensures c.before.read-item.ensures c.if1.false in omega arith
+pub overflow_add-start : goal.overflow_add-start
+overflow_add-start c = let b = below _ _ _ c.front_length-n.ensures c.read_item-item.ensures c.if-n-text.false in omega arith
 
-sub-spaces : tie.Need-overflow-sub-spaces
-sub-spaces c = below _ _ _ c.before.before.before.front_length.ensures c.before.read-item.ensures c.if1.false
+pub slice_bounds-spaces-count : goal.slice_bounds-spaces-count
+slice_bounds-spaces-count c = below _ _ _ c.front_length-n.ensures c.read_item-item.ensures c.if-n-text.false
 
-part-spaces-start : tie.Need-slice-bounds-spaces-start
-part-spaces-start c = below _ _ _ c.before.before.before.front_length.ensures c.before.read-item.ensures c.if1.false
+pub slice_bounds-spaces-start : goal.slice_bounds-spaces-start
+slice_bounds-spaces-start c = below _ _ _ c.front_length-n.ensures c.read_item-item.ensures c.if-n-text.false
 
-add-used : tie.Need-overflow-add-used
-add-used c = let b = below c.before.before.before.before.before.before.before.args.text.now _ _ c.before.before.before.before.before.front_length.ensures c.before.before.before.read-item.ensures c.before.before.if1.false in omega (arith, part_length c.before.before.before.before.before.before.before.args.text.now _ _ c.before.before.before.before.before.front_length.ensures c.before.before.before.read-item.ensures c.before.before.if1.false, c.spaces.ensures.0)
+pub overflow_add-used : goal.overflow_add-used
+overflow_add-used c = let b = below c.args.text.now _ _ c.front_length-n.ensures c.read_item-item.ensures c.if-n-text.false in omega (arith, part_length c.args.text.now _ _ c.front_length-n.ensures c.read_item-item.ensures c.if-n-text.false, c.spaces.ensures.0)
 
-returns-2 : tie.Need-returns-2
-returns-2 c = another _ _ _ c.before.before.before.before.before.front_length.ensures c.before.before.before.read-item.ensures c.before.before.if1.false _ c.spaces.ensures.0 c.spaces.ensures.1
-
-pub next-item-spec : {M : Type 1} → statement M
-next-item-spec =
-    tie.close
-    (tie.spec (λ c κs. search rules) slice-aggregate-read-item (λ c κs. search rules) returns add_start sub-spaces part-spaces-start
-    (λ c. search rules) (λ c κs. search rules) add-used returns-2)
+pub returns : goal.returns
+returns c = another _ _ _ c.front_length-n.ensures c.read_item-item.ensures c.if-n-text.false _ c.spaces.ensures.0 c.spaces.ensures.1
