@@ -1,3 +1,4 @@
+#![tactic(auto)]
 // The C boundary (include/jibhotran.h) of the depacketizer, its state in a row of numbers that the caller
 // keeps.
 //

@@ -1,3 +1,4 @@
+#![tactic(auto)]
 // A field that was gathered, sent on in the packets that it arrived in (02, K13): which cells of its list came in which packet.
 //
 // `packet_cells` is the entry point: it takes any cells. A packet of the field is what `rtp_writer::write` makes of these cells, of no cells

@@ -1,3 +1,4 @@
+#![tactic(auto)]
 // The line of a record (01, "`fieldlist`"), from its header and its words. A line of n words takes at most 20 octets for each of its 8 + n cells.
 ghost use Rattle.std.specs.Prelude.{◌+◌, ◌*◌, ◌^◌, ◌≤◌, [], ◌≡◌, length};
 ghost use Rattle.wire_spec.specs.Bits.{Below, bit};
