@@ -3,6 +3,7 @@
 // Each channel holds four packets, in the first four of its eight places.
 use egress_spec::state::{CHANNELS, SLOT, SLOTS, State, TakeAnswer};
 use example_printing::{number, print};
+use std::io::Stdout;
 use wire_spec::refusal::Refusal;
 
 fn half_held() -> State {
@@ -34,11 +35,11 @@ fn is_unsound(state: State, memory: &[u8]) -> bool {
     }
 }
 
-fn mark(state: State, memory: &[u8]) {
+fn mark(stdout: Stdout, state: State, memory: &[u8]) {
     if is_unsound(state, memory) {
-        print(b"x");
+        print(stdout, b"x");
     } else {
-        print(b".");
+        print(stdout, b".");
     }
 }
 
@@ -79,69 +80,76 @@ fn changed(which: Which, k: usize, value: u16) -> State {
     state
 }
 
-fn try_number(label: &[u8], which: Which, value: u16, places: usize, memory: &[u8]) {
-    number(label, value as u64);
-    print(b" ");
+fn try_number(
+    stdout: Stdout,
+    label: &[u8],
+    which: Which,
+    value: u16,
+    places: usize,
+    memory: &[u8],
+) {
+    number(stdout, label, value as u64);
+    print(stdout, b" ");
     let mut k: usize = 0;
     while k < places {
-        mark(changed(which, k, value), memory);
+        mark(stdout, changed(which, k, value), memory);
         k += 1;
     }
-    print(b"\n");
+    print(stdout, b"\n");
 }
 
-fn try_next(next: u8, memory: &[u8]) {
-    number(b"next ", next as u64);
-    print(b" ");
+fn try_next(stdout: Stdout, next: u8, memory: &[u8]) {
+    number(stdout, b"next ", next as u64);
+    print(stdout, b" ");
     let mut state = half_held();
     state.next = next;
-    mark(state, memory);
-    print(b"\n");
+    mark(stdout, state, memory);
+    print(stdout, b"\n");
 }
 
-fn try_head(head: u16, memory: &[u8]) {
-    try_number(b"head ", Which::Head, head, CHANNELS, memory);
+fn try_head(stdout: Stdout, head: u16, memory: &[u8]) {
+    try_number(stdout, b"head ", Which::Head, head, CHANNELS, memory);
 }
 
-fn try_count(count: u16, memory: &[u8]) {
-    try_number(b"count ", Which::Count, count, CHANNELS, memory);
+fn try_count(stdout: Stdout, count: u16, memory: &[u8]) {
+    try_number(stdout, b"count ", Which::Count, count, CHANNELS, memory);
 }
 
-fn try_slot(slot: u16, memory: &[u8]) {
-    try_number(b"slot ", Which::Slot, slot, SLOTS, memory);
+fn try_slot(stdout: Stdout, slot: u16, memory: &[u8]) {
+    try_number(stdout, b"slot ", Which::Slot, slot, SLOTS, memory);
 }
 
-fn try_length(length: u16, memory: &[u8]) {
-    try_number(b"length ", Which::Length, length, SLOTS, memory);
+fn try_length(stdout: Stdout, length: u16, memory: &[u8]) {
+    try_number(stdout, b"length ", Which::Length, length, SLOTS, memory);
 }
 
-fn show_channels(memory: &[u8]) {
-    try_head(0, memory);
-    try_head(7, memory);
-    try_head(8, memory);
-    try_head(255, memory);
-    try_count(0, memory);
-    try_count(8, memory);
-    try_count(9, memory);
-    try_count(255, memory);
-    try_next(0, memory);
-    try_next(7, memory);
-    try_next(8, memory);
-    try_next(255, memory);
+fn show_channels(stdout: Stdout, memory: &[u8]) {
+    try_head(stdout, 0, memory);
+    try_head(stdout, 7, memory);
+    try_head(stdout, 8, memory);
+    try_head(stdout, 255, memory);
+    try_count(stdout, 0, memory);
+    try_count(stdout, 8, memory);
+    try_count(stdout, 9, memory);
+    try_count(stdout, 255, memory);
+    try_next(stdout, 0, memory);
+    try_next(stdout, 7, memory);
+    try_next(stdout, 8, memory);
+    try_next(stdout, 255, memory);
 }
 
-fn show_places(memory: &[u8]) {
-    try_slot(63, memory);
-    try_slot(64, memory);
-    try_slot(255, memory);
-    try_length(0, memory);
-    try_length(1, memory);
-    try_length(1024, memory);
-    try_length(1025, memory);
-    try_length(65535, memory);
+fn show_places(stdout: Stdout, memory: &[u8]) {
+    try_slot(stdout, 63, memory);
+    try_slot(stdout, 64, memory);
+    try_slot(stdout, 255, memory);
+    try_length(stdout, 0, memory);
+    try_length(stdout, 1, memory);
+    try_length(stdout, 1024, memory);
+    try_length(stdout, 1025, memory);
+    try_length(stdout, 65535, memory);
 }
 
-pub(crate) fn show(memory: &[u8]) {
-    show_channels(memory);
-    show_places(memory);
+pub(crate) fn show(stdout: Stdout, memory: &[u8]) {
+    show_channels(stdout, memory);
+    show_places(stdout, memory);
 }

@@ -1,3 +1,4 @@
+#![tactic(auto)]
 // Fields that were gathered, sent on in the packets that they arrived in (02, K13). Nine packets arrive: a marked one, and then three fields, with a
 // packet without records first, between and last. Each field that is whole is sent on, by the answer and the store alone: packet k has the
 // records with index k, and the last packet is marked. A line each: the answer to an arrival, and the octets of a packet sent on and whether
@@ -10,6 +11,7 @@ use depacketizer_forward::packet_cells;
 use depacketizer_spec::state::{Answer, Field};
 use example_printing::{number, print, print_octets, print_refusal};
 use rtp_strict_reader::packet::Head;
+use std::io::Stdout;
 use wire_spec::layout::Layout;
 use wire_spec::number::{PacketNumber, Timestamp};
 use wire_spec::written::Written;
@@ -53,18 +55,18 @@ fn head(packet: u32, marker: bool, time: Timestamp, f: u8) -> Head {
 }
 
 // The octets written, or 0.
-fn size_of(written: Written) -> usize {
+fn size_of(stdout: Stdout, written: Written) -> usize {
     match written {
         Written::Octets(size) => size.0,
         Written::Refused(refusal) => {
-            print_refusal(refusal);
+            print_refusal(stdout, refusal);
             0
         }
     }
 }
 
 // Writes packet `k` as it is sent first. The index in its cells is not written. Record A has no words, so its cells are those before them.
-fn make(k: usize, out: &mut [u8]) -> usize
+fn make(stdout: Stdout, k: usize, out: &mut [u8]) -> usize
     requires { k < 9 }
 {
     let both = BOTH;
@@ -74,15 +76,21 @@ fn make(k: usize, out: &mut [u8]) -> usize
     let rfc = Layout::Rfc8331;
     let head = head(FIRST + (k as u32), last[k], Timestamp(field[k]), 2);
     if records[k] == NONE {
-        return size_of(rtp_writer::write(rfc, head, &both[..0], out));
+        return size_of(stdout, rtp_writer::write(rfc, head, &both[..0], out));
     }
     if records[k] == ONLY_A {
-        return size_of(rtp_writer::write(rfc, head, &both[..Header::CELLS], out));
+        return size_of(
+            stdout,
+            rtp_writer::write(rfc, head, &both[..Header::CELLS], out),
+        );
     }
     if records[k] == ONLY_B {
-        return size_of(rtp_writer::write(rfc, head, &both[Header::CELLS..], out));
+        return size_of(
+            stdout,
+            rtp_writer::write(rfc, head, &both[Header::CELLS..], out),
+        );
     }
-    size_of(rtp_writer::write(rfc, head, &both, out))
+    size_of(stdout, rtp_writer::write(rfc, head, &both, out))
 }
 
 fn same(a: &[u8], b: &[u8]) -> bool {
@@ -100,23 +108,23 @@ fn same(a: &[u8], b: &[u8]) -> bool {
 }
 
 // Prints a packet that is sent on, and whether it is packet `k` as it arrived.
-fn compare(sent: &[u8], k: usize) {
-    print_octets(sent);
+fn compare(stdout: Stdout, sent: &[u8], k: usize) {
+    print_octets(stdout, sent);
     if k < PACKETS {
         let mut arrived = [0u8; ROOM];
-        let n = make(k, &mut arrived);
+        let n = make(stdout, k, &mut arrived);
         if n <= ROOM {
             if same(sent, &arrived[..n]) {
-                print(b"as it arrived\n");
+                print(stdout, b"as it arrived\n");
                 return;
             }
         }
     }
-    print(b"otherwise\n");
+    print(stdout, b"otherwise\n");
 }
 
 // Sends packet `index` of a field on, whose first packet was `first`, from the cells behind those of the packets before it; the cells that it has.
-fn send_on(field: Field, first: usize, index: u16, cells: &[u16]) -> usize
+fn send_on(stdout: Stdout, field: Field, first: usize, index: u16, cells: &[u16]) -> usize
     requires { first < 9 }
 {
     let n = packet_cells(cells, index);
@@ -127,15 +135,18 @@ fn send_on(field: Field, first: usize, index: u16, cells: &[u16]) -> usize
     let marker = (index as usize) + 1 == field.packets;
     let head = head(FIRST + (k as u32), marker, field.timestamp, field.f);
     let mut out = [0u8; ROOM];
-    let size = size_of(rtp_writer::write(Layout::Rfc8331, head, &cells[..n], &mut out));
+    let size = size_of(
+        stdout,
+        rtp_writer::write(Layout::Rfc8331, head, &cells[..n], &mut out),
+    );
     if size <= ROOM {
-        compare(&out[..size], k);
+        compare(stdout, &out[..size], k);
     }
     n
 }
 
 // Sends the field on that the last of its packets, `k`, made whole.
-fn forward_field(field: Field, k: usize, store: &[u16])
+fn forward_field(stdout: Stdout, field: Field, k: usize, store: &[u16])
     requires { k < 9 }
 {
     if field.packets > k {
@@ -145,7 +156,7 @@ fn forward_field(field: Field, k: usize, store: &[u16])
     let mut rest = store;
     let mut index: u16 = 0;
     while (index as usize) < field.packets {
-        let n = send_on(field, first, index, rest);
+        let n = send_on(stdout, field, first, index, rest);
         if n > rest.len() {
             return;
         }
@@ -155,48 +166,49 @@ fn forward_field(field: Field, k: usize, store: &[u16])
 }
 
 // Prints the answer to packet `k`, and sends a whole field on.
-fn answer_to(k: usize, answer: Answer, store: &[u16])
+fn answer_to(stdout: Stdout, k: usize, answer: Answer, store: &[u16])
     requires { k < 9 }
 {
-    number(b"", FIRST as u64 + k as u64);
+    number(stdout, b"", FIRST as u64 + k as u64);
     match answer {
-        Answer::Skipped => print(b" skipped\n"),
-        Answer::Held => print(b" held\n"),
-        Answer::Mixed => print(b" mixed\n"),
-        Answer::Overfull => print(b" overfull\n"),
+        Answer::Skipped => print(stdout, b" skipped\n"),
+        Answer::Held => print(stdout, b" held\n"),
+        Answer::Mixed => print(stdout, b" mixed\n"),
+        Answer::Overfull => print(stdout, b" overfull\n"),
         Answer::Refused(refusal) => {
-            print(b" ");
-            print_refusal(refusal);
+            print(stdout, b" ");
+            print_refusal(stdout, refusal);
         }
         Answer::Whole(field) => {
             let cells = field.cells;
-            number(b" whole records=", field.records as u64);
-            number(b" cells=", cells as u64);
-            number(b" packets=", field.packets as u64);
-            print(b"\n");
+            number(stdout, b" whole records=", field.records as u64);
+            number(stdout, b" cells=", cells as u64);
+            number(stdout, b" packets=", field.packets as u64);
+            print(stdout, b"\n");
             if cells <= store.len() {
-                forward_field(field, k, &store[..cells]);
+                forward_field(stdout, field, k, &store[..cells]);
             }
         }
     }
 }
 
 // Packet `k` arrives.
-fn arrive(state: Depacketizer, k: usize, store: &mut [u16]) -> Depacketizer
+fn arrive(stdout: Stdout, state: Depacketizer, k: usize, store: &mut [u16]) -> Depacketizer
     requires { k < 9 }
 {
     let mut octets = [0u8; ROOM];
-    let n = make(k, &mut octets);
+    let n = make(stdout, k, &mut octets);
     if n > ROOM {
         return state;
     }
     let arrival = state.arrive(Layout::Rfc8331, &octets[..n], store);
     let answer = arrival.answer;
-    answer_to(k, answer, store);
+    answer_to(stdout, k, answer, store);
     arrival.state
 }
 
-fn main() {
+fn main(rt: HostRuntime) {
+    let stdout = rt.stdout();
     let opened = Depacketizer::open(1, 112);
     let Opened::Open(depacketizer) = opened else {
         return;
@@ -205,7 +217,7 @@ fn main() {
     let mut store = [0u16; 64];
     let mut k: usize = 0;
     while k < PACKETS {
-        now = arrive(now, k, &mut store);
+        now = arrive(stdout, now, k, &mut store);
         k += 1;
     }
 }

@@ -1,3 +1,4 @@
+#![tactic(auto)]
 // Runs the cases of 01, "Marked examples", that are run only, through the entry points of `rtp_strict_reader` and `rtp_writer`. A line each, as
 // the second program prints them (reference/src/bin/runs.rs): a name, and `written OCTETS read RECORDS CELLS SUM`,
 // `read RECORDS CELLS SUM` or `refused NUMBER INDEX`.
@@ -6,7 +7,7 @@ ghost use Rattle.std.specs.Prelude.{◌<◌};
 use anc_record::header::Header;
 use example_printing::{number, print, print_refusal};
 use rtp_strict_reader::packet::{Head, Read};
-use std::num::wrapping_add_u16;
+use std::io::Stdout;
 use wire_spec::layout::{FRONT_SIZE, LEAST_CLEAR, Layout, MOST_CLEAR};
 use wire_spec::limit::{MAX_CELLS, MAX_PACKET, MAX_RECORDS};
 use wire_spec::number::{PacketNumber, Timestamp};
@@ -28,9 +29,9 @@ const LONG_CELLS: usize = Header::CELLS + MAX_WORDS;
 // How many words are not protected.
 const CLEAR_WORDS: usize = (MOST_CLEAR - LEAST_CLEAR + 1) as usize;
 
-fn name(label: &[u8], n: u64) {
-    number(label, n);
-    print(b": ");
+fn name(stdout: Stdout, label: &[u8], n: u64) {
+    number(stdout, label, n);
+    print(stdout, b": ");
 }
 
 // The head of every packet.
@@ -50,40 +51,40 @@ fn sum(cells: &[u16]) -> u16 {
     let mut total: u16 = 0;
     let mut k: usize = 0;
     while k < cells.len() {
-        total = wrapping_add_u16(total, cells[k]);
+        total = total.wrapping_add(cells[k]);
         k += 1;
     }
     total
 }
 
 // Reads a packet and prints what was read.
-fn read_back(octets: &[u8], cells: &mut [u16]) {
+fn read_back(stdout: Stdout, octets: &[u8], cells: &mut [u16]) {
     let read = rtp_strict_reader::read_strict(Layout::Rfc8331, octets, cells);
     match read {
-        Read::Refused(refusal) => print_refusal(refusal),
+        Read::Refused(refusal) => print_refusal(stdout, refusal),
         Read::Packet(summary) => {
             let n = summary.cells;
-            number(b"read ", summary.records as u64);
-            number(b" ", n as u64);
+            number(stdout, b"read ", summary.records as u64);
+            number(stdout, b" ", n as u64);
             if n <= cells.len() {
-                number(b" ", sum(&cells[..n]) as u64);
+                number(stdout, b" ", sum(&cells[..n]) as u64);
             }
-            print(b"\n");
+            print(stdout, b"\n");
         }
     }
 }
 
 // Writes a list as a packet and reads that back.
-fn there_and_back(list: &[u16], out: &mut [u8], cells: &mut [u16]) {
+fn there_and_back(stdout: Stdout, list: &[u16], out: &mut [u8], cells: &mut [u16]) {
     let written = rtp_writer::write(Layout::Rfc8331, head(), list, out);
     match written {
-        Written::Refused(refusal) => print_refusal(refusal),
+        Written::Refused(refusal) => print_refusal(stdout, refusal),
         Written::Octets(size) => {
             let n = size.0;
-            number(b"written ", n as u64);
-            print(b" ");
+            number(stdout, b"written ", n as u64);
+            print(stdout, b" ");
             if n <= out.len() {
-                read_back(&out[..n], cells);
+                read_back(stdout, &out[..n], cells);
             }
         }
     }
@@ -137,21 +138,21 @@ fn fill_with_long(list: &mut [u16]) {
 }
 
 // So many records A, there and back.
-fn run_records(count: usize, list: &mut [u16], out: &mut [u8], cells: &mut [u16]) {
+fn run_records(stdout: Stdout, count: usize, list: &mut [u16], out: &mut [u8], cells: &mut [u16]) {
     if count <= list.len() / Header::CELLS {
         let n = count * Header::CELLS;
         fill_with_a(&mut list[..n]);
-        name(b"records ", count as u64);
-        there_and_back(&list[..n], out, cells);
+        name(stdout, b"records ", count as u64);
+        there_and_back(stdout, &list[..n], out, cells);
     }
 }
 
 // So many cells of long records, there and back.
-fn run_cells(count: usize, list: &mut [u16], out: &mut [u8], cells: &mut [u16]) {
+fn run_cells(stdout: Stdout, count: usize, list: &mut [u16], out: &mut [u8], cells: &mut [u16]) {
     if count <= list.len() {
         fill_with_long(&mut list[..count]);
-        name(b"cells ", count as u64);
-        there_and_back(&list[..count], out, cells);
+        name(stdout, b"cells ", count as u64);
+        there_and_back(stdout, &list[..count], out, cells);
     }
 }
 
@@ -163,28 +164,28 @@ fn change(packet: &mut [u8], at: usize, mask: u8) {
 }
 
 // Reads the packet with P set. Its last octet is 0, and so is then the padding.
-fn run_padding(packet: &mut [u8], cells: &mut [u16]) {
+fn run_padding(stdout: Stdout, packet: &mut [u8], cells: &mut [u16]) {
     change(packet, 0, 0x20);
-    name(b"padding ", 0);
-    read_back(packet, cells);
+    name(stdout, b"padding ", 0);
+    read_back(stdout, packet, cells);
     change(packet, 0, 0x20);
 }
 
 // Reads the packet with each bit of record A changed, one at a time. Bit 0 is the most significant of its first octet.
-fn run_bits(packet: &mut [u8], cells: &mut [u16]) {
+fn run_bits(stdout: Stdout, packet: &mut [u8], cells: &mut [u16]) {
     let mut bit: usize = 0;
     while bit < A_BITS {
         let mask = 0x80u8 >> (bit % 8);
         change(packet, A_AT + bit / 8, mask);
-        name(b"bit ", bit as u64);
-        read_back(packet, cells);
+        name(stdout, b"bit ", bit as u64);
+        read_back(stdout, packet, cells);
         change(packet, A_AT + bit / 8, mask);
         bit += 1;
     }
 }
 
 // The packet of one record A, written once, and read with changes.
-fn run_changes(out: &mut [u8], cells: &mut [u16]) {
+fn run_changes(stdout: Stdout, out: &mut [u8], cells: &mut [u16]) {
     let a = A;
     let written = rtp_writer::write(Layout::Rfc8331, head(), &a, out);
     let Written::Octets(size) = written else {
@@ -192,18 +193,19 @@ fn run_changes(out: &mut [u8], cells: &mut [u16]) {
     };
     let n = size.0;
     if n <= out.len() {
-        run_padding(&mut out[..n], cells);
-        run_bits(&mut out[..n], cells);
+        run_padding(stdout, &mut out[..n], cells);
+        run_bits(stdout, &mut out[..n], cells);
     }
 }
 
-fn main() {
+fn main(rt: HostRuntime) {
+    let stdout = rt.stdout();
     let mut list = [0u16; MAX_CELLS + 1];
     let mut out = [0u8; MAX_PACKET];
     let mut cells = [0u16; MAX_CELLS];
-    run_records(MAX_RECORDS, &mut list, &mut out, &mut cells);
-    run_records(MAX_RECORDS + 1, &mut list, &mut out, &mut cells);
-    run_cells(MAX_CELLS, &mut list, &mut out, &mut cells);
-    run_cells(MAX_CELLS + 1, &mut list, &mut out, &mut cells);
-    run_changes(&mut out, &mut cells);
+    run_records(stdout, MAX_RECORDS, &mut list, &mut out, &mut cells);
+    run_records(stdout, MAX_RECORDS + 1, &mut list, &mut out, &mut cells);
+    run_cells(stdout, MAX_CELLS, &mut list, &mut out, &mut cells);
+    run_cells(stdout, MAX_CELLS + 1, &mut list, &mut out, &mut cells);
+    run_changes(stdout, &mut out, &mut cells);
 }

@@ -1,45 +1,34 @@
-// What the example programs print: texts, numbers, octets, cells and refusals, on standard output.
-use libc::STDOUT_FILENO;
+#![tactic(auto)]
+// What the example programs print: texts, numbers, octets, cells and refusals, on standard output. As in a program whose output nobody reads, a write
+// that fails is not told.
+use std::io::{Print, Stdout};
 use wire_spec::refusal::Refusal;
 
-pub fn print(text: &[u8]) {
-    io::write_all(STDOUT_FILENO, text);
+pub fn print(out: Stdout, text: &[u8]) {
+    let _ = out.write_all(text);
 }
 
-pub fn number(label: &[u8], n: u64) {
-    print(label);
-    io::print_decimal(STDOUT_FILENO, n);
+pub fn number(out: Stdout, label: &[u8], n: u64) {
+    print(out, label);
+    let _ = print!(out; "{n}");
 }
 
-fn wide8(x: u8) -> u64 {
-    x as u64
-}
-
-fn wide16(x: u16) -> u64 {
-    x as u64
-}
-
-pub fn print_octets(octets: &[u8]) {
-    let mut k: usize = 0;
-    while k < octets.len() {
-        io::print_hex(STDOUT_FILENO, wide8(octets[k]), 2);
-        k += 1;
+pub fn print_octets(out: Stdout, octets: &[u8]) {
+    for octet in octets {
+        let _ = print!(out; "{octet:02x}");
     }
-    print(b"\n");
+    print(out, b"\n");
 }
 
-pub fn print_cells(cells: &[u16]) {
-    let mut k: usize = 0;
-    while k < cells.len() {
-        print(b" ");
-        io::print_hex(STDOUT_FILENO, wide16(cells[k]), 1);
-        k += 1;
+pub fn print_cells(out: Stdout, cells: &[u16]) {
+    for cell in cells {
+        let _ = print!(out; " {cell:x}");
     }
-    print(b"\n");
+    print(out, b"\n");
 }
 
-pub fn print_refusal(refusal: Refusal) {
-    number(b"refused ", refusal.number as u64);
-    number(b" ", refusal.index as u64);
-    print(b"\n");
+pub fn print_refusal(out: Stdout, refusal: Refusal) {
+    number(out, b"refused ", refusal.number as u64);
+    number(out, b" ", refusal.index as u64);
+    print(out, b"\n");
 }

@@ -1,3 +1,4 @@
+#![tactic(auto)]
 // The lines of two files side by side (02, K14, "Lines: .."): each function puts some to the octets that it is lent, and asks for the room that they can
 // take. Nothing is put where nothing differs.
 ghost use Rattle.std.specs.Prelude.{◌++◌, ◌≡◌, ◌+◌, ◌*◌, ◌≤◌, min, length};

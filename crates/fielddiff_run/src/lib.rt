@@ -1,3 +1,4 @@
+#![tactic(auto)]
 // What `fielddiff` does between a read and a write (02, K14), and its whole run: turn after turn, each a turn of one of the files, the lines of a position, the
 // lines of a record, or writing the text that waits. Each function asks that places lie within the buffers. `lread` and `rread` hold octets of the left and
 // the right file, `lstore` and `rstore` the cells of a field of either.
@@ -10,7 +11,9 @@ use fielddiff_turn::{
 };
 use program::buffers::turns_left;
 use program::progress::is_watched;
+use program::streams::{Sink, Source};
 use program_arguments::failures::{fail_to_read, fail_to_write};
+use std::io::Stderr;
 use wire_spec::limit::MAX_FIELD_CELLS;
 
 const INPUT_SIZE: usize = 65536;
@@ -19,8 +22,8 @@ const TEXT_SIZE: usize = 2 * TEXT_ROOM;
 
 // Before the lines of a position: a turn of a file that is being read, or these lines.
 fn turn_places(
-    left_fd: i32,
-    right_fd: i32,
+    left_from: &mut Source,
+    right_from: &mut Source,
     run: Run,
     lread: &mut [u8],
     rread: &mut [u8],
@@ -35,19 +38,20 @@ fn turn_places(
 {
     let left = run.left;
     if is_reading(left) {
-        return with_left(run, advance(left_fd, left, lread, lstore));
+        return with_left(run, advance(left_from, left, lread, lstore));
     }
     let right = run.right;
     if is_reading(right) {
-        return with_right(run, advance(right_fd, right, rread, rstore));
+        return with_right(run, advance(right_from, right, rread, rstore));
     }
     print_places(run, out)
 }
 
 // One turn.
 pub fn turn(
-    left_fd: i32,
-    right_fd: i32,
+    left_from: &mut Source,
+    right_from: &mut Source,
+    to: &mut Sink,
     run: Run,
     lread: &mut [u8],
     rread: &mut [u8],
@@ -61,39 +65,49 @@ pub fn turn(
     ensures { Turned run lread.old rread.old lstore.old rstore.old out.old result lread.new rread.new lstore.new rstore.new out.new }
 {
     if out.len() - run.filled < TEXT_ROOM {
-        return flush(run, out);
+        return flush(to, run, out);
     }
     let phase = run.phase;
     match phase {
-        Phase::Places => turn_places(left_fd, right_fd, run, lread, rread, lstore, rstore, out),
+        Phase::Places => turn_places(
+            left_from, right_from, run, lread, rread, lstore, rstore, out,
+        ),
         Phase::Comparing(records) => turn_records(run, records, lstore, rstore, out),
-        Phase::Done => flush(run, out),
+        Phase::Done => flush(to, run, out),
     }
 }
 
-// `failed` lasts for one turn, so that a read that failed is reported once. Between that read and this at
-// most the terminal that watches the work is written to, so errno is still that read's.
-fn report_read(side: Side, name: &[u8]) {
+// `failed` lasts for one turn, so that a read that failed is reported once.
+fn report_read(err: Stderr, side: Side, name: &[u8], from: &Source) {
     if side.failed {
-        fail_to_read(b"fielddiff", name);
+        fail_to_read(err, b"fielddiff", name, from.reason());
     }
 }
 
-fn report_reads(run: Run, left_name: &[u8], right_name: &[u8]) {
+fn report_reads(
+    err: Stderr,
+    run: Run,
+    left_name: &[u8],
+    left_from: &Source,
+    right_name: &[u8],
+    right_from: &Source,
+) {
     let left = run.left;
     let right = run.right;
-    report_read(left, left_name);
-    report_read(right, right_name);
+    report_read(err, left, left_name, left_from);
+    report_read(err, right, right_name, right_from);
 }
 
 // Prints the differences of two files, each open for reading, or not open and read as empty. Where the run
 // stands at the end says whether all was written.
 pub fn compare_within(
-    left_fd: i32,
-    right_fd: i32,
+    left_from: &mut Source,
+    right_from: &mut Source,
+    to: &mut Sink,
+    err: Stderr,
     lopen: bool,
     ropen: bool,
-    watched: bool,
+    watched: Option<Stderr>,
     left_name: &[u8],
     right_name: &[u8],
     lread: &mut [u8],
@@ -108,27 +122,40 @@ pub fn compare_within(
     let mut run = start(fielddiff_side::start(lopen), fielddiff_side::start(ropen));
     let mut turns = u64::MAX;
     while turns > 0 {
-        run = turn(left_fd, right_fd, run, lread, rread, lstore, rstore, out);
+        run = turn(
+            left_from, right_from, to, run, lread, rread, lstore, rstore, out,
+        );
         turns = turns_left(turns, run.open, watched);
-        report_reads(run, left_name, right_name);
+        report_reads(err, run, left_name, left_from, right_name, right_from);
     }
-    close(run, out)
+    close(to, run, out)
 }
 
-// Prints the differences of two files of these names, each open for reading, or -1 and read as empty. Text
+// Prints the differences of two files of these names, each open for reading, or absent and read as empty. Text
 // that still waits at the end is text whose write failed.
-pub fn compare(left_fd: i32, right_fd: i32, left_name: &[u8], right_name: &[u8]) {
+pub fn compare(
+    rt: HostRuntime,
+    left: &mut Source,
+    right: &mut Source,
+    left_name: &[u8],
+    right_name: &[u8],
+) {
     let mut lread = [0u8; INPUT_SIZE];
     let mut rread = [0u8; INPUT_SIZE];
     let mut lstore = [0u16; MAX_FIELD_CELLS];
     let mut rstore = [0u16; MAX_FIELD_CELLS];
     let mut out = [0u8; TEXT_SIZE];
+    let mut to = Sink::standard(rt.stdout());
+    let lopen = left.is_open();
+    let ropen = right.is_open();
     let after = compare_within(
-        left_fd,
-        right_fd,
-        left_fd >= 0,
-        right_fd >= 0,
-        is_watched(true),
+        left,
+        right,
+        &mut to,
+        rt.stderr(),
+        lopen,
+        ropen,
+        is_watched(rt, true),
         left_name,
         right_name,
         &mut lread,
@@ -138,6 +165,6 @@ pub fn compare(left_fd: i32, right_fd: i32, left_name: &[u8], right_name: &[u8])
         &mut out,
     );
     if after.filled > 0 {
-        fail_to_write(b"fielddiff", b"");
+        fail_to_write(rt.stderr(), b"fielddiff", b"", to.reason());
     }
 }

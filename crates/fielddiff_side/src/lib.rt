@@ -1,3 +1,4 @@
+#![tactic(auto)]
 // One of the two files that are compared (02, K14): where its reading stands, and what it has at the position. A file is read turn by turn, over the octets
 // at hand; each function asks that places lie within the input.
 ghost use Rattle.std.specs.Prelude.{◌≡◌, ◌-◌, ◌<◌, ◌≤◌, length};
@@ -10,6 +11,7 @@ use fieldfile_scan::turn;
 use fieldfile_scan_spec::found::{Found, Place};
 use fieldfile_spec::format::Version;
 use program::buffers::is_interrupted;
+use program::streams::Source;
 use program::window::move_to_front;
 use wire_spec::refusal::Refusal;
 
@@ -73,7 +75,7 @@ fn is_at_start(standing: Standing) -> bool
 
 // Moves what is left to the front, and reads more behind it. There must be room, as a read without any is
 // like one at the end. A file whose first read fails reads as empty.
-fn read_more(fd: i32, side: Side, input: &mut [u8]) -> Side
+fn read_more(from: &mut Source, side: Side, input: &mut [u8]) -> Side
     requires in_side { InSide side (length input.old) }
     requires at_in_bounds { side.end - side.at < length input.old }
     ensures { ReadMore side input.old result input.new }
@@ -83,16 +85,25 @@ fn read_more(fd: i32, side: Side, input: &mut [u8]) -> Side
     let end = side.end;
     move_to_front(&mut input[..end], at);
     let rest = end - at;
-    let got = libc::read(fd, &mut input[rest..]);
-    let n = io::count(got, &input[rest..]);
-    let interrupted = is_interrupted(got);
-    let unread = is_at_start(standing) & (rest == 0);
-    Side {
-        standing,
-        at: 0,
-        end: rest + n,
-        more: (n > 0) | ((got < 0) & (interrupted | !unread)),
-        failed: (got < 0) & !interrupted,
+    match from.read(&mut input[rest..]) {
+        Ok(n) => Side {
+            standing,
+            at: 0,
+            end: rest + n,
+            more: n > 0,
+            failed: false,
+        },
+        Err(reason) => {
+            let interrupted = is_interrupted(&reason);
+            let unread = is_at_start(standing) & (rest == 0);
+            Side {
+                standing,
+                at: 0,
+                end: rest,
+                more: interrupted | !unread,
+                failed: !interrupted,
+            }
+        }
     }
 }
 
@@ -151,7 +162,7 @@ fn is_short(side: Side) -> bool
 }
 
 // One turn of a file that is being read, or more octets for it.
-pub fn advance(fd: i32, side: Side, input: &mut [u8], store: &mut [u16]) -> Side
+pub fn advance(from: &mut Source, side: Side, input: &mut [u8], store: &mut [u16]) -> Side
     requires in_side { InSide side (length input.old) × HeldReachable side.standing }
     requires max_field_cells_in_bounds { max_field_cells ≤ length store.old }
     requires window_size_in_bounds { window_size ≤ length input.old }
@@ -161,7 +172,7 @@ pub fn advance(fd: i32, side: Side, input: &mut [u8], store: &mut [u16]) -> Side
     match standing {
         Standing::Reading(state) => {
             if is_short(side) {
-                return read_more(fd, side, input);
+                return read_more(from, side, input);
             }
             scan_on(state, side, input, store)
         }

@@ -15,7 +15,7 @@ use Rattle.wire_spec.specs.Anc.{Record}
 use Rattle.wire_spec.specs.Cells.{head_cells, cells_of}
 use Rattle.wire_spec.proofs.ListLaws.{map-append}
 use Rattle.fieldfile_spec.specs.File.{FieldContent, FileRead, read_file}
-use Rattle.fielddiff_spec.specs.Diff.{number, Line, ts_line, f_line, records_line, cell_line, Place, field, ended, refusal, unread, end_number, place_in, place_at, up_to, differ, cell_lines, cells_at, record_lines, field_lines, compare_at, lines_at, diff, differences, swap}
+use Rattle.fielddiff_spec.specs.Diff.{Line, ts_line, f_line, records_line, cell_line, Place, field, ended, refusal, unread, end_number, place_in, place_at, up_to, differ, cell_lines, cells_at, record_lines, field_lines, compare_at, lines_at, diff, differences, swap}
 use Rattle.fielddiff_spec.proofs.UpToLaws.{append-empty, up_to-empty, up_to-map}
 
 -- equality of numbers does not depend on the side

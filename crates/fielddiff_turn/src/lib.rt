@@ -1,3 +1,4 @@
+#![tactic(auto)]
 // Parts of a turn of `fielddiff` (02, K14): the lines of a position, the lines of a record, or writing the text that waits. Each function asks that places lie
 // within the buffers, and that there is room for what it puts.
 ghost use Rattle.std.specs.Prelude.{false, ◌≡◌, ◌+◌, ◌^◌, ◌<◌, ◌≤◌, min, length};
@@ -13,6 +14,7 @@ use fielddiff_lines::{put_cells, put_place};
 use fielddiff_side::{Side, next, place_of};
 use fieldfile_scan_spec::found::{Found, Place};
 use program::buffers::begin;
+use program::streams::Sink;
 
 // The most user data words of a record: Data_Count carries an eight-bit number.
 const MAX_WORDS: usize = 255;
@@ -52,14 +54,14 @@ pub struct Run {
 }
 
 // Writes the text that waits. Where that fails it still waits, and the run ends.
-pub fn flush(run: Run, out: &[u8]) -> Run
+pub fn flush(to: &mut Sink, run: Run, out: &[u8]) -> Run
     requires { run.filled ≤ length out.now }
     ensures { RunFlushed run result }
 {
     let left = run.left;
     let right = run.right;
     let phase = run.phase;
-    let text = program::buffers::flush(begin(run.filled), out);
+    let text = program::buffers::flush(to, begin(run.filled), out);
     Run {
         left,
         right,
@@ -264,12 +266,12 @@ fn is_stuck(run: Run) -> bool
 }
 
 // Writes the last of the text. A write that failed is not tried again.
-pub fn close(run: Run, out: &[u8]) -> Run
+pub fn close(to: &mut Sink, run: Run, out: &[u8]) -> Run
     requires { run.filled ≤ length out.now }
     ensures { Closed run result }
 {
     if is_stuck(run) {
         return run;
     }
-    flush(run, out)
+    flush(to, run, out)
 }

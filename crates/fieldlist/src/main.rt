@@ -1,3 +1,4 @@
+#![tactic(auto)]
 // Lists the packets and the fields of RTP packets in frames of RFC 4571 (01, "`fieldlist`"), from standard input or from the
 // file that its argument names. The frames and the text are the library's; this program moves octets.
 ghost use Rattle.std.specs.Prelude.{length};
@@ -7,11 +8,14 @@ use fieldlist_session::session::FIELD_ROOM;
 use fieldlist_turns::{close, start, turn};
 use program::buffers::{failure_of, turns_left};
 use program::progress::is_watched;
+use program::streams::{Sink, Source};
 use program_arguments::failures::report_failure;
 use program_arguments::files::{file_at, layout_told, open_input};
 use program_arguments::options::may_start;
+use program_arguments::words::{WORD_ROOM, word_at};
 use program_spec::buffers::{Buffers, Failure};
 use rtp_frames::MAX_FRAME;
+use std::io::Stderr;
 use wire_spec::layout::Layout;
 use wire_spec::limit::MAX_FIELD_CELLS;
 
@@ -20,11 +24,12 @@ const INPUT_SIZE: usize = 4 * MAX_FRAME;
 
 const TEXT_SIZE: usize = 2 * FIELD_ROOM;
 
-// Lists the packets of `fd`. The buffers at the end say whether the listing was written whole.
+// Lists the packets of `from`. The buffers at the end say whether the listing was written whole.
 fn list(
     layout: Layout,
-    fd: i32,
-    watched: bool,
+    from: &mut Source,
+    to: &mut Sink,
+    watched: Option<Stderr>,
     input: &mut [u8],
     store: &mut [u16],
     out: &mut [u8],
@@ -35,22 +40,23 @@ fn list(
     let mut run = start(layout, out);
     let mut turns = u64::MAX;
     while turns > 0 {
-        run = turn(fd, run, input, store, out);
+        run = turn(from, to, run, input, store, out);
         let buffers = run.buffers;
         turns = turns_left(turns, buffers.open, watched);
     }
-    close(run, input, out)
+    close(to, run, input, out)
 }
 
 // Lists them in buffers of its own; what failed, if anything did.
-fn list_file(layout: Layout, fd: i32) -> Failure {
+fn list_file(rt: HostRuntime, layout: Layout, from: &mut Source, to: &mut Sink) -> Failure {
     let mut input = [0u8; INPUT_SIZE];
     let mut store = [0u16; MAX_FIELD_CELLS];
     let mut out = [0u8; TEXT_SIZE];
     let after = list(
         layout,
-        fd,
-        is_watched(true),
+        from,
+        to,
+        is_watched(rt, true),
         &mut input,
         &mut store,
         &mut out,
@@ -59,8 +65,9 @@ fn list_file(layout: Layout, fd: i32) -> Failure {
 }
 
 // Whether the work is to be done: not where an option asks for something else, nor where the arguments are too many.
-fn starts(layout: Layout) -> bool {
+fn starts(rt: HostRuntime, layout: Layout) -> bool {
     may_start(
+        rt,
         b"fieldlist",
         b"Usage: fieldlist [old] [FILE]\n\
           Lists the packets and the fields of a recorded stream, frames of RFC 4571 with RTP packets of RFC 8331,\n\
@@ -73,18 +80,26 @@ fn starts(layout: Layout) -> bool {
     )
 }
 
-fn main() {
-    let layout = layout_told();
-    if !starts(layout) {
+fn main(rt: HostRuntime) {
+    let layout = layout_told(rt);
+    if !starts(rt, layout) {
         return;
     }
     let at = file_at(layout);
-    let fd = open_input(b"fieldlist", at);
-    if fd < 0 {
+    let Some(mut from) = open_input(rt, b"fieldlist", at) else {
         return;
-    }
-    let mut name = io::buffer();
-    let length = os::arg(at, &mut name);
-    let failure = list_file(layout, fd);
-    report_failure(failure, b"fieldlist", &name[..length], b"");
+    };
+    let mut to = Sink::standard(rt.stdout());
+    let mut name = [0u8; WORD_ROOM];
+    let length = word_at(rt, at, &mut name);
+    let failure = list_file(rt, layout, &mut from, &mut to);
+    report_failure(
+        rt.stderr(),
+        failure,
+        b"fieldlist",
+        &name[..length],
+        &from,
+        b"",
+        &to,
+    );
 }

@@ -1,3 +1,4 @@
+#![tactic(auto)]
 // The lines of `fieldlist` (01, "`fieldlist`"), but for those of records: each function puts one to the octets that it is lent, and asks for the room
 // that its line can take.
 ghost use Rattle.std.specs.Prelude.{◌+◌, ◌*◌, ◌≤◌, length, ◌≡◌, min};

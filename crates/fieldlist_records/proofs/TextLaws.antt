@@ -1,6 +1,6 @@
 -- ONE LINE A RECORD: the text of records is as many lines (01, "`fieldlist`").
 -- By the pieces of a line, none of which ends it.
-use mathlib.Core.Path.{◌≡◌, refl}
+use mathlib.Core.Path.{refl}
 use mathlib.Core.Bool.{Bool, true, false, cond}
 use mathlib.Core.List.{List, [], ◌∷◌, ◌++◌}
 use Prim.Native.Nat.{ℕ}

@@ -1,3 +1,4 @@
+#![tactic(auto)]
 // What `fieldlist` does between a read and a write (01, "`fieldlist`"): it lists a frame, writes the text that waits, or reads more. Each function asks
 // that places lie within the buffers, and that these are large enough (`Enough`).
 ghost use Rattle.std.specs.Prelude.{◌≤◌, ◌≡◌, length};
@@ -7,8 +8,8 @@ ghost use Rattle.program_spec.specs.Run.{Turned, at};
 ghost use Rattle.fieldlist_turns.specs.Turns.{Closes, Enough, Started, octets_of, program};
 
 use fieldlist_session::session::{Session, Text, begin, finish, list_frame};
-use libc::STDOUT_FILENO;
 use program::buffers::{after_step, flush, is_done};
+use program::streams::{Sink, Source};
 use program_spec::buffers::Buffers;
 use wire_spec::layout::Layout;
 
@@ -20,7 +21,14 @@ pub struct Run {
 }
 
 // One frame, or what must be done before the next.
-pub fn turn(fd: i32, run: Run, input: &mut [u8], store: &mut [u16], out: &mut [u8]) -> Run
+pub fn turn(
+    from: &mut Source,
+    to: &mut Sink,
+    run: Run,
+    input: &mut [u8],
+    store: &mut [u16],
+    out: &mut [u8],
+) -> Run
     requires in_bounds { InBounds run.buffers (length input.old) (length out.old) }
     requires enough { Enough (length input.old) (length store.old) (length out.old) }
     ensures { Turned program (at (run.session, store.old) run.buffers input.old out.old) (at (result.session, store.new) result.buffers input.new out.new) }
@@ -35,7 +43,7 @@ pub fn turn(fd: i32, run: Run, input: &mut [u8], store: &mut [u16], out: &mut [u
     let step = listed.step;
     Run {
         session: next,
-        buffers: after_step(fd, STDOUT_FILENO, buffers, step, input, out),
+        buffers: after_step(from, to, buffers, step, input, out),
     }
 }
 
@@ -61,7 +69,7 @@ pub fn start(layout: Layout, out: &mut [u8]) -> Run
 }
 
 // The last lines.
-pub fn close(run: Run, input: &[u8], out: &mut [u8]) -> Buffers
+pub fn close(to: &mut Sink, run: Run, input: &[u8], out: &mut [u8]) -> Buffers
     requires in_bounds { InBounds run.buffers (length input.now) run.buffers.filled }
     requires line_room_in_bounds { line_room ≤ length out.old }
     ensures { Closes run input.now out.old result out.new }
@@ -74,5 +82,5 @@ pub fn close(run: Run, input: &[u8], out: &mut [u8]) -> Buffers
     let at = buffers.at;
     let end = buffers.end;
     let filled = octets_of(finish(session, &input[at..end], out));
-    flush(program::buffers::finish(buffers, filled), out)
+    flush(to, program::buffers::finish(buffers, filled), out)
 }

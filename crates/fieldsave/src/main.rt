@@ -1,3 +1,4 @@
+#![tactic(auto)]
 // Files the whole fields of RTP packets in frames of RFC 4571 as a field file (01, "Field file"): `fieldsave [old] FRAMES OUT`. The frames and the fields
 // are the library's; this program moves octets.
 ghost use Rattle.std.specs.Prelude.{length};
@@ -5,14 +6,16 @@ ghost use Rattle.fieldsave_turns.specs.Turns.{Ended, Enough};
 
 use fieldsave_session::FIELD_ROOM;
 use fieldsave_turns::{start, turn};
-use libc::STDERR_FILENO;
 use program::buffers::{failure_of, is_done, turns_left};
 use program::progress::is_watched;
+use program::streams::{Sink, Source};
 use program_arguments::failures::{fail, report_failure};
 use program_arguments::files::{create_named, file_at, layout_told, open_named};
 use program_arguments::options::{has_words, may_start};
+use program_arguments::words::{WORD_ROOM, word_at};
 use program_spec::buffers::{Buffers, Failure};
 use rtp_frames::MAX_FRAME;
+use std::io::{Print, Stderr};
 use wire_spec::layout::Layout;
 use wire_spec::limit::MAX_FIELD_CELLS;
 
@@ -22,20 +25,20 @@ const INPUT_SIZE: usize = 4 * MAX_FRAME;
 const FILE_SIZE: usize = 2 * FIELD_ROOM;
 
 // Octets that are left at the end of the input are a broken last frame.
-fn tell_cut(buffers: Buffers) {
+fn tell_cut(err: Stderr, buffers: Buffers) {
     if is_done(buffers) {
         if buffers.at < buffers.end {
-            io::write_all(STDERR_FILENO, b"the last frame is cut\n");
+            let _ = err.write_all(b"the last frame is cut\n");
         }
     }
 }
 
-// Files the packets of `fd` in `to`. The buffers at the end say whether the file was written whole.
+// Files the packets of `from` in `to`. The buffers at the end say whether the file was written whole.
 fn file(
     layout: Layout,
-    fd: i32,
-    to: i32,
-    watched: bool,
+    from: &mut Source,
+    to: &mut Sink,
+    watched: Option<Stderr>,
     input: &mut [u8],
     store: &mut [u16],
     out: &mut [u8],
@@ -46,7 +49,7 @@ fn file(
     let mut run = start(layout, out);
     let mut turns = u64::MAX;
     while turns > 0 {
-        run = turn(fd, to, run, input, store, out);
+        run = turn(from, to, run, input, store, out);
         let buffers = run.buffers;
         turns = turns_left(turns, buffers.open, watched);
     }
@@ -55,34 +58,35 @@ fn file(
 }
 
 // Files them in buffers of its own; what failed, if anything did.
-fn file_frames(layout: Layout, fd: i32, to: i32) -> Failure {
+fn file_frames(rt: HostRuntime, layout: Layout, from: &mut Source, to: &mut Sink) -> Failure {
     let mut input = [0u8; INPUT_SIZE];
     let mut store = [0u16; MAX_FIELD_CELLS];
     let mut out = [0u8; FILE_SIZE];
     let after = file(
         layout,
-        fd,
+        from,
         to,
-        is_watched(false),
+        is_watched(rt, false),
         &mut input,
         &mut store,
         &mut out,
     );
-    tell_cut(after);
+    tell_cut(rt.stderr(), after);
     failure_of(after)
 }
 
 // Some file systems report only here that a write has failed.
-fn close_file(to: i32, name: &[u8]) {
-    if libc::close(to) < 0 {
-        fail(b"fieldsave", name);
+fn close_file(err: Stderr, to: &mut Sink, name: &[u8]) {
+    if !to.store() {
+        fail(err, b"fieldsave", name, to.reason());
     }
 }
 
 // Whether the work is to be done: not where an option asks for something else, nor where there are too many arguments or too few.
-fn starts(layout: Layout) -> bool {
+fn starts(rt: HostRuntime, layout: Layout) -> bool {
     let words = file_at(layout) + 1;
     if !may_start(
+        rt,
         b"fieldsave",
         b"Usage: fieldsave [old] FRAMES OUT\n\
           Files the whole fields of a recorded stream, frames of RFC 4571 with RTP packets of RFC 8331, in a new field file OUT.\n\
@@ -94,35 +98,40 @@ fn starts(layout: Layout) -> bool {
     ) {
         return false;
     }
-    has_words(b"fieldsave", words)
+    has_words(rt, b"fieldsave", words)
 }
 
-fn main() {
-    let layout = layout_told();
-    if !starts(layout) {
-        return;
-    }
+// Files the frames, and says what failed.
+fn save(rt: HostRuntime, layout: Layout, mut from: Source, mut to: Sink) {
     let at = file_at(layout);
-    let fd = open_named(b"fieldsave", at);
-    if fd < 0 {
-        return;
-    }
-    let to = create_named(b"fieldsave", at + 1);
-    // If the program is started without standard error, a new file takes its place, and must not get the
-    // messages.
-    if to <= STDERR_FILENO {
-        return;
-    }
-    let mut name = io::buffer();
-    let length = os::arg(at, &mut name);
-    let mut new_name = io::buffer();
-    let new_length = os::arg(at + 1, &mut new_name);
-    let failure = file_frames(layout, fd, to);
+    let mut name = [0u8; WORD_ROOM];
+    let length = word_at(rt, at, &mut name);
+    let mut new_name = [0u8; WORD_ROOM];
+    let new_length = word_at(rt, at + 1, &mut new_name);
+    let failure = file_frames(rt, layout, &mut from, &mut to);
     report_failure(
+        rt.stderr(),
         failure,
         b"fieldsave",
         &name[..length],
+        &from,
         &new_name[..new_length],
+        &to,
     );
-    close_file(to, &new_name[..new_length]);
+    close_file(rt.stderr(), &mut to, &new_name[..new_length]);
+}
+
+fn main(rt: HostRuntime) {
+    let layout = layout_told(rt);
+    if !starts(rt, layout) {
+        return;
+    }
+    let at = file_at(layout);
+    let Some(from) = open_named(rt, b"fieldsave", at) else {
+        return;
+    };
+    let Some(to) = create_named(rt, b"fieldsave", at + 1) else {
+        return;
+    };
+    save(rt, layout, from, to);
 }

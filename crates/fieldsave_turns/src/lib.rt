@@ -1,3 +1,4 @@
+#![tactic(auto)]
 // What `fieldsave` does between a read and a write: it files a frame, writes the octets that wait, or reads more. Each function asks that places lie within
 // the buffers, and that these are large enough (`Enough`).
 ghost use Rattle.std.specs.Prelude.{◌≤◌, length};
@@ -10,6 +11,7 @@ use fieldfile_writer::begin;
 use fieldlist_session::session::Session;
 use fieldsave_session::{file_frame, octets_of};
 use program::buffers::after_step;
+use program::streams::{Sink, Source};
 use program_spec::buffers::Buffers;
 use wire_spec::layout::Layout;
 
@@ -20,8 +22,15 @@ pub struct Run {
     pub buffers: Buffers,
 }
 
-// One frame, or what must be done before the next: frames come from `fd`, and fields go to `to`.
-pub fn turn(fd: i32, to: i32, run: Run, input: &mut [u8], store: &mut [u16], out: &mut [u8]) -> Run
+// One frame, or what must be done before the next: frames come from `from`, and fields go to `to`.
+pub fn turn(
+    from: &mut Source,
+    to: &mut Sink,
+    run: Run,
+    input: &mut [u8],
+    store: &mut [u16],
+    out: &mut [u8],
+) -> Run
     requires in_bounds { InBounds run.buffers (length input.old) (length out.old) }
     requires enough { Enough (length input.old) (length store.old) (length out.old) }
     ensures { Turned program (at (run.session, store.old) run.buffers input.old out.old) (at (result.session, store.new) result.buffers input.new out.new) }
@@ -36,7 +45,7 @@ pub fn turn(fd: i32, to: i32, run: Run, input: &mut [u8], store: &mut [u16], out
     let step = filed.step;
     Run {
         session: next,
-        buffers: after_step(fd, to, buffers, step, input, out),
+        buffers: after_step(from, to, buffers, step, input, out),
     }
 }
 

@@ -1,22 +1,25 @@
+#![tactic(auto)]
 // Writes the UDP datagrams of a capture (pcap or pcapng) to one port as frames of RFC 4571: `pcapframes PORT [FILE]`, from standard input where no file is
 // named. What is written is the library's; this program moves octets, and tells on standard error what it left out.
 ghost use Rattle.std.specs.Prelude.{length};
 ghost use Rattle.pcapframes_turns.specs.Turns.{Ended, Enough};
 
 use capture_spec::format::MAX_ITEM;
-use libc::STDERR_FILENO;
 use pcapframes_session::finish;
 use pcapframes_session::told::{TOLD_ROOM, put_told};
 use pcapframes_spec::session::Session;
 use pcapframes_turns::{start, turn};
 use program::buffers::{failure_of, is_done, turns_left};
 use program::progress::is_watched;
+use program::streams::{Sink, Source};
 use program_arguments::failures::report_failure;
 use program_arguments::files::open_input;
 use program_arguments::options::may_start;
 use program_arguments::port::{Port, port_of};
+use program_arguments::words::{WORD_ROOM, has_word, word_at};
 use program_spec::buffers::Buffers;
 use rtp_frames::MAX_FRAME;
+use std::io::{Print, Stderr};
 
 // Octets of the buffers: any item and more to read, and some frames that wait to be written together.
 const INPUT_SIZE: usize = 2 * MAX_ITEM;
@@ -30,14 +33,21 @@ struct Outcome {
     buffers: Buffers,
 }
 
-fn extract(port: u16, fd: i32, watched: bool, input: &mut [u8], out: &mut [u8]) -> Outcome
+fn extract(
+    from: &mut Source,
+    to: &mut Sink,
+    port: u16,
+    watched: Option<Stderr>,
+    input: &mut [u8],
+    out: &mut [u8],
+) -> Outcome
     requires { Enough (length input.old) (length out.old) }
     ensures { Ended port result.session input.new out.new result.buffers }
 {
     let mut run = start();
     let mut turns = u64::MAX;
     while turns > 0 {
-        run = turn(fd, port, run, input, out);
+        run = turn(from, to, port, run, input, out);
         let buffers = run.buffers;
         turns = turns_left(turns, buffers.open, watched);
     }
@@ -50,47 +60,56 @@ fn extract(port: u16, fd: i32, watched: bool, input: &mut [u8], out: &mut [u8]) 
 }
 
 // What was left out, and the refusal that ended the walk.
-fn tell(session: Session) {
+fn tell(err: Stderr, session: Session) {
     let mut told = [0u8; TOLD_ROOM];
     let end = put_told(&mut told, 0, session);
-    io::write_all(STDERR_FILENO, &told[..end]);
+    let _ = err.write_all(&told[..end]);
 }
 
-fn port_told() -> Port {
-    if os::arg_count() < 2 {
+fn port_told(rt: HostRuntime) -> Port {
+    if !has_word(rt, 1) {
         return Port::Wrong;
     }
-    let mut word = io::buffer();
-    let length = os::arg(1, &mut word);
+    let mut word = [0u8; WORD_ROOM];
+    let length = word_at(rt, 1, &mut word);
     port_of(&word[..length])
 }
 
 // The walk in buffers of its own.
-fn extract_frames(port: u16, fd: i32) -> Outcome {
+fn extract_frames(rt: HostRuntime, port: u16, from: &mut Source, to: &mut Sink) -> Outcome {
     let mut input = [0u8; INPUT_SIZE];
     let mut out = [0u8; OUT_SIZE];
-    extract(port, fd, is_watched(true), &mut input, &mut out)
+    extract(from, to, port, is_watched(rt, true), &mut input, &mut out)
 }
 
-fn run(port: u16) {
-    let fd = open_input(b"pcapframes", 2);
-    if fd < 0 {
+fn run(rt: HostRuntime, port: u16) {
+    let Some(mut from) = open_input(rt, b"pcapframes", 2) else {
         return;
-    }
-    let mut name = io::buffer();
-    let length = os::arg(2, &mut name);
-    let outcome = extract_frames(port, fd);
+    };
+    let mut to = Sink::standard(rt.stdout());
+    let mut name = [0u8; WORD_ROOM];
+    let length = word_at(rt, 2, &mut name);
+    let outcome = extract_frames(rt, port, &mut from, &mut to);
     let session = outcome.session;
     let buffers = outcome.buffers;
-    report_failure(failure_of(buffers), b"pcapframes", &name[..length], b"");
+    report_failure(
+        rt.stderr(),
+        failure_of(buffers),
+        b"pcapframes",
+        &name[..length],
+        &from,
+        b"",
+        &to,
+    );
     if is_done(buffers) {
-        tell(session);
+        tell(rt.stderr(), session);
     }
 }
 
 // Whether the work is to be done: not where an option asks for something else, nor where the arguments are too many.
-fn starts() -> bool {
+fn starts(rt: HostRuntime) -> bool {
     may_start(
+        rt,
         b"pcapframes",
         b"Usage: pcapframes PORT [FILE]\n\
           Writes the UDP datagrams to PORT of a capture (pcap or pcapng), FILE or standard input, as frames of RFC 4571.\n\
@@ -101,16 +120,14 @@ fn starts() -> bool {
     )
 }
 
-fn main() {
-    if !starts() {
+fn main(rt: HostRuntime) {
+    if !starts(rt) {
         return;
     }
-    let port = port_told();
-    match port {
-        Port::Number(number) => run(number),
+    match port_told(rt) {
+        Port::Number(number) => run(rt, number),
         Port::Wrong => {
-            io::write_all(
-                STDERR_FILENO,
+            let _ = rt.stderr().write_all(
                 b"pcapframes: PORT is a number from 1 to 65535, see --help\n",
             );
         }

@@ -1,14 +1,17 @@
 // What a program does between two items: it writes the text that waits, and reads more behind what is left. Each function asks that places lie within
 // the buffers.
-ghost use Rattle.std.specs.Prelude.{◌+◌, ◌-◌, ◌^◌, ◌<◌, ◌≤◌, cond, ◌≡◌, length};
-ghost use Rattle.program_spec.specs.Buffers.{Flushed, InBounds, Interrupted, ReadMore, Refilled, WrittenOf};
+ghost use Rattle.std.specs.Prelude.{◌+◌, ◌-◌, ◌^◌, ◌<◌, ◌≤◌, ◌↔◌, cond, ◌≡◌, IsTrue, length};
+ghost use Rattle.std.specs.IoError.{error_kind};
+ghost use Rattle.program_spec.specs.Buffers.{Flushed, InBounds, ReadMore, Refilled};
 ghost use Rattle.program_spec.specs.Buffers.{advanced, begun, ended, failure_of, is_done};
 ghost use Rattle.program_spec.specs.Run.{CanStep, Stepped};
 
 use crate::progress::{end, show};
+use crate::streams::{Sink, Source};
 use crate::window::move_to_front;
-use libc::{EINTR, STDOUT_FILENO};
 use program_spec::buffers::{Buffers, Failure, Step, Written};
+use std::io;
+use std::io::{ErrorKind, Stderr};
 
 // Nothing is read; so much text is to be written.
 pub fn begin(filled: usize) -> Buffers
@@ -50,25 +53,15 @@ pub fn finish(buffers: Buffers, filled: usize) -> Buffers
     }
 }
 
-// Every write goes through here.
-fn write_text(to: i32, text: &[u8]) -> Written
-    ensures { WrittenOf result (length text.now) }
-{
-    if io::write_all(to, text) {
-        return Written::All(text.len());
-    }
-    Written::Failed
-}
-
-// Writes the text that waits, to a file that is open. Where that fails it still waits, and the run ends.
-pub fn flush_to(to: i32, buffers: Buffers, out: &[u8]) -> Buffers
+// Writes the text that waits. Where that fails it still waits, and the run ends.
+pub fn flush_to(to: &mut Sink, buffers: Buffers, out: &[u8]) -> Buffers
     requires { buffers.filled ≤ length out.now }
     ensures { Flushed buffers result }
 {
     let at = buffers.at;
     let end = buffers.end;
     let filled = buffers.filled;
-    let written = write_text(to, &out[..filled]);
+    let written = to.write(&out[..filled]);
     match written {
         Written::All(n) => Buffers {
             at,
@@ -87,26 +80,23 @@ pub fn flush_to(to: i32, buffers: Buffers, out: &[u8]) -> Buffers
     }
 }
 
-// Writes it to standard output.
-pub fn flush(buffers: Buffers, out: &[u8]) -> Buffers
+// Writes it to standard output, which `output` is.
+pub fn flush(output: &mut Sink, buffers: Buffers, out: &[u8]) -> Buffers
     requires { buffers.filled ≤ length out.now }
     ensures { Flushed buffers result }
 {
-    flush_to(STDOUT_FILENO, buffers, out)
+    flush_to(output, buffers, out)
 }
 
-// Whether a signal interrupted a read, which is then tried again.
-pub fn is_interrupted(got: isize) -> bool
-    ensures { Interrupted got result }
+// Whether a signal interrupted a read that failed; it is then tried again.
+pub fn is_interrupted(reason: &io::Error) -> bool
+    ensures { IsTrue result ↔ error_kind reason.now ≡ ErrorKind.Interrupted }
 {
-    if got >= 0 {
-        return false;
-    }
-    os::errno() == EINTR
+    reason.kind() == ErrorKind::Interrupted
 }
 
 // Moves what is left to the front, and reads more behind it. There must be room, as a read without any is like one at the end.
-fn read_more(fd: i32, buffers: Buffers, input: &mut [u8]) -> Buffers
+fn read_more(from: &mut Source, buffers: Buffers, input: &mut [u8]) -> Buffers
     requires in_bounds { InBounds buffers (length input.old) buffers.filled }
     requires at_in_bounds { buffers.end - buffers.at < length input.old }
     ensures { ReadMore buffers input.old result input.new }
@@ -115,20 +105,36 @@ fn read_more(fd: i32, buffers: Buffers, input: &mut [u8]) -> Buffers
     let end = buffers.end;
     move_to_front(&mut input[..end], at);
     let rest = end - at;
-    let got = libc::read(fd, &mut input[rest..]);
-    let n = io::count(got, &input[rest..]);
-    let interrupted = is_interrupted(got);
-    Buffers {
-        at: 0,
-        end: rest + n,
-        filled: buffers.filled,
-        open: (n > 0) | interrupted,
-        failed: (got < 0) & !interrupted,
+    let filled = buffers.filled;
+    match from.read(&mut input[rest..]) {
+        Ok(n) => Buffers {
+            at: 0,
+            end: rest + n,
+            filled,
+            open: n > 0,
+            failed: false,
+        },
+        Err(reason) => {
+            let interrupted = is_interrupted(&reason);
+            Buffers {
+                at: 0,
+                end: rest,
+                filled,
+                open: interrupted,
+                failed: !interrupted,
+            }
+        }
     }
 }
 
 // Writes first, so that nothing waits for more input.
-fn refill_to(fd: i32, to: i32, buffers: Buffers, input: &mut [u8], out: &[u8]) -> Buffers
+fn refill_to(
+    from: &mut Source,
+    to: &mut Sink,
+    buffers: Buffers,
+    input: &mut [u8],
+    out: &[u8],
+) -> Buffers
     requires in_bounds { InBounds buffers (length input.old) (length out.now) }
     requires at_in_bounds { buffers.end - buffers.at < length input.old }
     ensures { Refilled buffers input.old result input.new }
@@ -138,14 +144,14 @@ fn refill_to(fd: i32, to: i32, buffers: Buffers, input: &mut [u8], out: &[u8]) -
     if !open {
         return flushed;
     }
-    read_more(fd, flushed, input)
+    read_more(from, flushed, input)
 }
 
 // What is done with an answer: an item's text waits, and the item is used; what waits is written, and more is read; or it is written, and the run goes on
 // where there was no room, or else ends.
 pub fn after_step(
-    fd: i32,
-    to: i32,
+    from: &mut Source,
+    to: &mut Sink,
     buffers: Buffers,
     step: Step,
     input: &mut [u8],
@@ -156,7 +162,7 @@ pub fn after_step(
     ensures { Stepped step buffers input.old result input.new }
 {
     match step {
-        Step::Short => refill_to(fd, to, buffers, input, out),
+        Step::Short => refill_to(from, to, buffers, input, out),
         Step::Taken { used, length } => advance(buffers, used, length),
         Step::Over => {
             let filled = buffers.filled;
@@ -181,7 +187,7 @@ pub fn is_done(buffers: Buffers) -> bool
     buffers.filled == 0
 }
 
-// Which call failed, if one did. Until something else is called, errno says why.
+// Which call failed, if one did. What was read from or written to says why.
 pub fn failure_of(buffers: Buffers) -> Failure
     ensures { result ≡ failure_of buffers }
 {
@@ -196,9 +202,8 @@ pub fn failure_of(buffers: Buffers) -> Failure
 }
 
 // The turns that are left: loops must terminate, so they count down from 2^64 - 1, which no run uses up. If
-// the work is watched (`is_watched`), a long run shows how many were made. Only a write to that terminal is
-// made here, so errno is still that of a read or a write that failed.
-pub fn turns_left(turns: u64, open: bool, watched: bool) -> u64
+// the work is watched (`is_watched`), a long run shows how many were made.
+pub fn turns_left(turns: u64, open: bool, watched: Option<Stderr>) -> u64
     requires { 0 < turns }
     ensures { result ≡ cond «open» (turns - 1) 0 }
 {

@@ -1,35 +1,36 @@
 // Long work shows on standard error how many turns were made.
-use libc::{STDERR_FILENO, STDOUT_FILENO};
+use std::io::{IsTerminal, Print, Stderr};
 
 // Turns from one time to the next.
 const EVERY: u64 = 262144;
 
-// Whether it is to be shown: standard error is a terminal, and what the program prints, if it does, goes
-// elsewhere. Asked once, before the first turn: `isatty` changes errno.
-pub fn is_watched(prints: bool) -> bool {
-    let beside = prints & (libc::isatty(STDOUT_FILENO) == 1);
-    (libc::isatty(STDERR_FILENO) == 1) & !beside
+// The terminal that long work is to be shown on, if it is: standard error is one, and what the program prints, if it does, goes
+// elsewhere.
+pub fn is_watched(rt: HostRuntime, prints: bool) -> Option<Stderr> {
+    let beside = prints & rt.stdout().is_terminal();
+    if rt.stderr().is_terminal() & !beside {
+        return Some(rt.stderr());
+    }
+    None
 }
 
 // `left` turns of u64::MAX are left.
-pub(crate) fn show(left: u64, watched: bool) {
+pub(crate) fn show(left: u64, watched: Option<Stderr>) {
     let made = u64::MAX - left;
     if made % EVERY != 0 {
         return;
     }
-    if watched {
-        io::write_all(STDERR_FILENO, b"\r");
-        io::print_decimal(STDERR_FILENO, made);
-        io::write_all(STDERR_FILENO, b" steps");
+    if let Some(terminal) = watched {
+        let _ = print!(terminal; "\r{made} steps");
     }
 }
 
 // Ends the line of the last number that was shown.
-pub(crate) fn end(left: u64, watched: bool) {
+pub(crate) fn end(left: u64, watched: Option<Stderr>) {
     if u64::MAX - left < EVERY {
         return;
     }
-    if watched {
-        io::write_all(STDERR_FILENO, b"\n");
+    if let Some(terminal) = watched {
+        let _ = terminal.write_all(b"\n");
     }
 }

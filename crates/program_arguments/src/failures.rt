@@ -1,38 +1,79 @@
 // The messages on standard error for a file that cannot be opened, read or written: the program, the file and
-// the reason, which is errno's text. So each function must be called before another call changes errno.
-use libc::STDERR_FILENO;
+// the reason, in the C library's words.
+use program::streams::{Sink, Source};
 use program_spec::buffers::Failure;
+use std::io;
+use std::io::{Cursor, Print, Stderr, Write};
+
+// More octets than the text of any reason has.
+const REASON_ROOM: usize = 256;
+
+// What std puts behind the C library's words, before the number.
+const NUMBERED: &str = " (os error ";
+
+pub(crate) fn tell(err: Stderr, text: &[u8]) {
+    let _ = Print::write_all(&err, text);
+}
+
+// The reason's words.
+fn tell_reason(err: Stderr, reason: io::Error) {
+    let mut put = Cursor::new([0u8; REASON_ROOM]);
+    let _ = write!(put, "{reason}");
+    let size = put.position();
+    let octets = put.into_inner();
+    if size > REASON_ROOM as u64 {
+        return;
+    }
+    let Ok(text) = str::from_utf8(&octets[..size as usize]) else {
+        return;
+    };
+    match text.split_once(NUMBERED) {
+        Some((words, _)) => tell(err, words.as_bytes()),
+        None => tell(err, text.as_bytes()),
+    }
+}
 
 // Every message about a file is written here.
-pub fn fail(program: &[u8], file: &[u8]) {
-    io::write_all(STDERR_FILENO, program);
-    io::write_all(STDERR_FILENO, b": ");
-    os::fail(file);
+pub fn fail(err: Stderr, program: &[u8], file: &[u8], reason: io::Error) {
+    tell(err, program);
+    tell(err, b": ");
+    tell(err, file);
+    tell(err, b": ");
+    tell_reason(err, reason);
+    tell(err, b"\n");
 }
 
 // A read of the file failed; without a name it is standard input.
-pub fn fail_to_read(program: &[u8], file: &[u8]) {
+pub fn fail_to_read(err: Stderr, program: &[u8], file: &[u8], reason: io::Error) {
     if file.len() == 0 {
-        fail(program, b"standard input");
+        fail(err, program, b"standard input", reason);
         return;
     }
-    fail(program, file);
+    fail(err, program, file, reason);
 }
 
 // A write to the file failed; without a name it is standard output.
-pub fn fail_to_write(program: &[u8], file: &[u8]) {
+pub fn fail_to_write(err: Stderr, program: &[u8], file: &[u8], reason: io::Error) {
     if file.len() == 0 {
-        fail(program, b"standard output");
+        fail(err, program, b"standard output", reason);
         return;
     }
-    fail(program, file);
+    fail(err, program, file, reason);
 }
 
-// How a run ended: a read of `input` or a write to `output` failed, or neither.
-pub fn report_failure(failure: Failure, program: &[u8], input: &[u8], output: &[u8]) {
+// How a run ended: a read of `source`, which has the name `input`, or a write to `sink`, which has the name `output`, failed, or neither.
+pub fn report_failure(
+    err: Stderr,
+    failure: Failure,
+    program: &[u8],
+    input: &[u8],
+    source: &Source,
+    output: &[u8],
+    sink: &Sink,
+) {
     match failure {
         Failure::Nothing => {}
-        Failure::Read => fail_to_read(program, input),
-        Failure::Write => fail_to_write(program, output),
+        Failure::Read => fail_to_read(err, program, input, source.reason()),
+        Failure::Write => fail_to_write(err, program, output, sink.reason()),
     }
 }

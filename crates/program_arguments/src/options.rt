@@ -2,8 +2,10 @@
 ghost use Rattle.std.specs.Prelude.{◌≡◌};
 ghost use Rattle.program_arguments.specs.Options.{option_of};
 
+use crate::failures::tell;
+use crate::words::{WORD_ROOM, has_word, word_at};
 use check::same;
-use libc::{STDERR_FILENO, STDOUT_FILENO};
+use std::io::{Print, Stderr, Stdout};
 
 // What an argument tells a program.
 #[derive(Clone, Copy)]
@@ -33,67 +35,71 @@ pub fn option_of(word: &[u8]) -> Told
     Told::Unknown
 }
 
+// Standard output may be closed: then nobody reads what is told.
+fn print(out: Stdout, text: &[u8]) {
+    let _ = out.write_all(text);
+}
+
 // The version of the programs and of the library; the C header has it as JIBHOTRAN_VERSION.
-fn print_version(name: &[u8]) {
-    io::write_all(STDOUT_FILENO, name);
-    io::write_all(STDOUT_FILENO, b" (Jibhotran) 4.14.0\n");
+fn print_version(out: Stdout, name: &[u8]) {
+    print(out, name);
+    print(out, b" (Jibhotran) 4.14.0\n");
 }
 
 // A line on standard error: the word, and what is wrong with it.
-fn complain(word: &[u8], what: &[u8]) {
-    io::write_all(STDERR_FILENO, word);
-    io::write_all(STDERR_FILENO, what);
+fn complain(err: Stderr, word: &[u8], what: &[u8]) {
+    tell(err, word);
+    tell(err, what);
 }
 
 // Does what the first option among the arguments tells, and says whether there is none.
-fn has_no_option(name: &[u8], help: &[u8]) -> bool {
-    let count = os::arg_count();
-    let mut at = 1;
-    while at < count {
-        let mut word = io::buffer();
-        let length = os::arg(at, &mut word);
-        let told = option_of(&word[..length]);
-        match told {
+fn has_no_option(rt: HostRuntime, name: &[u8], help: &[u8]) -> bool {
+    for at in 1..usize::MAX {
+        if !has_word(rt, at) {
+            return true;
+        }
+        let mut word = [0u8; WORD_ROOM];
+        let length = word_at(rt, at, &mut word);
+        match option_of(&word[..length]) {
             Told::Operand => {}
             Told::Help => {
-                io::write_all(STDOUT_FILENO, help);
+                print(rt.stdout(), help);
                 return false;
             }
             Told::Version => {
-                print_version(name);
+                print_version(rt.stdout(), name);
                 return false;
             }
             Told::Unknown => {
-                complain(&word[..length], b": unknown option, see --help\n");
+                complain(
+                    rt.stderr(),
+                    &word[..length],
+                    b": unknown option, see --help\n",
+                );
                 return false;
             }
         }
-        at += 1;
     }
     true
 }
 
 // Whether a program that takes so many words at the most is to do its work. Where not, what its arguments ask for is done, or what is wrong is told.
-pub fn may_start(name: &[u8], help: &[u8], most: usize) -> bool {
-    if !has_no_option(name, help) {
+pub fn may_start(rt: HostRuntime, name: &[u8], help: &[u8], most: usize) -> bool {
+    if !has_no_option(rt, name, help) {
         return false;
     }
-    let count = os::arg_count();
-    if count <= most {
+    if !has_word(rt, most.saturating_add(1)) {
         return true;
     }
-    if count - most == 1 {
-        return true;
-    }
-    complain(name, b": too many arguments, see --help\n");
+    complain(rt.stderr(), name, b": too many arguments, see --help\n");
     false
 }
 
 // Whether a program is told so many words; fewer are told on standard error.
-pub fn has_words(name: &[u8], least: usize) -> bool {
-    if os::arg_count() > least {
+pub fn has_words(rt: HostRuntime, name: &[u8], least: usize) -> bool {
+    if has_word(rt, least) {
         return true;
     }
-    complain(name, b": too few arguments, see --help\n");
+    complain(rt.stderr(), name, b": too few arguments, see --help\n");
     false
 }

@@ -13,7 +13,7 @@ use Rattle.rtp_frames.specs.Frames as rfc
 use Rattle.rtp_frames.specs.Frames.{end, cut, frame, is_broken, length_size, max_frame}
 use Rattle.rtp_frames.proofs.FrameLaws.{FrameAt, frame_found}
 use Rattle.rtp_frames.proofs.NextLaws.{front-longer, shorter}
-use Rattle.program_spec.specs.Walk.{Front, taken, over, Lawful, onward, walk_in, walk}
+use Rattle.program_spec.specs.Walk.{taken, over, Lawful, onward, walk_in, walk}
 use Rattle.program_spec.specs.declared.buffers.Step.TheVariants as answer
 use Rattle.program_spec.specs.Frames.{FrameProgram, frame_front, over_frames}
 use Rattle.program_spec.specs.Run.{Answers, At, Turned}

@@ -73,7 +73,7 @@ abbrev pub Count : ℤ → ℕ → Type 0
 Count (pos k) n = n ≡ k
 Count (negsuc k) n = n ≡ 0
 
--- a signal interrupted it: errno tells, of a read that failed
+-- a signal interrupted it: the error tells, of a read that failed
 abbrev pub Interrupted : ℤ → Bool → Type 0
 Interrupted (pos k) b = b ≡ false
 Interrupted (negsuc k) b = Unit {0}

@@ -9,7 +9,7 @@ use borrow.Author.Tests.{le-leb, leb-true}
 use lib.Dec.{leb}
 use lib.ListN.{length, take, drop, length-drop, length-append}
 use lib.Seq.{take-append-le, drop-append-le}
-use Rattle.rtp_frames.specs.Frames.{Front, end, cut, frame, framed, front, Frames, more, onward, frames_in, frames}
+use Rattle.rtp_frames.specs.Frames.{Front, end, cut, frame, framed, front, more, onward, frames_in, frames}
 
 -- a frame's packet and what is behind it
 record Parts (n : ℕ) (s p rest : List ℕ) : Type 0 where

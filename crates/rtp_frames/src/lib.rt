@@ -1,5 +1,6 @@
 #![tactic(auto)]
 // Frames on a stream of octets (RFC 4571, section 2).
+
 ghost use Rattle.std.specs.Prelude.{◌≡◌};
 ghost use Rattle.rtp_frames.specs.Answers.{front_of};
 ghost use Rattle.rtp_frames.specs.Frames.{front};

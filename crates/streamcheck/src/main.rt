@@ -1,3 +1,4 @@
+#![tactic(auto)]
 // Reports where the recorded output of an encoder, RTP packets in frames of RFC 4571, breaks the rules (02, K12), from standard input or from the
 // file that its argument names. The frames and the lines are the library's; this program moves octets.
 ghost use Rattle.std.specs.Prelude.{length};
@@ -5,11 +6,14 @@ ghost use Rattle.streamcheck_turns.specs.Turns.{Ended, Enough};
 
 use program::buffers::{failure_of, turns_left};
 use program::progress::is_watched;
+use program::streams::{Sink, Source};
 use program_arguments::failures::report_failure;
 use program_arguments::files::{file_at, layout_told, open_input};
 use program_arguments::options::may_start;
+use program_arguments::words::{WORD_ROOM, word_at};
 use program_spec::buffers::{Buffers, Failure};
 use rtp_frames::MAX_FRAME;
+use std::io::Stderr;
 use streamcheck_session::session::LINES_ROOM;
 use streamcheck_turns::{close, start, turn};
 use wire_spec::layout::Layout;
@@ -20,11 +24,12 @@ const INPUT_SIZE: usize = 4 * MAX_FRAME;
 
 const TEXT_SIZE: usize = 512 * LINES_ROOM;
 
-// Checks the packets of `fd`. The buffers at the end say whether the report was written whole.
+// Checks the packets of `from`. The buffers at the end say whether the report was written whole.
 fn check(
     layout: Layout,
-    fd: i32,
-    watched: bool,
+    from: &mut Source,
+    to: &mut Sink,
+    watched: Option<Stderr>,
     input: &mut [u8],
     cells: &mut [u16],
     out: &mut [u8],
@@ -35,22 +40,23 @@ fn check(
     let mut run = start(layout);
     let mut turns = u64::MAX;
     while turns > 0 {
-        run = turn(fd, run, input, cells, out);
+        run = turn(from, to, run, input, cells, out);
         let buffers = run.buffers;
         turns = turns_left(turns, buffers.open, watched);
     }
-    close(run, input, out)
+    close(to, run, input, out)
 }
 
 // Checks them in buffers of its own; what failed, if anything did.
-fn check_file(layout: Layout, fd: i32) -> Failure {
+fn check_file(rt: HostRuntime, layout: Layout, from: &mut Source, to: &mut Sink) -> Failure {
     let mut input = [0u8; INPUT_SIZE];
     let mut cells = [0u16; MAX_PACKET];
     let mut out = [0u8; TEXT_SIZE];
     let after = check(
         layout,
-        fd,
-        is_watched(true),
+        from,
+        to,
+        is_watched(rt, true),
         &mut input,
         &mut cells,
         &mut out,
@@ -59,8 +65,9 @@ fn check_file(layout: Layout, fd: i32) -> Failure {
 }
 
 // Whether the work is to be done: not where an option asks for something else, nor where the arguments are too many.
-fn starts(layout: Layout) -> bool {
+fn starts(rt: HostRuntime, layout: Layout) -> bool {
     may_start(
+        rt,
         b"streamcheck",
         b"Usage: streamcheck [old] [FILE]\n\
           Reports where a recorded stream, frames of RFC 4571 with RTP packets of RFC 8331, breaks the rules,\n\
@@ -73,18 +80,26 @@ fn starts(layout: Layout) -> bool {
     )
 }
 
-fn main() {
-    let layout = layout_told();
-    if !starts(layout) {
+fn main(rt: HostRuntime) {
+    let layout = layout_told(rt);
+    if !starts(rt, layout) {
         return;
     }
     let at = file_at(layout);
-    let fd = open_input(b"streamcheck", at);
-    if fd < 0 {
+    let Some(mut from) = open_input(rt, b"streamcheck", at) else {
         return;
-    }
-    let mut name = io::buffer();
-    let length = os::arg(at, &mut name);
-    let failure = check_file(layout, fd);
-    report_failure(failure, b"streamcheck", &name[..length], b"");
+    };
+    let mut to = Sink::standard(rt.stdout());
+    let mut name = [0u8; WORD_ROOM];
+    let length = word_at(rt, at, &mut name);
+    let failure = check_file(rt, layout, &mut from, &mut to);
+    report_failure(
+        rt.stderr(),
+        failure,
+        b"streamcheck",
+        &name[..length],
+        &from,
+        b"",
+        &to,
+    );
 }

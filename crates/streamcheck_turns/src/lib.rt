@@ -1,3 +1,4 @@
+#![tactic(auto)]
 // What `streamcheck` does between a read and a write (02, K12): it reports a frame, writes the text that waits, or reads more. Each function asks
 // that places lie within the buffers, and that these are large enough (`Enough`).
 ghost use Rattle.std.specs.Prelude.{◌+◌, ◌^◌, ◌<◌, ◌≤◌, ◌≡◌, length};
@@ -6,8 +7,8 @@ ghost use Rattle.program_spec.specs.Run.{Closed, Turned, at};
 ghost use Rattle.streamcheck_lines.specs.Lines.{lines_room};
 ghost use Rattle.streamcheck_turns.specs.Turns.{Enough, octets_of, program, started};
 
-use libc::STDOUT_FILENO;
 use program::buffers::{after_step, flush, is_done};
+use program::streams::{Sink, Source};
 use program_spec::buffers::Buffers;
 use streamcheck_session::session::{Session, Text, begin, check_frame, finish};
 use wire_spec::layout::Layout;
@@ -30,7 +31,14 @@ pub fn start(layout: Layout) -> Run
 }
 
 // One frame, or what must be done before the next.
-pub fn turn(fd: i32, run: Run, input: &mut [u8], cells: &mut [u16], out: &mut [u8]) -> Run
+pub fn turn(
+    from: &mut Source,
+    to: &mut Sink,
+    run: Run,
+    input: &mut [u8],
+    cells: &mut [u16],
+    out: &mut [u8],
+) -> Run
     requires in_bounds { InBounds run.buffers (length input.old) (length out.old) }
     requires enough { Enough (length input.old) (length cells.old) (length out.old) }
     requires index_bound { run.session.index + 1 < 2 ^ 64 }
@@ -46,7 +54,7 @@ pub fn turn(fd: i32, run: Run, input: &mut [u8], cells: &mut [u16], out: &mut [u
     let step = reported.step;
     Run {
         session: next,
-        buffers: after_step(fd, STDOUT_FILENO, buffers, step, input, out),
+        buffers: after_step(from, to, buffers, step, input, out),
     }
 }
 
@@ -60,7 +68,7 @@ fn octets_of(text: Text) -> usize
 }
 
 // The last line, where the last frame is cut.
-pub fn close(run: Run, input: &[u8], out: &mut [u8]) -> Buffers
+pub fn close(to: &mut Sink, run: Run, input: &[u8], out: &mut [u8]) -> Buffers
     requires in_bounds { InBounds run.buffers (length input.now) run.buffers.filled }
     requires lines_room_in_bounds { lines_room ≤ length out.old }
     ensures { Closed program (at run.session run.buffers input.now out.old) result out.new }
@@ -73,5 +81,5 @@ pub fn close(run: Run, input: &[u8], out: &mut [u8]) -> Buffers
     let at = buffers.at;
     let end = buffers.end;
     let filled = octets_of(finish(session.index, &input[at..end], out));
-    flush(program::buffers::finish(buffers, filled), out)
+    flush(to, program::buffers::finish(buffers, filled), out)
 }

@@ -1,0 +1,12 @@
+-- Pieces one behind the other are one piece.
+use Rattle.text.specs.Text.{ascii}
+use Rattle.fielddiff_spec.specs.Diff.{refused_line, dash, number}
+use Rattle.fielddiff_spec.specs.Text.{line_text}
+use Rattle.text.proofs.PutLaws.{both, same}
+use Rattle.fielddiff_lines.proofs.DifferText.{line-text}
+use Rattle.fielddiff_lines.proofs.put_right_refused.Goals as goal
+
+pub returns-clause-put : goal.returns-clause-put
+unfolding line_text ascii
+returns-clause-put c =
+    same (line-text (refused_line c.args.i dash (number c.args.number))) (both c.put_decimal-next.ensures.put (both c.put_labelled-next.ensures.put c.put.ensures.put))
