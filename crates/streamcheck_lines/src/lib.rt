@@ -1,3 +1,4 @@
+#![tactic(auto)]
 // The lines of `streamcheck` (02, K12): each function puts them to the octets that it is lent, and asks for the room that they can take.
 ghost use Rattle.std.specs.Prelude.{◌+◌, ◌≤◌, cond, [], ◌++◌, ◌≡◌, length};
 ghost use Rattle.text.specs.Put.{Put};
