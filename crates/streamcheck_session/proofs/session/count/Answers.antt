@@ -1,0 +1,8 @@
+-- `count` goes behind a frame.
+-- By its definition.
+use borrow.Author.Rules.{rules}
+use mathlib.Core.Path.{refl}
+use Rattle.streamcheck_session.proofs.session.count.Goals as goal
+
+pub returns : goal.returns
+returns c = refl
