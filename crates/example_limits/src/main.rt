@@ -49,10 +49,8 @@ fn head() -> Head {
 // The sum of the cells modulo 65,536.
 fn sum(cells: &[u16]) -> u16 {
     let mut total: u16 = 0;
-    let mut k: usize = 0;
-    while k < cells.len() {
-        total = total.wrapping_add(cells[k]);
-        k += 1;
+    for cell in cells {
+        total = total.wrapping_add(*cell);
     }
     total
 }
@@ -93,10 +91,8 @@ fn there_and_back(stdout: Stdout, list: &[u16], out: &mut [u8], cells: &mut [u16
 // Records A, one after the other.
 fn fill_with_a(list: &mut [u16]) {
     let a = A;
-    let mut k: usize = 0;
-    while k < list.len() {
+    for k in 0..list.len() {
         list[k] = a[k % Header::CELLS];
-        k += 1;
     }
 }
 
@@ -130,10 +126,9 @@ fn long_cell(k: usize, count: usize) -> u16
 
 // Records of 255 words, and a last one that fills the list.
 fn fill_with_long(list: &mut [u16]) {
-    let mut k: usize = 0;
-    while k < list.len() {
-        list[k] = long_cell(k, list.len());
-        k += 1;
+    let count = list.len();
+    for k in 0..count {
+        list[k] = long_cell(k, count);
     }
 }
 
@@ -173,14 +168,12 @@ fn run_padding(stdout: Stdout, packet: &mut [u8], cells: &mut [u16]) {
 
 // Reads the packet with each bit of record A changed, one at a time. Bit 0 is the most significant of its first octet.
 fn run_bits(stdout: Stdout, packet: &mut [u8], cells: &mut [u16]) {
-    let mut bit: usize = 0;
-    while bit < A_BITS {
+    for bit in 0..A_BITS {
         let mask = 0x80u8 >> (bit % 8);
         change(packet, A_AT + bit / 8, mask);
         name(stdout, b"bit ", bit as u64);
         read_back(stdout, packet, cells);
         change(packet, A_AT + bit / 8, mask);
-        bit += 1;
     }
 }
 

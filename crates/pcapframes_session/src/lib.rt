@@ -1,3 +1,4 @@
+#![tactic(auto)]
 // One item of a capture, and the frame (RFC 4571) of the UDP datagram that it holds for a port. The functions that put a frame ask for room for any, and that
 // one packet more can be counted.
 ghost use Rattle.std.specs.Prelude.{◌≡◌, ◌+◌, ◌≤◌, length};
