@@ -1,3 +1,4 @@
+#![tactic(auto)]
 // The C boundary of the shared outlet (02, K10; include/jibhotran.h).
 //
 // A call returns 0 or a refusal's number; what it returns beside that goes to the caller's row of numbers,

@@ -1,3 +1,4 @@
+#![tactic(auto)]
 // SDP format parameters written as a text (01, "SDP parameters"): its size found first, then its items put one behind the other.
 //
 // `write` is the entry point: it takes any octets and any VPID_Code. A refusal leaves the octets to write to as they were.

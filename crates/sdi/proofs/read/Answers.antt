@@ -32,47 +32,42 @@ returns-then-not-position_fits c = let a = c.args in let both = read_is a.line.n
     (read-20 a.line.now a.start a.position a.cells.now c.if-line-gt-MAX_LINE.false c.if-start-line.false (failed _ _ c.position_fits.ensures (ap not c.if-not-position_fits.true))) _ _ c.refuse_read-then-not-position_fits.ensures refl in record { value = both.0; cells_after = both.1 }
 
 pub returns-then-not-words_in_range : goal.returns-then-not-words_in_range
-returns-then-not-words_in_range c = let start : tie.Start = c.before.before.before.before.before.before in
-    let placed : position_ok (start).args.position ≡ true = passed _ _ c.position_fits.ensures (ap not c.if-not-position_fits.false) in
-    let a = (start).args in let both = read_is a.line.now a.start a.position a.cells.now (refuse 73 0)
+returns-then-not-words_in_range c = let placed : position_ok c.args.position ≡ true = passed _ _ c.position_fits.ensures (ap not c.if-not-position_fits.false) in
+    let a = c.args in let both = read_is a.line.now a.start a.position a.cells.now (refuse 73 0)
     (read-73 a.line.now a.start a.position a.cells.now c.if-line-gt-MAX_LINE.false c.if-start-line.false (placed) (failed _ _ c.words_in_range.ensures (ap not c.if-not-words_in_range.true))) _ _ c.refuse_read-then-not-words_in_range.ensures refl in record { value = both.0; cells_after = both.1 }
 
 pub overflow_mul-need : goal.overflow_mul-need
-overflow_mul-need c = let start : tie.Start = c.before.before.before.before.before.before in
-    let placed : position_ok (start).args.position ≡ true = passed _ _ c.position_fits.ensures (ap not c.if-not-position_fits.false) in
-    let found-is : let a = (start).args in c.check_packets-found.result ≡ found_of (packets_in a.position (drop a.start a.line.now)) = let a = (start).args in
+overflow_mul-need c = let placed : position_ok c.args.position ≡ true = passed _ _ c.position_fits.ensures (ap not c.if-not-position_fits.false) in
+    let found-is : let a = c.args in c.check_packets-found.result ≡ found_of (packets_in a.position (drop a.start a.line.now)) = let a = c.args in
     c.check_packets-found.ensures a.position ∙ ap (λ (x : List ℕ). found_of (packets_in a.position x)) (part-all a.start a.line.now) in
-    let here : let a = (start).args in FoundThere a.position (drop a.start a.line.now) c.in-Packets.count c.in-Packets.used = found-there _ ((position-iff _).0 (placed)) _ _ _ (sym (found-is) ∙ c.in-Packets.is) in
-    let h = here in omega (arith, h.few, h.inside, length-drop (start).args.start (start).args.line.now)
+    let here : let a = c.args in FoundThere a.position (drop a.start a.line.now) c.in-Packets.count c.in-Packets.used = found-there _ ((position-iff _).0 (placed)) _ _ _ (sym (found-is) ∙ c.in-Packets.is) in
+    let h = here in omega (arith, h.few, h.inside, length-drop c.args.start c.args.line.now)
 
 pub overflow_add-need : goal.overflow_add-need
-overflow_add-need c = let start : tie.Start = c.before.before.before.before.before.before in
-    let placed : position_ok (start).args.position ≡ true = passed _ _ c.position_fits.ensures (ap not c.if-not-position_fits.false) in
-    let found-is : let a = (start).args in c.check_packets-found.result ≡ found_of (packets_in a.position (drop a.start a.line.now)) = let a = (start).args in
+overflow_add-need c = let placed : position_ok c.args.position ≡ true = passed _ _ c.position_fits.ensures (ap not c.if-not-position_fits.false) in
+    let found-is : let a = c.args in c.check_packets-found.result ≡ found_of (packets_in a.position (drop a.start a.line.now)) = let a = c.args in
     c.check_packets-found.ensures a.position ∙ ap (λ (x : List ℕ). found_of (packets_in a.position x)) (part-all a.start a.line.now) in
-    let here : let a = (start).args in FoundThere a.position (drop a.start a.line.now) c.in-Packets.count c.in-Packets.used = found-there _ ((position-iff _).0 (placed)) _ _ _ (sym (found-is) ∙ c.in-Packets.is) in
-    let h = here in omega (arith, h.few, h.inside, length-drop (start).args.start (start).args.line.now)
+    let here : let a = c.args in FoundThere a.position (drop a.start a.line.now) c.in-Packets.count c.in-Packets.used = found-there _ ((position-iff _).0 (placed)) _ _ _ (sym (found-is) ∙ c.in-Packets.is) in
+    let h = here in omega (arith, h.few, h.inside, length-drop c.args.start c.args.line.now)
 
 pub returns-then-cells-need : goal.returns-then-cells-need
-returns-then-cells-need c = let start : tie.Start = c.before.before.before.before.before.before in
-    let placed : position_ok (start).args.position ≡ true = passed _ _ c.position_fits.ensures (ap not c.if-not-position_fits.false) in
-    let in-range : all_below (2 ^ word_bits) (start).args.line.now ≡ true = passed _ _ c.words_in_range.ensures (ap not c.if-not-words_in_range.false) in
-    let found-is : let a = (start).args in c.check_packets-found.result ≡ found_of (packets_in a.position (drop a.start a.line.now)) = let a = (start).args in
+returns-then-cells-need c = let placed : position_ok c.args.position ≡ true = passed _ _ c.position_fits.ensures (ap not c.if-not-position_fits.false) in
+    let in-range : all_below (2 ^ word_bits) c.args.line.now ≡ true = passed _ _ c.words_in_range.ensures (ap not c.if-not-words_in_range.false) in
+    let found-is : let a = c.args in c.check_packets-found.result ≡ found_of (packets_in a.position (drop a.start a.line.now)) = let a = c.args in
     c.check_packets-found.ensures a.position ∙ ap (λ (x : List ℕ). found_of (packets_in a.position x)) (part-all a.start a.line.now) in
-    let here : let a = (start).args in FoundThere a.position (drop a.start a.line.now) c.in-Packets.count c.in-Packets.used = found-there _ ((position-iff _).0 (placed)) _ _ _ (sym (found-is) ∙ c.in-Packets.is) in
-    let a = (start).args in
+    let here : let a = c.args in FoundThere a.position (drop a.start a.line.now) c.in-Packets.count c.in-Packets.used = found-there _ ((position-iff _).0 (placed)) _ _ _ (sym (found-is) ∙ c.in-Packets.is) in
+    let a = c.args in
     let h = here in let both = read_is a.line.now a.start a.position a.cells.now (refuse 14 0)
     (read-14 a.line.now a.start a.position a.cells.now c.if-line-gt-MAX_LINE.false c.if-start-line.false (placed) (in-range) h.records h.packets (omega (arith, h.cells, c.if-cells-need.true))) _ _ c.refuse_read-then-cells-need.ensures refl in record { value = both.0; cells_after = both.1 }
 
 pub read_packets-requires : goal.read_packets-requires
-read_packets-requires c = let start : tie.Start = c.before.before.before.before.before.before in
-    let placed : position_ok (start).args.position ≡ true = passed _ _ c.position_fits.ensures (ap not c.if-not-position_fits.false) in
-    let found-is : let a = (start).args in c.check_packets-found.result ≡ found_of (packets_in a.position (drop a.start a.line.now)) = let a = (start).args in
+read_packets-requires c = let placed : position_ok c.args.position ≡ true = passed _ _ c.position_fits.ensures (ap not c.if-not-position_fits.false) in
+    let found-is : let a = c.args in c.check_packets-found.result ≡ found_of (packets_in a.position (drop a.start a.line.now)) = let a = c.args in
     c.check_packets-found.ensures a.position ∙ ap (λ (x : List ℕ). found_of (packets_in a.position x)) (part-all a.start a.line.now) in
-    let here : let a = (start).args in FoundThere a.position (drop a.start a.line.now) c.in-Packets.count c.in-Packets.used = found-there _ ((position-iff _).0 (placed)) _ _ _ (sym (found-is) ∙ c.in-Packets.is) in
-    let room : length (list_of (here).records) ≤ length (start).args.cells.now = omega (arith, (here).cells, c.if-cells-need.false) in
-    let cells_are : let a = (start).args in found_cells (packets_in a.position (drop a.start a.line.now)) ≡ list_of (here).records = ap found_cells (here).packets in
-    let a = (start).args in
+    let here : let a = c.args in FoundThere a.position (drop a.start a.line.now) c.in-Packets.count c.in-Packets.used = found-there _ ((position-iff _).0 (placed)) _ _ _ (sym (found-is) ∙ c.in-Packets.is) in
+    let room : length (list_of (here).records) ≤ length c.args.cells.now = omega (arith, (here).cells, c.if-cells-need.false) in
+    let cells_are : let a = c.args in found_cells (packets_in a.position (drop a.start a.line.now)) ≡ list_of (here).records = ap found_cells (here).packets in
+    let a = c.args in
     rw (part-all a.start a.line.now) (
       (position-iff a.position).0 (placed),
       subst IsAccepted (sym (here).packets) tt,
@@ -80,24 +75,22 @@ read_packets-requires c = let start : tie.Start = c.before.before.before.before.
     )
 
 pub returns-in-Refused : goal.returns-in-Refused
-returns-in-Refused c = let start : tie.Start = c.before.before.before.before.before.before in
-    let placed : position_ok (start).args.position ≡ true = passed _ _ c.position_fits.ensures (ap not c.if-not-position_fits.false) in
-    let in-range : all_below (2 ^ word_bits) (start).args.line.now ≡ true = passed _ _ c.words_in_range.ensures (ap not c.if-not-words_in_range.false) in
-    let found-is : let a = (start).args in c.check_packets-found.result ≡ found_of (packets_in a.position (drop a.start a.line.now)) = let a = (start).args in
+returns-in-Refused c = let placed : position_ok c.args.position ≡ true = passed _ _ c.position_fits.ensures (ap not c.if-not-position_fits.false) in
+    let in-range : all_below (2 ^ word_bits) c.args.line.now ≡ true = passed _ _ c.words_in_range.ensures (ap not c.if-not-words_in_range.false) in
+    let found-is : let a = c.args in c.check_packets-found.result ≡ found_of (packets_in a.position (drop a.start a.line.now)) = let a = c.args in
     c.check_packets-found.ensures a.position ∙ ap (λ (x : List ℕ). found_of (packets_in a.position x)) (part-all a.start a.line.now) in
-    let a = (start).args in let both = read_is a.line.now a.start a.position a.cells.now (refused c.in-Refused.refusal)
+    let a = c.args in let both = read_is a.line.now a.start a.position a.cells.now (refused c.in-Refused.refusal)
     (read-packet-refused a.line.now a.start a.position a.cells.now c.if-line-gt-MAX_LINE.false c.if-start-line.false (placed) (in-range) _ (sym (found-is) ∙ c.in-Refused.is)) _ _ refl refl in record { value = both.0; cells_after = both.1 }
 
 pub returns-else-cells-need : goal.returns-else-cells-need
-returns-else-cells-need c = let start : tie.Start = c.before.before.before.before.before.before in
-    let placed : position_ok (start).args.position ≡ true = passed _ _ c.position_fits.ensures (ap not c.if-not-position_fits.false) in
-    let in-range : all_below (2 ^ word_bits) (start).args.line.now ≡ true = passed _ _ c.words_in_range.ensures (ap not c.if-not-words_in_range.false) in
-    let found-is : let a = (start).args in c.check_packets-found.result ≡ found_of (packets_in a.position (drop a.start a.line.now)) = let a = (start).args in
+returns-else-cells-need c = let placed : position_ok c.args.position ≡ true = passed _ _ c.position_fits.ensures (ap not c.if-not-position_fits.false) in
+    let in-range : all_below (2 ^ word_bits) c.args.line.now ≡ true = passed _ _ c.words_in_range.ensures (ap not c.if-not-words_in_range.false) in
+    let found-is : let a = c.args in c.check_packets-found.result ≡ found_of (packets_in a.position (drop a.start a.line.now)) = let a = c.args in
     c.check_packets-found.ensures a.position ∙ ap (λ (x : List ℕ). found_of (packets_in a.position x)) (part-all a.start a.line.now) in
-    let here : let a = (start).args in FoundThere a.position (drop a.start a.line.now) c.in-Packets.count c.in-Packets.used = found-there _ ((position-iff _).0 (placed)) _ _ _ (sym (found-is) ∙ c.in-Packets.is) in
-    let room : length (list_of (here).records) ≤ length (start).args.cells.now = omega (arith, (here).cells, c.if-cells-need.false) in
-    let cells_are : let a = (start).args in found_cells (packets_in a.position (drop a.start a.line.now)) ≡ list_of (here).records = ap found_cells (here).packets in
-    let a = (start).args in
+    let here : let a = c.args in FoundThere a.position (drop a.start a.line.now) c.in-Packets.count c.in-Packets.used = found-there _ ((position-iff _).0 (placed)) _ _ _ (sym (found-is) ∙ c.in-Packets.is) in
+    let room : length (list_of (here).records) ≤ length c.args.cells.now = omega (arith, (here).cells, c.if-cells-need.false) in
+    let cells_are : let a = c.args in found_cells (packets_in a.position (drop a.start a.line.now)) ≡ list_of (here).records = ap found_cells (here).packets in
+    let a = c.args in
     let h = here in
     let r = c.read_packets in let both = read_is a.line.now a.start a.position a.cells.now (accepted h.records)
     (read_fits a.line.now a.start a.position a.cells.now c.if-line-gt-MAX_LINE.false c.if-start-line.false (placed) (in-range) h.records h.packets (room)) _ _

@@ -62,13 +62,16 @@ module _ (s old : List ℕ) (short : length s ≤ max_text) where
     all h new e = let a = answers s old _ (content h) in (counted ∙ a.0, e ∙ a.1)
 
 pub returns-then-text-gt-MAX_TEXT : goal.returns-then-text-gt-MAX_TEXT
-returns-then-text-gt-MAX_TEXT c = rw c.refuse.ensures (answers c.args.text.now c.args.pairs.now _ (too_long c.args.text.now c.args.pairs.now c.if-text-gt-MAX_TEXT.true))
+returns-then-text-gt-MAX_TEXT c = let both = answers c.args.text.now c.args.pairs.now _ (too_long c.args.text.now c.args.pairs.now c.if-text-gt-MAX_TEXT.true) in
+    record { value = c.refuse.ensures ∙ both.0; pairs_after = both.1 }
 
 pub returns-in_default : goal.returns-in_default
-returns-in_default c = rw c.in_default.is (answers c.args.text.now c.args.pairs.now _ (offends c.args.text.now c.args.pairs.now c.if-text-gt-MAX_TEXT.false _ (sym c.check_items-reading.ensures ∙ c.in_default.is)))
+returns-in_default c = let both = answers c.args.text.now c.args.pairs.now _ (offends c.args.text.now c.args.pairs.now c.if-text-gt-MAX_TEXT.false _ (sym c.check_items-reading.ensures ∙ c.in_default.is)) in
+    record { value = c.in_default.is ∙ both.0; pairs_after = both.1 }
 
 pub returns-then-pairs-parameters : goal.returns-then-pairs-parameters
-returns-then-pairs-parameters c = rw c.refuse-then-pairs-parameters.ensures (answers c.args.text.now c.args.pairs.now _ (no_room c.args.text.now c.args.pairs.now c.if-text-gt-MAX_TEXT.false _ (sym c.check_items-reading.ensures ∙ c.in-Accepted.is) c.if-pairs-parameters.true))
+returns-then-pairs-parameters c = let both = answers c.args.text.now c.args.pairs.now _ (no_room c.args.text.now c.args.pairs.now c.if-text-gt-MAX_TEXT.false _ (sym c.check_items-reading.ensures ∙ c.in-Accepted.is) c.if-pairs-parameters.true) in
+    record { value = c.refuse-then-pairs-parameters.ensures ∙ both.0; pairs_after = both.1 }
 
 pub store_pairs-requires : goal.store_pairs-requires
 store_pairs-requires c = fits c.args.text.now c.args.pairs.now c.if-text-gt-MAX_TEXT.false _ (sym c.check_items-reading.ensures ∙ c.in-Accepted.is) c.if-pairs-parameters.false

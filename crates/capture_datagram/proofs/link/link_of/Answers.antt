@@ -3,6 +3,7 @@
 use mathlib.Core.Path.{ap, sym}
 use mathlib.Core.Logic.{⊎_elim, inl, inr}
 use borrow.Author.Tests.{ne_eqb}
+use native.Mathlib.Omega.{arith}
 use Rattle.capture_datagram.specs.Link.{link_of}
 use Rattle.capture_datagram.proofs.link.link_of.Goals as goal
 
@@ -32,13 +33,12 @@ returns-in-229 c = sym (ap link_of c.in-229.is)
 
 pub returns-in_default : goal.returns-in_default
 unfolding link_of
-returns-in_default c = let r = c.in_default.rest in
-    rw (
-      ne_eqb _ 1 r.0.0.0.0.0.1,
-      ne_eqb _ 113 r.0.0.0.0.1,
-      ne_eqb _ 276 r.0.0.0.1,
-      ne_eqb _ 12 (λ e. r.0.0.1 (inl e)),
-      ne_eqb _ 101 (λ e. r.0.0.1 (inr e)),
-      ne_eqb _ 228 r.0.1,
-      ne_eqb _ 229 r.1,
+returns-in_default c = rw (
+      ne_eqb c.args.number 1 (omega arith),
+      ne_eqb c.args.number 113 (omega arith),
+      ne_eqb c.args.number 276 (omega arith),
+      ne_eqb c.args.number 12 (grind arith),
+      ne_eqb c.args.number 101 (grind arith),
+      ne_eqb c.args.number 228 (omega arith),
+      ne_eqb c.args.number 229 (omega arith),
     )

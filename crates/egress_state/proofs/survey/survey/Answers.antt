@@ -13,6 +13,7 @@ use Rattle.egress_state.proofs.SurveyLaws.{refuses-memory, refuses-numbers, refu
 use Rattle.egress_spec.proofs.PlaceLaws.{head-fits, slot-fits}
 use Rattle.egress_spec.proofs.Upto.{upto-none}
 use Rattle.egress_state.proofs.survey.survey.Goals as goal
+use Rattle.egress_state.proofs.survey.survey.Goals.{then-is_held+else-not-length_fits+else-used-slot, else-is_held}
 
 pub returns-then-memory-ne-MEMORY : goal.returns-then-memory-ne-MEMORY
 returns-then-memory-ne-MEMORY c = refuses-memory _ _ _ c.if-memory-ne-MEMORY.true
@@ -92,16 +93,16 @@ loop-i-preserved c = let a = c.args in
     let place = sym (held_of a.state c.loop-c.c l.i (omega arith)) in
     let told = place ∙ sym c.is_held.ensures in
     let z : k + 1 ≡ 8 * c.loop-c.c + (l.i + 1) = omega arith in
-    ⊎_elim
-    (λ w.
-    let e : Fit a.state k = sym w.2.ensures ∙ not-false _ w.3.left in
-    let marked = set l.used (slot_at a.state k) true in
-    let p = passed-held a.state a.memory k l.used l.invariant.2 low (told ∙ w.0.taken) e w.5.left in
-    (l.invariant.0, omega arith, rw w.6 (subst (λ (j : ℕ). Passed a.state a.memory j marked) z p)))
-    (λ w.
-    let p = passed-free a.state a.memory k l.used l.invariant.2 (told ∙ w.0.left) in
-    (l.invariant.0, omega arith, rw w.1 (subst (λ (j : ℕ). Passed a.state a.memory j l.used) z p)))
-    c.if-is_held.branch
+    elim c.if-is_held.branch [
+      | then-is_held+else-not-length_fits+else-used-slot w ↦
+          let e : Fit a.state k = sym w.length_fits.ensures ∙ w.if-not-length_fits.false in
+          let marked = set l.used (slot_at a.state k) true in
+          let p = passed-held a.state a.memory k l.used l.invariant.2 low (told ∙ w.if-is_held.true) e w.if-used-slot.false in
+          (l.invariant.0, omega arith, rw w.used-is (subst (λ (j : ℕ). Passed a.state a.memory j marked) z p))
+      | else-is_held w ↦
+          let p = passed-free a.state a.memory k l.used l.invariant.2 (told ∙ w.if-is_held.false) in
+          (l.invariant.0, omega arith, rw w.used-is (subst (λ (j : ℕ). Passed a.state a.memory j l.used) z p))
+    ]
 
 pub loop-c-preserved : goal.loop-c-preserved
 loop-c-preserved c = let a = c.args in

@@ -1,0 +1,40 @@
+use borrow.Author.Rules.{rules}
+use mathlib.Core.Path.{◌≡◌, refl, sym, ◌∙◌, ap}
+use mathlib.Core.Bool.{Bool, true, false, ◌||◌, or-true, or-false}
+use mathlib.Core.List.{List, [], ◌∷◌}
+use Prim.Native.Nat.{ℕ, suc, ◌+◌, ◌-◌, ◌≤◌, ◌<◌}
+use native.Mathlib.Numerals.{add-one}
+use native.Mathlib.Omega.{arith}
+use lib.Dec.{eqb}
+use lib.ListN.{length, get_or, drop, length-drop}
+use lib.Seq.{drop-cons, drop-length}
+use Rattle.anc_filter.specs.Wanted.{matching_pair, any_of, wanted_of}
+use Rattle.anc_filter.specs.declared.DidSdid.{DidSdid}
+use Rattle.anc_filter.proofs.wanted_of.Goals as goal
+
+-- what is left from i is the element at i, and what is left from i + 1
+next_of : (d s : ℕ) (ys : List DidSdid) (i : ℕ) (z : DidSdid) → i < length ys → any_of d s (drop i ys) ≡ matching_pair d s (get_or ys i z) || any_of d s (drop (i + 1) ys)
+unfolding any_of
+next_of d s ys i z l = rw (add-one, drop-cons ys i z)
+
+on-hit : (d s : ℕ) (ys : List DidSdid) (i : ℕ) (z : DidSdid) → i < length ys → any_of d s (drop i ys) ≡ any_of d s ys → matching_pair d s (get_or ys i z) ≡ true → true ≡ wanted_of d s ys
+on-hit d s ys i z l e h =
+    sym (ap (λ (t : Bool). eqb (length ys) 0 || t) (sym e ∙ next_of d s ys i z l ∙ ap (λ (t : Bool). t || any_of d s (drop (i + 1) ys)) h) ∙ or-true (eqb (length ys) 0))
+
+on-miss : (d s : ℕ) (ys : List DidSdid) (i : ℕ) (z : DidSdid) → i < length ys → any_of d s (drop i ys) ≡ any_of d s ys → matching_pair d s (get_or ys i z) ≡ false → any_of d s (drop (i + 1) ys) ≡ any_of d s ys
+on-miss d s ys i z l e h = sym (next_of d s ys i z l ∙ ap (λ (t : Bool). t || any_of d s (drop (i + 1) ys)) h) ∙ e
+
+on-end : (d s : ℕ) (ys : List DidSdid) (i : ℕ) → i ≡ length ys → any_of d s (drop i ys) ≡ any_of d s ys → eqb i 0 ≡ wanted_of d s ys
+unfolding any_of
+on-end d s ys i n e =
+    ap (λ (k : ℕ). eqb k 0) n ∙ sym (or-false (eqb (length ys) 0)) ∙ ap (λ (t : Bool). eqb (length ys) 0 || t) (ap (any_of d s) (sym (ap (λ (k : ℕ). drop k ys) n ∙ drop-length ys)) ∙ e)
+
+pub returns-then-matches_pair : goal.returns-then-matches_pair
+returns-then-matches_pair c = let l = c.loop-i in on-hit _ _ _ l.i (record { did = 0; sdid = 0 }) c.loop-i-test.true l.invariant.1 (sym c.matches_pair.ensures ∙ c.if-matches_pair.true)
+
+pub loop-i-preserved : goal.loop-i-preserved
+loop-i-preserved c = let l = c.loop-i in
+    (omega arith, on-miss _ _ _ l.i (record { did = 0; sdid = 0 }) c.loop-i-test.true l.invariant.1 (sym c.matches_pair.ensures ∙ c.if-matches_pair.false))
+
+pub returns : goal.returns
+returns c = let l = c.loop-i in on-end _ _ _ _ (omega arith) l.invariant.1

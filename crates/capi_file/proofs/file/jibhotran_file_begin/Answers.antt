@@ -1,0 +1,18 @@
+-- `jibhotran_file_begin` begins a field file, or gives 255.
+-- By what the library gives, where the answer is long enough.
+use borrow.Author.Rules.{rules}
+use mathlib.Core.Path.{ap, ◌∙◌}
+use borrow.Author.Tests.{le-leb, lt-leb}
+use lib.ListN.{length}
+use Rattle.wire_spec.specs.declared.written.Written.{Written}
+use Rattle.wire_spec.specs.Bits.{overwrite}
+use Rattle.capi_answer.specs.Rows.{answer_size, written_reply}
+use Rattle.capi_file.proofs.file.jibhotran_file_begin.Goals as goal
+
+pub returns-then-answer-lt-ANSWER_SIZE : goal.returns-then-answer-lt-ANSWER_SIZE
+returns-then-answer-lt-ANSWER_SIZE c = let h = lt-leb answer_size (length c.args.answer.now) c.if-answer-lt-ANSWER_SIZE.true in record { value = rw h; out_after = rw h; answer_after = rw h }
+
+pub returns : goal.returns
+returns c = let a = c.args in
+    let h = le-leb answer_size (length a.answer.now) c.if-answer-lt-ANSWER_SIZE.false in
+    record { value = rw h (c.reply_written.ensures.value ∙ ap (λ (x : Written). (written_reply x).number) c.begin-written.ensures.value); out_after = rw h c.begin-written.ensures.out_after; answer_after = rw h (c.reply_written.ensures.answer_after ∙ ap (λ (x : Written). overwrite (written_reply x).row a.answer.now) c.begin-written.ensures.value) }

@@ -1,0 +1,20 @@
+-- `code_size` counts the octets of a VPID code with its `;`.
+-- By whether there is one.
+use borrow.Author.Rules.{rules}
+use mathlib.Core.Path.{ap, sym, ◌∙◌}
+use Prim.Native.Nat.{ℕ, ◌+◌}
+use native.Mathlib.Omega.{arith}
+use Rattle.sdp_spec.specs.Writing.{separated}
+use Rattle.text.proofs.TextLaws.{length-decimal}
+use Rattle.sdp_spec.proofs.WritingLaws.{codes-size}
+use Rattle.sdp_writer.proofs.code_size.Goals as goal
+
+pub overflow_add-result : goal.overflow_add-result
+overflow_add-result c = omega (arith, c.decimal_size.ensures, length-decimal c.in-Code.code)
+
+pub returns-in-Absent : goal.returns-in-Absent
+unfolding separated
+returns-in-Absent c = rw c.in-Absent.is
+
+pub returns-in-Code : goal.returns-in-Code
+returns-in-Code c = rw c.in-Code.is (ap (λ (n : ℕ). 11 + n) c.decimal_size.ensures ∙ sym (codes-size _))
