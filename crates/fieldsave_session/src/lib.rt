@@ -1,3 +1,4 @@
+#![tactic(auto)]
 // What `fieldsave` files: frames, and the whole fields that their packets give, as a field file (01, "Field file").
 //
 // `fieldfile_writer::begin` and `file_frame` are the entry points. The session is that of `fieldlist_session`.
