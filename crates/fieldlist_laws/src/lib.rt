@@ -1,1 +1,2 @@
+#![tactic(auto)]
 // How many lines `fieldlist` prints, of any input. In specs/ and proofs/: no code.
