@@ -97,7 +97,7 @@ module _ (source type start : ℕ) (is-source : source < 2 ^ 32) (is-type : type
   octets-field : (x : Field) (before : List Part) (n t f : ℕ) (l : List (List Record))
       → map (λ (y : Sent). y.part.octets) (sent_of x before (parts_from n t f l)) ≡ map (content_octets rfc8331) (field_packets source type start n t f l)
   octets-field x before n t f [] = refl
-  octets-field x before n t f (rs ∷ l) = ap (λ (m : List (List ℕ)). content_octets rfc8331 (says_at source type start n t f (is_none source type start l) rs) ∷ m) (octets-field x _ (suc n) t f l)
+  octets-field x before n t f (rs ∷ l) = ap (λ (m : List (List ℕ)). content_octets rfc8331 (says_at source type start n t f (is_none source type start l) rs) ∷ m) (octets-field x (before ++ (part_at n t f (is_none source type start l) rs ∷ [])) (suc n) t f l)
 
   octets-fields : (n : ℕ) (cs : List Cut) → map (λ (y : Sent). y.part.octets) (sent (fields_from n cs)) ≡ map (content_octets rfc8331) (file_packets source type start n cs)
   octets-fields n [] = refl
