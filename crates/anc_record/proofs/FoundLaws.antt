@@ -2,7 +2,7 @@
 -- By the checks of the record at the front of the cells from there on.
 use mathlib.Core.Path.{◌≡◌, refl, ap, sym, ◌∙◌, subst}
 use mathlib.Core.Logic.{◌↔◌}
-use mathlib.Core.List.{List, ◌++◌}
+use mathlib.Core.List.{List}
 use Prim.Native.Nat.{ℕ, ◌+◌, ◌≤◌}
 use native.Mathlib.Omega.{arith}
 use lib.ListN.{length, take, drop}
@@ -10,7 +10,7 @@ use Rattle.wire_spec.specs.declared.refusal.Refusal.{Refusal}
 use Rattle.wire_spec.specs.Result.{Result, refused, accepted, refuse}
 use Rattle.wire_spec.specs.Layout.{rfc8331}
 use Rattle.wire_spec.specs.Anc.{Record, InRange}
-use Rattle.wire_spec.specs.Cells.{head_cells, cells_in, max_index, cell_count, cell_index, cell_record, cell_checks, rest}
+use Rattle.wire_spec.specs.Cells.{head_cells, max_index, cell_count, cell_index, cell_record, cell_checks, rest}
 use Rattle.wire_spec.proofs.ResultLaws.{Passed, accepted-inj, judge-accepts, judge-passes}
 use Rattle.wire_spec.proofs.CellLaws.{front-passed, front_reads}
 use Rattle.anc_record.specs.declared.header.Header.{Header}

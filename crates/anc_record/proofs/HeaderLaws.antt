@@ -1,11 +1,9 @@
 -- A record is that of its header and its words, so the header has the cells and the fields that the record has before its words.
 -- A flag of one bit and a line or offset are their numbers again.
 use mathlib.Core.Path.{◌≡◌, ap}
-use mathlib.Core.List.{List, ◌++◌}
 use Prim.Native.Nat.{ℕ, ◌<◌}
 use lib.ListN.{take}
 use Rattle.wire_spec.specs.Anc.{Record, location_fields}
-use Rattle.wire_spec.specs.Bits.{Fields}
 use Rattle.wire_spec.specs.Cells.{head_cells, cells_in}
 use Rattle.wire_spec.specs.Layout.{rfc8331}
 use Rattle.wire_spec.proofs.BitLaws.{flag}

@@ -87,12 +87,12 @@ module _ (L : Layout) (h : Head) (cells out : List ℕ) where
         go : WriteIndex (length cells) x.number x.index → ⊥
         go (inl (inl e, _)) = omega arith
         go (inl (inr (inl e), _)) = omega arith
-        go (inl (inr (inr x8) , _)) = elim x8 [ ]
+        go (inl (inr (inr x8), _)) = elim x8 [ ]
         go (inr (inl e, _)) = omega arith
         go (inr (inr (inl e), _)) = omega arith
         go (inr (inr (inr (inl e)), _)) = omega arith
         go (inr (inr (inr (inr (inl e))), _)) = omega arith
-        go (inr (inr (inr (inr (inr x13))) , _)) = elim x13 [ ]
+        go (inr (inr (inr (inr (inr x13))), _)) = elim x13 [ ]
 
   -- and a writer that looked for 22 in its place, between 25 and 23, would return the same
   pub with-22-alike : written_of (write_content22 L (content_of h) cells (length out)) ≡ write_returns L h cells out

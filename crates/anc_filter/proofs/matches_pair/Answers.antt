@@ -1,6 +1,5 @@
 -- `matches_pair` tells whether an entry of a list of pairs matches.
 -- By its two numbers.
-use borrow.Author.Rules.{rules}
 use Rattle.anc_filter.proofs.matches_pair.Goals as goal
 
 pub returns : goal.returns

@@ -1,16 +1,9 @@
 -- `wanted` tells whether a record is wanted, by pairs in plain octets.
 -- Invariant: an entry of what is left matches exactly where an entry of the whole does.
-use borrow.Author.Rules.{rules}
-use mathlib.Core.Path.{◌≡◌, refl, sym, ◌∙◌, ap}
-use mathlib.Core.Bool.{Bool, true, false, ◌||◌, or-true, or-false}
-use mathlib.Core.List.{List, [], ◌∷◌}
-use Prim.Native.Nat.{ℕ, suc, ◌+◌, ◌-◌, ◌≤◌, ◌<◌}
-use native.Mathlib.Numerals.{add-one}
-use native.Mathlib.Omega.{arith}
-use lib.Dec.{ltb}
-use lib.ListN.{length, get_or, drop, length-drop}
-use lib.Seq.{drop-cons}
-use Rattle.anc_filter.specs.Wanted.{matching, any_in, wanted_in}
+use mathlib.Core.Path.{◌≡◌}
+use Prim.Native.Nat.{◌-◌, ◌≤◌}
+use lib.ListN.{length, drop}
+use Rattle.anc_filter.specs.Wanted.{any_in}
 use Rattle.anc_filter.proofs.wanted.Given as goal
 
 abbrev pub invariant-loop-i : goal.invariant-loop-i

@@ -1,12 +1,10 @@
 -- `jibhotran_outlet_open` gives the row of an outlet that holds nothing, or 255.
 -- By the row's length.
-use borrow.Author.Rules.{rules}
-use mathlib.Core.Path.{◌≡◌, ap, sym, ◌∙◌}
+use mathlib.Core.Path.{ap, sym, ◌∙◌}
 use mathlib.Core.Bool.{Bool, cond}
 use mathlib.Core.List.{[]}
 use borrow.Author.Tests.{le-leb, lt-leb}
 use lib.ListN.{length}
-use native.Mathlib.Omega.{arith}
 use Rattle.wire_spec.specs.Bits.{overwrite}
 use Rattle.egress_spec.specs.declared.state.State.{State}
 use Rattle.egress_spec.specs.Places.{open_state}

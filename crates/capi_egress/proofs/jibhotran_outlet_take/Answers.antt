@@ -1,10 +1,8 @@
 -- `jibhotran_outlet_take` does one call of the outlet whose state stands in a row, or gives 64 or 255.
 -- By what the library gives of that state, where both rows are long enough.
-use borrow.Author.Rules.{rules}
 use mathlib.Core.Path.{◌≡◌, ap, sym, ◌∙◌}
 use mathlib.Core.Bool.{true}
 use Prim.Native.Nat.{◌≤◌}
-use borrow.Author.Tests.{not-true, not-false}
 use lib.ListN.{length}
 use Rattle.wire_spec.specs.declared.refusal.Refusal.{Refusal}
 use Rattle.wire_spec.specs.Bits.{overwrite}
@@ -13,8 +11,7 @@ use Rattle.egress_spec.specs.Step.{take_of, taken_of}
 use Rattle.capi_egress_state.specs.Row.{is_state, row_size, state_at}
 use Rattle.capi_answer.specs.Rows.{answer_size, refused_reply}
 use Rattle.capi_egress.specs.Calls.{Given, taken_at, rows_fit}
-use Rattle.capi_egress.proofs.CallLaws.{at-short, at-state, at-unsound}
-use Rattle.capi_egress.proofs.CallLaws.{handed-changed, rows_long, taken_at_lem}
+use Rattle.capi_egress.proofs.CallLaws.{at-short, at-state, at-unsound, handed-changed, rows_long, taken_at_lem}
 use Rattle.capi_egress.proofs.jibhotran_outlet_take.Goals as goal
 
 pub returns-then-not-rows_fit : goal.returns-then-not-rows_fit

@@ -1,6 +1,5 @@
 -- `cooked_v2` tells what the packet of a Linux cooked capture of version 2 is.
 -- By the definition.
-use borrow.Author.Rules.{rules}
 use borrow.Author.Tests.{le-leb, lt-leb}
 use Rattle.capture_datagram.proofs.cooked_v2.Goals as goal
 

@@ -1,6 +1,5 @@
 -- `find` tells what a captured packet holds for a port.
 -- By its link type.
-use borrow.Author.Rules.{rules}
 use mathlib.Core.Path.{◌≡◌, ap, sym, ◌∙◌}
 use Rattle.capture_datagram.specs.declared.link.Link.{Link}
 use Rattle.capture_datagram.specs.Link.{link_in, datagram_in}

@@ -1,6 +1,5 @@
 -- `raw` tells what an IP packet of either version is.
 -- By the definition.
-use borrow.Author.Rules.{rules}
 use mathlib.Core.Path.{◌∙◌}
 use borrow.Author.Tests.{le-leb, lt-leb, eq-eqb, ne_eqb}
 use Rattle.capture_datagram.specs.Link.{raw_in}

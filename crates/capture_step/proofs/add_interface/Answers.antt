@@ -1,6 +1,5 @@
 -- `add_interface` has one interface more.
 -- By whether it is the first.
-use borrow.Author.Rules.{rules}
 use borrow.Author.Tests.{eq-eqb, ne_eqb}
 use Rattle.capture_step.proofs.add_interface.Goals as goal
 

@@ -1,7 +1,6 @@
 -- `block_item` is a block of a section.
 -- By its type and its extent.
 -- a block that is no section's head, by its type and its extent
-use borrow.Author.Rules.{rules}
 use mathlib.Core.Path.{◌≡◌, refl, ap, sym, ◌∙◌}
 use mathlib.Core.List.{List}
 use Prim.Native.Nat.{ℕ, ◌≤◌}
@@ -11,7 +10,6 @@ use Rattle.capture_spec.specs.declared.state.Order.{Order}
 use Rattle.capture_spec.specs.declared.state.Ordered.{Ordered}
 use Rattle.capture_spec.specs.declared.state.State.{State}
 use Rattle.capture_spec.specs.declared.state.Extent.{Extent}
-use Rattle.capture_spec.specs.declared.state.Extent.TheVariants as extent
 use Rattle.capture_spec.specs.declared.state.Item.{Item}
 use Rattle.capture_spec.specs.Numbers.{word_at}
 use Rattle.capture_spec.specs.Step.{block_extent, block_item, body_item, least_of, section_by, within}

@@ -1,6 +1,5 @@
 -- `head_item` is pcap's head.
 -- By its order and its length.
-use borrow.Author.Rules.{rules}
 use mathlib.Core.Path.{ap}
 use Prim.Native.Nat.{ℕ, ◌%◌}
 use borrow.Author.Tests.{le-ltb, lt-ltb}

@@ -1,6 +1,5 @@
 -- `item_at` is the item at the front.
 -- By where the reading stands.
-use borrow.Author.Rules.{rules}
 use mathlib.Core.Path.{◌≡◌, ap, sym, subst, ◌∙◌}
 use mathlib.Core.List.{List}
 use Prim.Native.Nat.{ℕ}

@@ -1,6 +1,5 @@
 -- `next_state` is where the reading stands behind an item.
 -- By the item.
-use borrow.Author.Rules.{rules}
 use borrow.Author.Tests.{le-ltb, lt-ltb}
 use Rattle.capture_step.proofs.next_state.Goals as goal
 

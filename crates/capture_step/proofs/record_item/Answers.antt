@@ -1,6 +1,5 @@
 -- `record_item` is the packet of a record.
 -- By its extent.
-use borrow.Author.Rules.{rules}
 use mathlib.Core.Path.{ap, sym, ◌∙◌}
 use Prim.Native.Nat.{ℕ, ◌-◌}
 use lib.ListN.{length}

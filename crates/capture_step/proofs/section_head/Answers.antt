@@ -1,6 +1,5 @@
 -- `section_head` is the head of a section.
 -- By its extent.
-use borrow.Author.Rules.{rules}
 use Rattle.capture_step.proofs.section_head.Goals as goal
 
 pub returns-in-Refused : goal.returns-in-Refused

@@ -1,6 +1,5 @@
 -- `section_item` is the head of a section.
 -- By its order.
-use borrow.Author.Rules.{rules}
 use mathlib.Core.Path.{ap, ◌∙◌}
 use Rattle.capture_spec.specs.Step.{section_head}
 use Rattle.capture_step.proofs.section_item.Goals as goal

@@ -1,6 +1,5 @@
 -- `start_item` is the front of a capture.
 -- By its magic number.
-use borrow.Author.Rules.{rules}
 use mathlib.Core.Path.{ap, ◌∙◌}
 use borrow.Author.Tests.{eq-eqb, ne_eqb, le-ltb, lt-ltb}
 use Rattle.capture_spec.specs.declared.state.Ordered.{Ordered}

@@ -1,6 +1,5 @@
 -- `record_cells` tells the cells of the record at the front, if it came in the packet.
 -- By what `check_record` answers, and by the ninth cell.
-use borrow.Author.Rules.{rules}
 use borrow.Author.Tests.{eq-eqb, ne_eqb}
 use mathlib.Core.Path.{◌≡◌, ap, sym, ◌∙◌}
 use mathlib.Core.Bool.{Bool, cond}

@@ -1,11 +1,8 @@
 -- `offer` goes by the checks in their order; where all pass, the slot that the survey left free takes the packet.
-use mathlib.Core.Path.{◌≡◌, refl, sym, ◌∙◌, ap}
-use mathlib.Core.Bool.{true, not}
-use Prim.Native.Nat.{ℕ, ◌+◌, ◌*◌, ◌≤◌, ◌<◌}
+use mathlib.Core.Path.{◌≡◌, sym, ◌∙◌}
+use mathlib.Core.Bool.{true}
 use native.Mathlib.Omega.{arith}
-use lib.ListN.{length, get_or, length-take, length-drop}
-use borrow.Author.Rules.{rules}
-use borrow.Author.Tests.{not-true, not-false}
+use lib.ListN.{length, length-take, length-drop}
 use Rattle.egress_spec.specs.Step.{admits}
 use Rattle.egress.proofs.OfferLaws.{seen, unseen, unsound-64, channel-60, size-61, full-62, Passed, passed, copied-whole}
 use Rattle.egress.proofs.offer.Goals as goal

@@ -1,5 +1,4 @@
 -- `refuse_take` leaves the state as it was.
-use borrow.Author.Rules.{rules}
 use mathlib.Core.Path.{refl}
 use Rattle.egress.proofs.refuse_take.Goals as goal
 

@@ -1,12 +1,10 @@
 -- `take` goes by the checks in their order; where all pass, the head of the channel whose turn it is stands in the memory.
-use mathlib.Core.Path.{◌≡◌, refl, sym, ◌∙◌, ap}
+use mathlib.Core.Path.{◌≡◌}
 use mathlib.Core.Bool.{true}
-use Prim.Native.Nat.{ℕ, ◌+◌, ◌*◌, ◌≤◌, ◌<◌}
 use native.Mathlib.Omega.{arith}
-use lib.ListN.{length, get_or}
-use borrow.Author.Rules.{rules}
+use lib.ListN.{length}
 use Rattle.egress_spec.specs.Step.{admits}
-use Rattle.egress_state.specs.Survey.{Heads, head_of}
+use Rattle.egress_state.specs.Survey.{Heads}
 use Rattle.egress.proofs.OfferLaws.{seen, unseen, admits-size}
 use Rattle.egress.proofs.TakeLaws.{turn-heads, starts, unsound-64, nothing-63, room-23, handed-whole}
 use Rattle.egress.proofs.take.Goals as goal

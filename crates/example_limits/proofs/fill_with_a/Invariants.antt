@@ -1,6 +1,6 @@
 -- `fill_with_a` is safe and ends.
 -- Invariant: the list keeps its length, and the index is within it.
-use Rattle.std.proofs.Common.{◌≡◌, ◌-◌, ◌≤◌, length, rules}
+use Rattle.std.proofs.Common.{◌≡◌, ◌-◌, ◌≤◌, length}
 use Rattle.example_limits.proofs.fill_with_a.Given as goal
 
 abbrev pub invariant-loop-k : goal.invariant-loop-k

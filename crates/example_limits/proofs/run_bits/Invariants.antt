@@ -1,6 +1,6 @@
 -- `run_bits` is safe and ends.
 -- Invariant: both slices keep their lengths, and the bit is at most 96.
-use Rattle.std.proofs.Common.{◌≡◌, ◌-◌, ◌≤◌, length, rules}
+use Rattle.std.proofs.Common.{◌≡◌, ◌-◌, ◌≤◌, length}
 use Rattle.example_limits.proofs.run_bits.Given as goal
 
 abbrev pub invariant-loop-bit : goal.invariant-loop-bit

@@ -1,6 +1,6 @@
 -- `sum` is safe and ends.
 -- Invariant: the index is within the slice.
-use Rattle.std.proofs.Common.{◌-◌, ◌≤◌, length, rules}
+use Rattle.std.proofs.Common.{◌-◌, ◌≤◌, length}
 use Rattle.example_limits.proofs.sum.Given as goal
 
 abbrev pub invariant-loop-k : goal.invariant-loop-k

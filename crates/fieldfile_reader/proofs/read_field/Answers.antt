@@ -1,6 +1,5 @@
 -- `read_field` reads the field at an offset into the lent cells, or gives the refusal and leaves them.
 -- By what the check told, and 14 last.
-use borrow.Author.Rules.{rules}
 use mathlib.Core.Path.{◌≡◌, ap, sym, ◌∙◌}
 use Prim.Native.Nat.{ℕ}
 use native.Mathlib.Omega.{arith}

@@ -1,8 +1,6 @@
 -- `finish` gives 21 or the field.
 -- By the test.
-use borrow.Author.Rules.{rules}
 use mathlib.Core.Path.{sym, ◌∙◌}
-use borrow.Author.Tests.{not-true, not-false}
 use Rattle.fieldfile_scan.proofs.finish.Goals as goal
 
 pub returns-then-not-within_limits : goal.returns-then-not-within_limits

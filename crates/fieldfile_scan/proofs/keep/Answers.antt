@@ -1,8 +1,6 @@
 -- `keep` writes the packet's cells behind those before it, where the field stays within the limits and the store has room.
 -- By the two tests.
-use borrow.Author.Rules.{rules}
 use mathlib.Core.Path.{sym, ◌∙◌}
-use borrow.Author.Tests.{not-true, not-false}
 use Rattle.wire_spec.specs.Layout.{rfc8331}
 use Rattle.wire_spec.specs.Anc.{read_run}
 use Rattle.wire_spec.proofs.ListLaws.{part-written}

@@ -1,6 +1,5 @@
 -- `scan_head` gives 50 or 51, or what stands behind the head.
 -- By what the stage told.
-use borrow.Author.Rules.{rules}
 use mathlib.Core.Path.{ap, sym, ◌∙◌}
 use Rattle.wire_offsets.specs.Stage.{stage_refusal}
 use Rattle.wire_offsets.proofs.StageLaws.{stage-passed}

@@ -1,6 +1,5 @@
 -- `scan_header` gives 54, 52 or 53, or the field that is begun.
 -- By what the stage told.
-use borrow.Author.Rules.{rules}
 use mathlib.Core.Path.{ap, sym, ◌∙◌}
 use Prim.Native.Nat.{ℕ, ◌<◌, ◌≤◌}
 use native.Mathlib.Omega.{arith}

@@ -1,6 +1,5 @@
 -- `scan_packet` gives 9 to 16, or what is read then, and keeps the packet's cells.
 -- By what the check of the packet told.
-use borrow.Author.Rules.{rules}
 use mathlib.Core.Path.{ap, sym, ◌∙◌}
 use native.Mathlib.Omega.{arith}
 use Rattle.wire_spec.specs.declared.refusal.Refusal.{Refusal}

@@ -1,6 +1,5 @@
 -- `scan_part` reads the next packet, or says what stands behind the last.
 -- By whether one is left.
-use borrow.Author.Rules.{rules}
 use mathlib.Core.Path.{sym, ◌∙◌}
 use Rattle.fieldfile_scan.proofs.PacketLaws.{none_left, one_left}
 use Rattle.fieldfile_scan.proofs.scan_part.Goals as goal

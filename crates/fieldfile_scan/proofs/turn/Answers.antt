@@ -1,6 +1,5 @@
 -- `turn` reads the head, a field's header, or on in a field.
 -- By the state.
-use borrow.Author.Rules.{rules}
 use mathlib.Core.Path.{ap, sym, subst, ◌∙◌}
 use Rattle.fieldfile_scan.specs.declared.state.State.{State}
 use Rattle.fieldfile_scan.specs.Scan.{Reachable, scan, store_then}

@@ -1,6 +1,5 @@
 -- `begin` writes `ANF` and the version to the first octets, or gives 23 and leaves them.
 -- The five octets are the packed head.
-use borrow.Author.Rules.{rules}
 use mathlib.Core.Path.{ap, ◌∙◌}
 use mathlib.Core.List.{List}
 use Prim.Native.Nat.{ℕ}

@@ -1,6 +1,5 @@
 -- `write_field` writes a field into the lent octets, or gives the refusal and leaves them.
 -- By what was measured: the header, and the run behind it.
-use borrow.Author.Rules.{rules}
 use mathlib.Core.Path.{◌≡◌, ap, sym, subst, ◌∙◌}
 use Prim.Native.Nat.{ℕ, ◌+◌, ◌≤◌}
 use native.Mathlib.Omega.{arith}

@@ -1,6 +1,5 @@
 -- `start` leaves the first line put.
 -- There is room for it.
-use borrow.Author.Rules.{rules}
 use Rattle.fieldlist_session.specs.Session.{title}
 use Rattle.program_spec.proofs.StepLaws.{first-put}
 use Rattle.fieldlist_turns.specs.Turns.{program}

@@ -1,6 +1,5 @@
 -- `turn` lists the frame at the front, or makes room, or reads more.
 -- By the answer of `list_frame`, as any program over items does (`program_spec` `StepLaws`).
-use borrow.Author.Rules.{rules}
 use native.Mathlib.Omega.{arith}
 use Rattle.program_spec.specs.Run.{at}
 use Rattle.program_spec.proofs.StepLaws.{can-step, turned_by}

@@ -1,14 +1,11 @@
 -- `file_packet` gives what one packet does: the session, the store and the octets of the field that it completes.
 -- By whether a depacketizer is open, or opened by the packet.
-use borrow.Author.Rules.{rules}
 use mathlib.Core.Path.{◌≡◌, ap, sym, ◌∙◌}
-use mathlib.Core.List.{List}
 use native.Mathlib.Omega.{arith}
 use Rattle.wire_spec.specs.Layout.{Layout}
 use Rattle.wire_spec.specs.Packet.{read_content}
-use Rattle.fieldfile_spec.specs.File.{FieldContent, fields_octets, written_version}
+use Rattle.fieldfile_spec.specs.File.{fields_octets, written_version}
 use Rattle.depacketizer_spec.specs.Step.{step}
-use Rattle.depacketizer.specs.declared.state.Opened.{Opened}
 use Rattle.depacketizer.specs.Answers.{arrival_of}
 use Rattle.text.proofs.PutLaws.{nothing, same}
 use Rattle.fieldlist_session.specs.declared.session.Session.TheVariants as session

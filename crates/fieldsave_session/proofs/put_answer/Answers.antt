@@ -1,6 +1,5 @@
 -- `put_answer` puts the field of an answer that hands one out.
 -- By the answer.
-use borrow.Author.Rules.{rules}
 use mathlib.Core.Path.{ap, sym}
 use Rattle.fieldfile_spec.specs.File.{fields_octets, written_version}
 use Rattle.depacketizer_spec.specs.declared.state.Answer.{Answer}

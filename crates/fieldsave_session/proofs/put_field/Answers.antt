@@ -1,6 +1,5 @@
 -- `put_field` puts a field's octets where the file takes it, and else nothing.
 -- By what the writer answers, for the cells that the store has.
-use borrow.Author.Rules.{rules}
 use mathlib.Core.Path.{sym}
 use native.Mathlib.Omega.{arith}
 use lib.ListN.{take}

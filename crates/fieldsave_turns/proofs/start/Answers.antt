@@ -1,6 +1,5 @@
 -- `start` leaves the file's head put.
 -- There is room for it.
-use borrow.Author.Rules.{rules}
 use Rattle.program_spec.proofs.StepLaws.{first-put}
 use Rattle.fieldsave_turns.specs.Turns.{program}
 use Rattle.fieldsave_turns.proofs.TurnLaws.{head-put}

@@ -1,6 +1,5 @@
 -- `begin` is before the first octet.
 -- As it stands.
-use borrow.Author.Rules.{rules}
 use Rattle.pcapframes_spec.specs.declared.session.Standing.TheVariants as standing
 use Rattle.pcapframes_session.proofs.begin.Goals as goal
 

@@ -1,6 +1,5 @@
 -- `finish` refuses a capture that is cut.
 -- By whether it was refused before, and whether it may end there.
-use borrow.Author.Rules.{rules}
 use mathlib.Core.Path.{sym, ◌∙◌}
 use Rattle.pcapframes_spec.proofs.SessionLaws.{last-open, last-refused}
 use Rattle.pcapframes_session.proofs.finish.Goals as goal

@@ -1,6 +1,5 @@
 -- `is_whole` tells whether a capture may end there.
 -- By what was read of it.
-use borrow.Author.Rules.{rules}
 use Rattle.pcapframes_session.proofs.is_whole.Goals as goal
 
 pub returns-in-Classic : goal.returns-in-Classic

@@ -1,6 +1,5 @@
 -- `pass` goes behind an item that is no packet.
 -- As it stands.
-use borrow.Author.Rules.{rules}
 use Rattle.program_spec.specs.declared.buffers.Step.TheVariants as step
 use Rattle.pcapframes_spec.specs.Session.{moved}
 use Rattle.pcapframes_session.proofs.pass.Goals as goal

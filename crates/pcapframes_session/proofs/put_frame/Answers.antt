@@ -1,6 +1,5 @@
 -- `put_frame` puts the length, and then the payload.
 -- Two pieces one behind the other are one piece.
-use borrow.Author.Rules.{rules}
 use Rattle.text.proofs.PutLaws.{both}
 use Rattle.pcapframes_session.proofs.put_frame.Goals as goal
 

@@ -1,6 +1,5 @@
 -- `take_found` puts the frame of a payload that was found.
 -- By what was found.
-use borrow.Author.Rules.{rules}
 use mathlib.Core.Path.{◌≡◌, ap, sym, subst, ◌∙◌}
 use mathlib.Core.List.{List}
 use Prim.Native.Nat.{ℕ, ◌+◌, ◌-◌, ◌≤◌}
@@ -15,7 +14,6 @@ use Rattle.pcapframes_session.proofs.take_found.Goals as goal
 
 part-size : (packet : List ℕ) (a b : ℕ) → a ≤ b → b ≤ length packet → length (take (b - a) (drop a packet)) ≡ b - a
 part-size packet a b h k = length-take-le (b - a) (drop a packet) (rw (length-drop a packet) (omega arith))
-
 
 pub slice_bounds-put_frame-count : goal.slice_bounds-put_frame-count
 slice_bounds-put_frame-count c = let fits : FoundFits (found.Frame c.in-Frame.start c.in-Frame.end) (length c.args.packet.now) (length c.args.out.now) = subst (λ (f : Found). FoundFits f (length c.args.packet.now) (length c.args.out.now)) c.in-Frame.is c.requires.1 in
@@ -42,7 +40,7 @@ pub returns-in-Frame : goal.returns-in-Frame
 returns-in-Frame c = let a = c.args in
     record {
       value = (λ i. record { session = c.count.ensures i; step = step.Taken a.used (size c.put_frame-length.ensures.behind i) })
-        ∙ ap (λ (f : Found). reply_of a.session (found_front a.session a.used a.packet.now f)) (sym c.in-Frame.is);
+          ∙ ap (λ (f : Found). reply_of a.session (found_front a.session a.used a.packet.now f)) (sym c.in-Frame.is);
       out_after = c.put_frame-length.ensures.octets ∙ ap (λ (f : Found). out_after (found_front a.session a.used a.packet.now f) a.out.now) (sym c.in-Frame.is);
     }
 

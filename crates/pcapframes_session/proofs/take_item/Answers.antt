@@ -1,6 +1,5 @@
 -- `take_item` takes the item at the front, unless the walk is over, where there is room for any frame.
 -- By the room, and by where it stands.
-use borrow.Author.Rules.{rules}
 use borrow.Author.Tests.{lt-leb}
 use mathlib.Core.Path.{refl, ap, sym, ◌∙◌}
 use lib.ListN.{length}

@@ -1,7 +1,6 @@
 -- `take_open` takes the item at the front.
 -- By the item.
 -- what was told of an item is told of the same item
-use borrow.Author.Rules.{rules}
 use mathlib.Core.Path.{◌≡◌, refl, ap, sym, subst, ◌∙◌}
 use mathlib.Core.List.{List}
 use Prim.Native.Nat.{ℕ, ◌+◌, ◌-◌}

@@ -1,9 +1,7 @@
 -- `take_packet` takes the packets of a link type that is taken.
 -- By the test of it.
-use borrow.Author.Rules.{rules}
 use mathlib.Core.Path.{◌≡◌, ap, sym, ◌∙◌}
 use mathlib.Core.Bool.{Bool, cond}
-use borrow.Author.Tests.{not-true, not-false}
 use lib.ListN.{length}
 use Rattle.capture_datagram.specs.Link.{datagram_in}
 use Rattle.program_spec.specs.Walk.{Front, over}

@@ -1,6 +1,5 @@
 -- `read` reads a packet in the tolerant way, or gives the refusal and leaves the cells.
 -- By what the strict way's check told.
-use borrow.Author.Rules.{rules}
 use mathlib.Core.Path.{sym, ◌∙◌}
 use Rattle.rtp_reader.proofs.read.Goals as goal
 

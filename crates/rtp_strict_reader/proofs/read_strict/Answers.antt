@@ -1,6 +1,5 @@
 -- `read_strict` reads a packet into the lent cells, or gives the refusal and leaves them.
 -- By what the check found, and 14 last.
-use borrow.Author.Rules.{rules}
 use mathlib.Core.Path.{ap, sym, ◌∙◌}
 use lib.ListN.{length}
 use Rattle.wire_spec.specs.Result.{Result}

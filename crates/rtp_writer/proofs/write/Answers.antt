@@ -1,6 +1,5 @@
 -- `write` writes a packet into the lent octets, or gives the refusal and leaves them.
 -- By what was measured: the headers, and the run behind them.
-use borrow.Author.Rules.{rules}
 use mathlib.Core.Path.{◌≡◌, ap, sym, subst, ◌∙◌}
 use mathlib.Core.List.{List}
 use Prim.Native.Nat.{ℕ, ◌+◌, ◌≤◌}

@@ -1,6 +1,5 @@
 -- `read` lists the records of a line at the caller's position, or leaves the cells alone.
 -- Each return knows the checks before it, in the order of the definition.
-use borrow.Author.Rules.{rules}
 use mathlib.Core.Path.{◌≡◌, refl, ap, sym, ◌∙◌, subst}
 use mathlib.Core.Bool.{true, not}
 use mathlib.Core.List.{List}

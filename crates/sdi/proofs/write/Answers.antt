@@ -1,6 +1,5 @@
 -- `write` puts the records of a list into the line, or leaves it alone.
 -- Each return knows the checks before it, in the order of the definition.
-use borrow.Author.Rules.{rules}
 use mathlib.Core.Path.{◌≡◌, refl, ap, sym, ◌∙◌, subst}
 use mathlib.Core.List.{List}
 use Prim.Native.Nat.{ℕ, ◌+◌, ◌-◌, ◌*◌, ◌≤◌}

@@ -1,12 +1,9 @@
 -- `are_value` tells whether all octets are octets of a value.
 -- Invariant: what is left are octets of a value exactly where all are.
-use borrow.Author.Rules.{rules}
-use mathlib.Core.Path.{◌≡◌, sym, ◌∙◌}
+use mathlib.Core.Path.{◌≡◌}
 use Prim.Native.Nat.{◌≤◌, ◌-◌}
 use lib.ListN.{length, drop}
-use borrow.Author.Tests.{not-true, not-false}
 use Rattle.sdp_spec.specs.Reading.{are_value}
-use Rattle.sdp_spec.proofs.ItemLaws.{value-holds, value-fails, value-ends}
 use Rattle.sdp_item.proofs.are_value.Given as goal
 
 abbrev pub invariant-loop-i : goal.invariant-loop-i

@@ -1,13 +1,12 @@
 -- `did_sdid` reads the value of a DID/SDID pair.
 -- Each return knows the tests before it, in the order of the definition.
-use borrow.Author.Rules.{rules}
 use mathlib.Core.Path.{◌≡◌, ap, ap₂, sym, ◌∙◌}
 use mathlib.Core.Bool.{true, false}
 use mathlib.Core.List.{List}
 use Prim.Native.Nat.{ℕ, ◌+◌, ◌-◌, ◌<◌, ◌≤◌}
 use native.Mathlib.Omega.{arith}
 use lib.ListN.{length, take, drop, length-drop}
-use borrow.Author.Tests.{lt-ltb, le-ltb, eq-eqb, ne_eqb, not-true, not-false}
+use borrow.Author.Tests.{lt-ltb, le-ltb, eq-eqb, ne_eqb}
 use Rattle.wire_spec.proofs.ListLaws.{part-all}
 use Rattle.sdp_item.specs.declared.Digits.{Digits}
 use Rattle.sdp_spec.specs.declared.item.Item.TheVariants.{DidSdid, Malformed}

@@ -1,6 +1,5 @@
 -- `digit_value` gives the value of a digit.
 -- By the range that the octet is in.
-use borrow.Author.Rules.{rules}
 use mathlib.Core.Path.{sym, ◌∙◌}
 use Prim.Native.Nat.{◌≤◌}
 use native.Mathlib.Omega.{arith}

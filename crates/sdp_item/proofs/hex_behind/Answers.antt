@@ -1,11 +1,9 @@
 -- `hex_behind` reads the hex digits behind a word.
 -- By the test of the word, which the text is then as long as.
-use borrow.Author.Rules.{rules}
 use mathlib.Core.Path.{ap, sym, ◌∙◌}
 use mathlib.Core.List.{List}
 use Prim.Native.Nat.{ℕ}
 use lib.ListN.{length}
-use borrow.Author.Tests.{not-true, not-false}
 use Rattle.wire_spec.proofs.ListLaws.{part-all}
 use Rattle.sdp_item.specs.Answers.{digits_of}
 use Rattle.sdp_spec.specs.Text.{number, hex_base, hex_most}

@@ -1,6 +1,5 @@
 -- `is_name` tells octets of a name.
 -- By the three ranges.
-use borrow.Author.Rules.{rules}
 use Rattle.sdp_spec.specs.Text.{is_name}
 use Rattle.sdp_item.proofs.is_name.Goals as goal
 

@@ -1,14 +1,9 @@
 -- `name_length` counts the octets of a name at the front.
 -- Invariant: the octets passed, with the count of what is left, are the whole count.
-use borrow.Author.Rules.{rules}
-use mathlib.Core.Path.{◌≡◌, sym, ◌∙◌}
+use mathlib.Core.Path.{◌≡◌}
 use Prim.Native.Nat.{◌≤◌, ◌+◌, ◌-◌}
-use native.Mathlib.Nat.{zero-add}
-use native.Mathlib.Omega.{arith}
 use lib.ListN.{length, drop}
-use borrow.Author.Tests.{not-true, not-false}
 use Rattle.sdp_spec.specs.Reading.{name_length}
-use Rattle.sdp_spec.proofs.ItemLaws.{name-next, name-stops, name-ends}
 use Rattle.sdp_item.proofs.name_length.Given as goal
 
 abbrev pub invariant-loop-i : goal.invariant-loop-i

@@ -1,6 +1,5 @@
 -- `octet_at` gives the octet at an index, and 0 past the end.
 -- By the test of the index.
-use borrow.Author.Rules.{rules}
 use mathlib.Core.Path.{sym}
 use lib.ListN.{get_or-eq_default}
 use Rattle.sdp_item.proofs.octet_at.Goals as goal

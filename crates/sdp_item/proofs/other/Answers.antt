@@ -1,6 +1,5 @@
 -- `other` tells an item of another name from a malformed one.
 -- Each return knows the tests before it, in the order of the definition.
-use borrow.Author.Rules.{rules}
 use mathlib.Core.Path.{◌≡◌, ap, sym, ◌∙◌}
 use mathlib.Core.Bool.{Bool, true, cond, not}
 use mathlib.Core.List.{List}

@@ -1,6 +1,5 @@
 -- `read_item` reads one item.
 -- By its name: the first octets of the text decide.
-use borrow.Author.Rules.{rules}
 use mathlib.Core.Path.{◌≡◌, ap, sym, ◌∙◌}
 use mathlib.Core.Bool.{true, false}
 use Rattle.wire_spec.proofs.ListLaws.{part-all}

@@ -1,9 +1,7 @@
 use borrow.Author.Rules.{rules}
-use mathlib.Core.Path.{◌≡◌, sym, ◌∙◌}
-use Prim.Native.Nat.{◌≤◌, ◌-◌}
+use mathlib.Core.Path.{sym, ◌∙◌}
+use Prim.Native.Nat.{◌-◌}
 use native.Mathlib.Omega.{arith}
-use lib.ListN.{length, drop}
-use Rattle.sdp_spec.specs.Reading.{starts_with}
 use Rattle.sdp_spec.proofs.ItemLaws.{starts-short, starts-same, starts-differs, starts-end}
 use Rattle.sdp_item.proofs.starts_with.Goals as goal
 

@@ -1,12 +1,9 @@
 -- `starts_with` tells whether a text starts with a word.
 -- Invariant: what is left of the text starts with what is left of the word exactly where the whole does.
-use borrow.Author.Rules.{rules}
-use mathlib.Core.Path.{◌≡◌, sym, ◌∙◌}
+use mathlib.Core.Path.{◌≡◌}
 use Prim.Native.Nat.{◌≤◌, ◌-◌}
-use native.Mathlib.Omega.{arith}
 use lib.ListN.{length, drop}
 use Rattle.sdp_spec.specs.Reading.{starts_with}
-use Rattle.sdp_spec.proofs.ItemLaws.{starts-short, starts-same, starts-differs, starts-end}
 use Rattle.sdp_item.proofs.starts_with.Given as goal
 
 abbrev pub invariant-loop-i : goal.invariant-loop-i

@@ -1,6 +1,5 @@
 -- `vpid_code` reads the value of a VPID code.
 -- Each return knows the tests before it, in the order of the definition.
-use borrow.Author.Rules.{rules}
 use mathlib.Core.Path.{◌≡◌, ap, sym, ◌∙◌}
 use mathlib.Core.List.{List}
 use Prim.Native.Nat.{ℕ, ◌<◌, ◌≤◌}

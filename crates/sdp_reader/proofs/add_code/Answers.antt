@@ -1,6 +1,5 @@
 -- `add_code` adds a VPID code where none was given.
 -- By whether one was.
-use borrow.Author.Rules.{rules}
 use Rattle.sdp_reader.proofs.add_code.Goals as goal
 
 pub returns-in-Code : goal.returns-in-Code

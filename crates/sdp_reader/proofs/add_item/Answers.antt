@@ -1,6 +1,5 @@
 -- `add_item` adds one item.
 -- By what the item is.
-use borrow.Author.Rules.{rules}
 use Rattle.sdp_reader.proofs.add_item.Goals as goal
 
 pub returns-in-Malformed : goal.returns-in-Malformed

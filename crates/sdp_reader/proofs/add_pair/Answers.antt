@@ -1,6 +1,5 @@
 -- `add_pair` adds a pair where there are fewer than 64.
 -- By the test of their number.
-use borrow.Author.Rules.{rules}
 use borrow.Author.Tests.{lt-ltb, le-ltb}
 use Rattle.sdp_spec.specs.Text.{max_pairs}
 use Rattle.sdp_reader.proofs.add_pair.Goals as goal

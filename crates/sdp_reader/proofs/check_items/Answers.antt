@@ -1,12 +1,11 @@
-use borrow.Author.Rules.{rules}
-use mathlib.Core.Path.{◌≡◌, ap, sym, ◌∙◌}
+use mathlib.Core.Path.{ap, sym, ◌∙◌}
 use mathlib.Core.Bool.{Bool, true, false}
 use Prim.Native.Nat.{ℕ, ◌≤◌, ◌+◌}
 use native.Mathlib.Omega.{arith}
 use lib.Dec.{ltb}
 use lib.ListN.{length}
 use Rattle.wire_spec.specs.Bits.{bit}
-use Rattle.sdp_spec.specs.Reading.{gather, items, none}
+use Rattle.sdp_spec.specs.Reading.{gather, none}
 use Rattle.sdp_spec.proofs.CutLaws.{left, left-all}
 use Rattle.sdp_reader.specs.Answers.{reading_of}
 use Rattle.sdp_reader.proofs.GatherLaws.{behind-shorter, gather-refused, gather-accepted, left_less, index-next}

@@ -1,17 +1,11 @@
 -- `check_items` gathers the items of a text.
 -- Invariant: what was gathered, with the items that are left, comes to what the whole text comes to.
-use borrow.Author.Rules.{rules}
-use mathlib.Core.Path.{◌≡◌, ap, sym, ◌∙◌}
-use mathlib.Core.Bool.{Bool, true, false}
-use Prim.Native.Nat.{ℕ, ◌≤◌, ◌+◌}
-use native.Mathlib.Omega.{arith}
-use lib.Dec.{ltb}
+use mathlib.Core.Path.{◌≡◌}
+use Prim.Native.Nat.{◌≤◌, ◌+◌}
 use lib.ListN.{length}
 use Rattle.wire_spec.specs.Bits.{bit}
 use Rattle.sdp_spec.specs.Reading.{gather, items, none}
-use Rattle.sdp_spec.proofs.CutLaws.{left, left-all}
-use Rattle.sdp_reader.specs.Answers.{reading_of}
-use Rattle.sdp_reader.proofs.GatherLaws.{behind-shorter, gather-refused, gather-accepted, left_less, index-next}
+use Rattle.sdp_spec.proofs.CutLaws.{left}
 use Rattle.sdp_reader.proofs.check_items.Given as goal
 
 abbrev pub invariant-loop-more : goal.invariant-loop-more

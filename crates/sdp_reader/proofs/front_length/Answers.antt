@@ -1,10 +1,9 @@
 use borrow.Author.Rules.{rules}
-use mathlib.Core.Path.{◌≡◌, ap}
-use Prim.Native.Nat.{◌≤◌, ◌+◌, ◌-◌}
+use mathlib.Core.Path.{ap}
+use Prim.Native.Nat.{◌-◌}
 use native.Mathlib.Nat.{zero-add}
 use native.Mathlib.Omega.{arith}
-use lib.ListN.{length, drop}
-use Rattle.sdp_spec.specs.Reading.{front}
+use lib.ListN.{length}
 use Rattle.sdp_spec.proofs.CutLaws.{front-stops, front_goes, front_ends}
 use Rattle.sdp_reader.proofs.front_length.Goals as goal
 

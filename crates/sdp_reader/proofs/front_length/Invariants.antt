@@ -1,13 +1,9 @@
 -- `front_length` counts the octets before the first `;`.
 -- Invariant: the octets passed, with the count of what is left, are the whole count.
-use borrow.Author.Rules.{rules}
-use mathlib.Core.Path.{◌≡◌, ap}
+use mathlib.Core.Path.{◌≡◌}
 use Prim.Native.Nat.{◌≤◌, ◌+◌, ◌-◌}
-use native.Mathlib.Nat.{zero-add}
-use native.Mathlib.Omega.{arith}
 use lib.ListN.{length, drop}
 use Rattle.sdp_spec.specs.Reading.{front}
-use Rattle.sdp_spec.proofs.CutLaws.{front-stops, front_goes, front_ends}
 use Rattle.sdp_reader.proofs.front_length.Given as goal
 
 abbrev pub invariant-loop-i : goal.invariant-loop-i

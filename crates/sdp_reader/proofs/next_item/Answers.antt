@@ -1,6 +1,5 @@
 -- `next_item` reads the item at the front, and finds the next.
 -- By whether a `;` follows.
-use borrow.Author.Rules.{rules}
 use mathlib.Core.Path.{◌≡◌, ap, sym, ◌∙◌}
 use mathlib.Core.Bool.{true, false}
 use mathlib.Core.List.{List}

@@ -1,6 +1,5 @@
 -- `read` reads the pairs of a text.
 -- Each return knows the tests before it, in the order of the definition; the pairs counted are those written.
-use borrow.Author.Rules.{rules}
 use mathlib.Core.Path.{◌≡◌, ap, sym, ◌∙◌}
 use mathlib.Core.List.{List}
 use Prim.Native.Nat.{ℕ, ◌*◌, ◌/◌, ◌<◌, ◌≤◌}

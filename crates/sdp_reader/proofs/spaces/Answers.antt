@@ -1,8 +1,6 @@
 use borrow.Author.Rules.{rules}
-use mathlib.Core.Path.{◌≡◌, sym, ◌∙◌}
-use Prim.Native.Nat.{◌≤◌, ◌-◌}
-use lib.ListN.{length, drop}
-use Rattle.sdp_spec.specs.Reading.{skip_spaces}
+use mathlib.Core.Path.{sym, ◌∙◌}
+use Prim.Native.Nat.{◌-◌}
 use Rattle.sdp_spec.proofs.CutLaws.{skip-stops, skip-goes, skip-ends}
 use Rattle.sdp_reader.proofs.spaces.Goals as goal
 

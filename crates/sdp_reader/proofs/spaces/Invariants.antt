@@ -1,11 +1,9 @@
 -- `spaces` counts the spaces at the front.
 -- Invariant: without its spaces, what is left is the text without its spaces.
-use borrow.Author.Rules.{rules}
-use mathlib.Core.Path.{◌≡◌, sym, ◌∙◌}
+use mathlib.Core.Path.{◌≡◌}
 use Prim.Native.Nat.{◌≤◌, ◌-◌}
 use lib.ListN.{length, drop}
 use Rattle.sdp_spec.specs.Reading.{skip_spaces}
-use Rattle.sdp_spec.proofs.CutLaws.{skip-stops, skip-goes, skip-ends}
 use Rattle.sdp_reader.proofs.spaces.Given as goal
 
 abbrev pub invariant-loop-i : goal.invariant-loop-i

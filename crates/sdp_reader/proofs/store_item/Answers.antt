@@ -1,6 +1,5 @@
 -- `store_item` writes the octets of a pair.
 -- By what the item is: two stores for a pair, none for any other.
-use borrow.Author.Rules.{rules}
 use mathlib.Core.Path.{◌≡◌, refl, ap, sym, subst}
 use mathlib.Core.List.{List, []}
 use Prim.Native.Nat.{ℕ, ◌+◌, ◌≤◌}

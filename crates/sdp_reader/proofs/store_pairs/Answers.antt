@@ -1,14 +1,11 @@
-use borrow.Author.Rules.{rules}
 use mathlib.Core.Path.{ap, sym}
 use mathlib.Core.Bool.{Bool}
-use Prim.Native.Nat.{◌+◌}
 use lib.ListN.{length}
 use Rattle.wire_spec.specs.Bits.{bit}
 use Rattle.sdp_spec.specs.Grammar.{pairs_of}
-use Rattle.sdp_spec.specs.Reading.{items}
 use Rattle.sdp_spec.proofs.CutLaws.{left, left-all}
 use Rattle.sdp_reader.proofs.GatherLaws.{behind-shorter, left_less}
-use Rattle.text.proofs.LeftLaws.{Left, left-starts, left_as, left-ends}
+use Rattle.text.proofs.LeftLaws.{left-starts, left_as, left-ends}
 use Rattle.sdp_reader.proofs.StoreLaws.{item-fits, left_behind}
 use Rattle.sdp_reader.proofs.store_pairs.Goals as goal
 

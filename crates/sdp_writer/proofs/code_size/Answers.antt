@@ -1,6 +1,5 @@
 -- `code_size` counts the octets of a VPID code with its `;`.
 -- By whether there is one.
-use borrow.Author.Rules.{rules}
 use mathlib.Core.Path.{ap, sym, ◌∙◌}
 use Prim.Native.Nat.{ℕ, ◌+◌}
 use native.Mathlib.Omega.{arith}

@@ -1,6 +1,5 @@
 -- `put_code` puts the item of a VPID code.
 -- By its two pieces: the name, and the digits that were put by themselves first.
-use borrow.Author.Rules.{rules}
 use mathlib.Core.Path.{◌≡◌, refl, ap}
 use mathlib.Core.List.{◌++◌}
 use Prim.Native.Nat.{ℕ}

@@ -1,6 +1,5 @@
 -- `put_pair` puts the item of a pair.
 -- By its three pieces: the name and the DID, the SDID, the brace.
-use borrow.Author.Rules.{rules}
 use mathlib.Core.Path.{◌≡◌, refl}
 use mathlib.Core.List.{List, ◌++◌}
 use Prim.Native.Nat.{ℕ, ◌+◌, ◌≤◌}

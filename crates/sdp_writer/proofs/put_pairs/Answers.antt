@@ -1,13 +1,12 @@
-use borrow.Author.Rules.{rules}
 use mathlib.Core.List.{List}
 use mathlib.Core.Path.{◌≡◌, refl, ap, ◌∙◌}
-use Prim.Native.Nat.{ℕ, ◌+◌, ◌-◌, ◌%◌, ◌<◌, ◌≤◌}
+use Prim.Native.Nat.{ℕ, ◌+◌, ◌-◌, ◌%◌, ◌<◌}
 use native.Mathlib.Omega.{arith}
-use lib.ListN.{length, drop, drop_of_length-le}
+use lib.ListN.{length, drop_of_length-le}
 use Rattle.text.proofs.PutLaws.{both}
-use Rattle.sdp_spec.specs.Writing.{pair_texts, joined}
+use Rattle.sdp_spec.specs.Writing.{pair_texts}
 use Rattle.sdp_writer.specs.Parts.{following}
-use Rattle.text.proofs.LeftLaws.{Left, left-starts, left_as}
+use Rattle.text.proofs.LeftLaws.{left-starts, left_as}
 use Rattle.sdp_writer.proofs.TextLaws.{room-behind, left-put, following-none, pair-room, pair-next}
 use Rattle.sdp_writer.proofs.put_pairs.Goals as goal
 

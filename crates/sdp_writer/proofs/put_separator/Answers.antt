@@ -1,6 +1,5 @@
 -- `put_separator` puts `;` behind what stands.
 -- By whether anything stands.
-use borrow.Author.Rules.{rules}
 use mathlib.Core.Path.{◌≡◌, sym}
 use mathlib.Core.List.{List, [], ◌∷◌}
 use Prim.Native.Nat.{ℕ, ◌+◌, ◌≤◌, zero-le}

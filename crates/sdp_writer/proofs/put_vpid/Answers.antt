@@ -1,6 +1,5 @@
 -- `put_vpid` puts the item of a VPID code behind what stands.
 -- By whether there is one.
-use borrow.Author.Rules.{rules}
 use mathlib.Core.Path.{◌≡◌, ap, sym, ◌∙◌}
 use mathlib.Core.List.{List, ◌++◌}
 use Prim.Native.Nat.{ℕ, ◌+◌, ◌≤◌}

@@ -1,6 +1,5 @@
 -- `text_size` counts the octets of a text.
 -- By the sizes of its items.
-use borrow.Author.Rules.{rules}
 use native.Mathlib.Omega.{arith}
 use Rattle.sdp_spec.proofs.WritingLaws.{codes-few, text-size}
 use Rattle.sdp_writer.proofs.text_size.Goals as goal

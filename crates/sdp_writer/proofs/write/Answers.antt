@@ -1,6 +1,5 @@
 -- `write` writes parameters as a text.
 -- Each return knows the tests before it, in the order of the definition; the text is the pairs' items, and the code's behind them.
-use borrow.Author.Rules.{rules}
 use mathlib.Core.Path.{◌≡◌, ap, sym, subst, ◌∙◌}
 use mathlib.Core.List.{List, ◌++◌}
 use Prim.Native.Nat.{ℕ, ◌+◌, ◌*◌, ◌%◌, ◌<◌, ◌≤◌}

@@ -1,6 +1,5 @@
 -- `put_findings` puts the lines of a packet that is not refused.
 -- Pieces one behind the other are one piece.
-use borrow.Author.Rules.{rules}
 use Rattle.text.specs.Text.{ascii}
 use Rattle.text.proofs.PutLaws.{both}
 use Rattle.streamcheck_spec.specs.Text.{line_text}

@@ -1,6 +1,5 @@
 -- `put_if` puts a line where the test holds.
 -- By the test.
-use borrow.Author.Rules.{rules}
 use native.Mathlib.Omega.{arith}
 use Rattle.text.proofs.PutLaws.{nothing}
 use Rattle.streamcheck_lines.proofs.put_if.Goals as goal

@@ -1,6 +1,5 @@
 -- `put_outcome` puts the lines of a packet.
 -- By whether it is refused.
-use borrow.Author.Rules.{rules}
 use mathlib.Core.Path.{ap, sym, ◌∙◌}
 use Rattle.text.proofs.PutLaws.{same}
 use Rattle.streamcheck_spec.specs.declared.checker.Outcome.{Outcome}

@@ -1,6 +1,5 @@
 -- `put_refused` puts the line of a refused packet.
 -- Pieces one behind the other are one piece.
-use borrow.Author.Rules.{rules}
 use Rattle.text.specs.Text.{ascii}
 use Rattle.text.proofs.PutLaws.{both}
 use Rattle.streamcheck_spec.specs.Text.{line_text}

@@ -1,6 +1,5 @@
 -- `past` goes past one record.
 -- By its line.
-use borrow.Author.Rules.{rules}
 use Rattle.streamcheck_spec.specs.Code.{past}
 use Rattle.streamcheck_raster.proofs.past.Goals as goal
 

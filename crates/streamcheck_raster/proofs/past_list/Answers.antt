@@ -1,8 +1,7 @@
-use borrow.Author.Rules.{rules}
 use mathlib.Core.Path.{◌≡◌, ap, sym, ◌∙◌}
 use Prim.Native.Nat.{◌+◌}
 use native.Mathlib.Omega.{arith}
-use lib.ListN.{length, length-drop}
+use lib.ListN.{length-drop}
 use Rattle.wire_spec.specs.Cells.{head_cells, cell_record, read_list}
 use Rattle.wire_spec.proofs.ListLaws.{part-all}
 use Rattle.anc_record.specs.declared.header.Header.{Header}
@@ -10,7 +9,7 @@ use Rattle.anc_record.specs.Header.{header_of}
 use Rattle.anc_record.proofs.FoundLaws.{Starts, found-starts}
 use Rattle.anc_record.proofs.FrontLaws.{rest-is}
 use Rattle.streamcheck_spec.specs.Code.{past, past_list}
-use Rattle.streamcheck_raster.proofs.RecordsLeft.{Left, Next, all_left, none_left, next, header_is, header-there, left-same}
+use Rattle.streamcheck_raster.proofs.RecordsLeft.{Next, all_left, none_left, next, header_is, header-there, left-same}
 use Rattle.streamcheck_raster.proofs.past_list.Goals as goal
 
 pub loop-rest-init : goal.loop-rest-init

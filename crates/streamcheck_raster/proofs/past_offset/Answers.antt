@@ -1,6 +1,5 @@
 -- `past_offset` goes past a record on a plain line.
 -- By its offset.
-use borrow.Author.Rules.{rules}
 use Rattle.streamcheck_raster.proofs.past_offset.Goals as goal
 
 pub returns-in-Number : goal.returns-in-Number

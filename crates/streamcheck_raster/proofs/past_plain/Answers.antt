@@ -1,6 +1,5 @@
 -- `past_plain` goes past a record at a plain place.
 -- By the order of the two places.
-use borrow.Author.Rules.{rules}
 use Rattle.streamcheck_raster.proofs.past_plain.Goals as goal
 
 pub returns : goal.returns

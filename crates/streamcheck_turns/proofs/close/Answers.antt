@@ -1,7 +1,5 @@
 -- `close` writes the last line, where the run is done.
 -- There is room for it.
-use borrow.Author.Rules.{rules}
-use borrow.Author.Tests.{not-true, not-false}
 use mathlib.Core.Path.{ap, sym, ◌∙◌}
 use native.Mathlib.Omega.{arith}
 use Rattle.rtp_frames.specs.Frames.{front, is_broken}

@@ -1,6 +1,5 @@
 -- `start` is before the first frame.
 -- By what its calls give.
-use borrow.Author.Rules.{rules}
 use Rattle.streamcheck_turns.proofs.start.Goals as goal
 
 pub returns : goal.returns

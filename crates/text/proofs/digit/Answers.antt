@@ -1,6 +1,5 @@
 -- `digit` gives the octet of a digit.
 -- By the digit's kind.
-use borrow.Author.Rules.{rules}
 use borrow.Author.Tests.{lt-ltb, le-ltb}
 use Rattle.text.proofs.digit.Goals as goal
 

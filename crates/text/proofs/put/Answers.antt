@@ -1,6 +1,5 @@
 -- `put` writes a piece at its place, and nothing else.
 -- By the copy's contract, over the octets from that place on.
-use borrow.Author.Rules.{rules}
 use mathlib.Core.Path.{refl}
 use Rattle.wire_spec.proofs.ListLaws.{part-written}
 use Rattle.text.proofs.put.Goals as goal

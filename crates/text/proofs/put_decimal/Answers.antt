@@ -1,6 +1,5 @@
 -- `put_decimal` puts a number's decimal digits.
 -- The fewest digits of a number are the ones that the definition writes.
-use borrow.Author.Rules.{rules}
 use mathlib.Core.Path.{◌≡◌, ap, ◌∙◌}
 use native.Mathlib.Omega.{arith}
 use lib.ListN.{length, take}

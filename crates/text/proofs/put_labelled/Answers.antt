@@ -1,6 +1,5 @@
 -- `put_labelled` puts a label and, behind it, a number.
 -- Two pieces one behind the other are one piece.
-use borrow.Author.Rules.{rules}
 use native.Mathlib.Omega.{arith}
 use Rattle.text.proofs.PutLaws.{both}
 use Rattle.text.proofs.put_labelled.Goals as goal

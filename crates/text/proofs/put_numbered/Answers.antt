@@ -1,6 +1,5 @@
 -- `put_numbered` puts a number and, behind it, a text.
 -- Two pieces one behind the other are one piece.
-use borrow.Author.Rules.{rules}
 use native.Mathlib.Omega.{arith}
 use Rattle.text.proofs.PutLaws.{both}
 use Rattle.text.proofs.put_numbered.Goals as goal

@@ -1,6 +1,5 @@
 -- `put_word` puts a space and three hex digits.
 -- By the digits, one by one.
-use borrow.Author.Rules.{rules}
 use mathlib.Core.Path.{◌≡◌, ◌∙◌}
 use mathlib.Core.List.{List, [], ◌∷◌, ◌++◌}
 use Prim.Native.Nat.{ℕ}

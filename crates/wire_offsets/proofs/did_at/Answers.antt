@@ -1,6 +1,5 @@
 -- `did_at` gives the bit at which DID starts.
 -- By the variant that each arm is told.
-use borrow.Author.Rules.{rules}
 use Rattle.wire_offsets.proofs.did_at.Goals as goal
 
 pub returns-in-Rfc8331 : goal.returns-in-Rfc8331

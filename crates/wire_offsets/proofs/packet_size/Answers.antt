@@ -1,6 +1,5 @@
 -- `packet_size` is the size that the definition rounds up.
 -- By the law of the octets taken up to a whole unit.
-use borrow.Author.Rules.{rules}
 use Prim.Native.Nat.{◌+◌, ◌*◌, ◌/◌}
 use native.Mathlib.Nat.{mod-le}
 use native.Mathlib.Omega.{arith}

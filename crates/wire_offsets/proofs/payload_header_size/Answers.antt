@@ -1,6 +1,5 @@
 -- `payload_header_size` gives the octets of the payload header.
 -- By the variant that each arm is told.
-use borrow.Author.Rules.{rules}
 use Rattle.wire_offsets.proofs.payload_header_size.Goals as goal
 
 pub returns-in-Rfc8331 : goal.returns-in-Rfc8331

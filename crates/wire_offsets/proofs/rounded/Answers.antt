@@ -1,6 +1,5 @@
 -- `rounded` gives a packet's bits beside its words, with what rounds them up.
 -- By the variant that each arm is told.
-use borrow.Author.Rules.{rules}
 use Rattle.wire_offsets.proofs.rounded.Goals as goal
 
 pub returns-in-Rfc8331 : goal.returns-in-Rfc8331

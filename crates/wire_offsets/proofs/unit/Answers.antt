@@ -1,6 +1,5 @@
 -- `unit` gives the octets of which a packet takes a multiple.
 -- By the variant that each arm is told.
-use borrow.Author.Rules.{rules}
 use Rattle.wire_offsets.proofs.unit.Goals as goal
 
 pub returns-in-Rfc8331 : goal.returns-in-Rfc8331

@@ -1,6 +1,5 @@
 -- `words_at` gives the bit at which the user data words start.
 -- By the variant that each arm is told.
-use borrow.Author.Rules.{rules}
 use Rattle.wire_offsets.proofs.words_at.Goals as goal
 
 pub returns-in-Rfc8331 : goal.returns-in-Rfc8331

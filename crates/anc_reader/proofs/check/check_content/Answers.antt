@@ -1,6 +1,5 @@
 -- `check_content` gives the verdict on the content of a packet that is all there and passed 10.
 -- Each return knows the tests before it, in the order of the definition.
-use borrow.Author.Rules.{rules}
 use mathlib.Core.Path.{◌≡◌, ap, sym, ◌∙◌}
 use mathlib.Core.Bool.{true, not}
 use Prim.Native.Nat.{ℕ, ◌+◌, ◌*◌}

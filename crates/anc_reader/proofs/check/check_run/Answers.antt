@@ -1,7 +1,6 @@
-use borrow.Author.Rules.{rules}
 use mathlib.Core.Path.{◌≡◌, ap, sym, ◌∙◌}
 use mathlib.Core.List.{List}
-use Prim.Native.Nat.{ℕ, suc, ◌≤◌, ◌+◌, ◌-◌}
+use Prim.Native.Nat.{ℕ, suc, ◌+◌, ◌-◌}
 use native.Mathlib.Nat.{add-zero, sub-zero, zero-add}
 use native.Mathlib.Omega.{arith}
 use lib.ListN.{length, drop, length-drop}
@@ -9,7 +8,6 @@ use Rattle.wire_spec.specs.Anc.{read_run, anc_size}
 use Rattle.wire_spec.specs.Cells.{head_cells}
 use Rattle.wire_spec.proofs.ListLaws.{part-all}
 use Rattle.wire_spec.proofs.SizeLaws.{cells-octets}
-use Rattle.anc_reader.specs.Answers.{run_of}
 use Rattle.anc_reader.proofs.RunLaws.{tally, tally-none, refused-next, Next, accepted-next}
 use Rattle.anc_reader.proofs.check.check_run.Goals as goal
 

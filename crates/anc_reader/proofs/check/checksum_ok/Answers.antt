@@ -1,6 +1,5 @@
 -- `checksum_ok` tests the word behind the user data words.
 -- By the definition.
-use borrow.Author.Rules.{rules}
 use Rattle.anc_reader.proofs.check.checksum_ok.Goals as goal
 
 pub returns : goal.returns

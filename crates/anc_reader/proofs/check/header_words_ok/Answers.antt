@@ -1,6 +1,5 @@
 -- `header_words_ok` tests three words.
 -- Each return knows the tests of the words before it.
-use borrow.Author.Rules.{rules}
 use mathlib.Core.Bool.{and-true, not}
 use borrow.Author.Tests.{not-true, not-false}
 use Rattle.anc_reader.proofs.PacketLaws.{headers-test, fetched}

@@ -1,8 +1,7 @@
 -- `r_ok` tests the R bits of a layout that has them.
 -- By the layout: none, or the last two bits before the words.
-use borrow.Author.Rules.{rules}
-use mathlib.Core.Path.{◌≡◌, sym, subst, ◌∙◌}
-use Prim.Native.Nat.{ℕ, ◌≤◌}
+use mathlib.Core.Path.{sym, subst}
+use Prim.Native.Nat.{◌≤◌}
 use native.Mathlib.Omega.{arith}
 use lib.ListN.{length}
 use Rattle.wire_spec.specs.Layout.{Layout, least_size}

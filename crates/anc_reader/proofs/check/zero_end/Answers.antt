@@ -1,6 +1,5 @@
 -- `zero_end` tests the bits behind the body.
 -- They are a remainder of the packet's last four octets.
-use borrow.Author.Rules.{rules}
 use Prim.Native.Nat.{◌*◌, ◌-◌}
 use native.Mathlib.Omega.{arith}
 use lib.Pow.{pow_pos}

@@ -1,6 +1,5 @@
 -- `read_header` writes what stands before a packet's words to the cells before a record's words, and tells Data_Count.
 -- By the place of each field in the octets; the record's cells before its words are its header's.
-use borrow.Author.Rules.{rules}
 use mathlib.Core.Path.{◌≡◌, ap, sym, subst, ◌∙◌}
 use mathlib.Core.List.{List, [], ◌∷◌}
 use Prim.Native.Nat.{ℕ, ◌+◌, ◌*◌, ◌/◌, ◌%◌, ◌<◌, ◌≤◌}
@@ -10,7 +9,6 @@ use lib.Seq.{sets-eq}
 use Rattle.wire_spec.specs.Anc.{anc_record, data_count, did_at}
 use Rattle.wire_spec.specs.Bits.{bits_at, overwrite}
 use Rattle.wire_spec.specs.Cells.{head_cells, cells_in}
-use Rattle.wire_spec.specs.Layout.{least_size}
 use Rattle.wire_spec.specs.Words.{word_bits, header_numbers}
 use Rattle.wire_words.specs.Word.{WordsFit}
 use Rattle.wire_spec.proofs.BitLaws.{bits_at-lt}

@@ -1,6 +1,5 @@
 -- `stream_octet` is the octet, or 0.
 -- By the layout.
-use borrow.Author.Rules.{rules}
 use Rattle.anc_reader.proofs.header.stream_octet.Goals as goal
 
 pub returns-in-Rfc8331 : goal.returns-in-Rfc8331

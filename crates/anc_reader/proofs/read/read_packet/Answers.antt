@@ -1,6 +1,5 @@
 -- `read_packet` writes the record of the packet at the front to the first cells, and no other cell.
 -- Its header, and its words behind that, in each layout where it has them.
-use borrow.Author.Rules.{rules}
 use mathlib.Core.Path.{◌≡◌, refl, subst}
 use mathlib.Core.List.{List}
 use Prim.Native.Nat.{ℕ, ◌+◌, ◌≤◌}
@@ -10,7 +9,7 @@ use Rattle.wire_spec.specs.Anc.{anc_size, data_count}
 use Rattle.wire_spec.specs.Layout.{Layout, rfc8331, draft2015}
 use Rattle.wire_spec.specs.Cells.{head_cells}
 use Rattle.wire_spec.proofs.SizeLaws.{least_size_lem}
-use Rattle.anc_reader.proofs.PacketLaws.{There, there}
+use Rattle.anc_reader.proofs.PacketLaws.{there}
 use Rattle.anc_reader.proofs.RecordLaws.{packet-written}
 use Rattle.anc_reader.proofs.read.read_packet.Goals as goal
 

@@ -1,4 +1,3 @@
-use borrow.Author.Rules.{rules}
 use mathlib.Core.Path.{◌≡◌, refl, ap, sym, ◌∙◌}
 use Prim.Native.Nat.{suc, ◌≤◌, ◌+◌, ◌-◌}
 use native.Mathlib.Nat.{sub-zero}

@@ -1,15 +1,9 @@
 -- `read_run` writes the records of a run to the first cells, and no other cell.
 -- Invariant: the records that are left, written behind those that are, make all of them written.
-use borrow.Author.Rules.{rules}
-use mathlib.Core.Path.{◌≡◌, refl, ap, sym, ◌∙◌}
-use Prim.Native.Nat.{suc, ◌≤◌, ◌+◌, ◌-◌}
-use native.Mathlib.Nat.{sub-zero}
-use native.Mathlib.Omega.{arith}
-use lib.ListN.{length, length-take, length-drop}
-use Rattle.wire_spec.specs.Anc.{anc_size, read_run}
-use Rattle.wire_spec.proofs.ListLaws.{splice-none}
+use Prim.Native.Nat.{◌≤◌, ◌-◌}
+use Rattle.wire_spec.specs.Anc.{read_run}
 use Rattle.anc_reader.specs.Answers.{run_cells_in}
-use Rattle.anc_reader.proofs.RunLaws.{Left, First, first, left-next}
+use Rattle.anc_reader.proofs.RunLaws.{Left}
 use Rattle.anc_reader.proofs.read.read_run.Given as goal
 
 abbrev pub invariant-loop-i : goal.invariant-loop-i

@@ -1,11 +1,9 @@
-use borrow.Author.Rules.{rules}
 use mathlib.Core.Path.{◌≡◌, refl, sym, ◌∙◌}
-use mathlib.Core.List.{List}
-use Prim.Native.Nat.{ℕ, suc, ◌≤◌, ◌+◌, ◌-◌, ◌*◌}
+use Prim.Native.Nat.{suc, ◌+◌, ◌-◌, ◌*◌}
 use native.Mathlib.Nat.{add-zero, mul-zero, sub-zero}
 use native.Mathlib.Omega.{arith}
-use lib.ListN.{length, set, length-set}
-use Rattle.wire_spec.specs.Bits.{bits_at, row_at, overwrite, splice}
+use lib.ListN.{length-set}
+use Rattle.wire_spec.specs.Bits.{bits_at, row_at}
 use Rattle.wire_spec.specs.Words.{word_bits}
 use Rattle.wire_spec.proofs.ListLaws.{splice-none, splice-set}
 use Rattle.anc_reader.proofs.read.read_singly.Goals as goal

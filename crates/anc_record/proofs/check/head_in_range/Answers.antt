@@ -1,6 +1,5 @@
 -- `head_in_range` tells whether each cell before the words fits its field.
 -- Its tests are those of the definition, grouped from the other side.
-use native.Mathlib.Omega.{arith}
 use mathlib.Core.Path.{◌≡◌}
 use mathlib.Core.Bool.{Bool, ◌&&◌, and_assoc}
 use Prim.Native.Nat.{ℕ}

@@ -1,7 +1,5 @@
 -- `is_clear_record` tells whether a record without a protected word stands at the front of the cells.
 -- Its words tell it where they are there, and clear words fit.
-use borrow.Author.Rules.{rules}
-use borrow.Author.Tests.{not-true, not-false}
 use mathlib.Core.Path.{◌≡◌, ap, sym, ◌∙◌}
 use mathlib.Core.Bool.{true}
 use Prim.Native.Nat.{◌+◌, ◌<◌, ◌≤◌}

@@ -1,12 +1,9 @@
-use mathlib.Core.Bool.{◌&&◌, and_assoc, and-true}
+use mathlib.Core.Bool.{and_assoc, and-true}
 use mathlib.Core.Path.{◌≡◌, refl, sym, ◌∙◌}
-use Prim.Native.Nat.{◌≤◌, ◌-◌, ◌^◌}
 use native.Mathlib.Numerals.{add-one}
 use native.Mathlib.Omega.{arith}
-use lib.ListN.{length, drop}
+use lib.ListN.{length}
 use lib.Seq.{drop-cons, drop-length}
-use Rattle.wire_spec.specs.Cells.{all_below}
-use Rattle.wire_spec.specs.Words.{word_bits}
 use Rattle.anc_record.proofs.check.words_in_range.Goals as goal
 
 pub loop-k-init : goal.loop-k-init

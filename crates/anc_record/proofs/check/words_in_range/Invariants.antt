@@ -1,12 +1,9 @@
 -- `words_in_range` tells whether each word fits ten bits.
 -- Invariant: the test of those that were seen, with the test of those that are left, is the test of all words.
-use mathlib.Core.Bool.{◌&&◌, and_assoc, and-true}
-use mathlib.Core.Path.{◌≡◌, refl, sym, ◌∙◌}
+use mathlib.Core.Bool.{◌&&◌}
+use mathlib.Core.Path.{◌≡◌}
 use Prim.Native.Nat.{◌≤◌, ◌-◌, ◌^◌}
-use native.Mathlib.Numerals.{add-one}
-use native.Mathlib.Omega.{arith}
 use lib.ListN.{length, drop}
-use lib.Seq.{drop-cons, drop-length}
 use Rattle.wire_spec.specs.Cells.{all_below}
 use Rattle.wire_spec.specs.Words.{word_bits}
 use Rattle.anc_record.proofs.check.words_in_range.Given as goal

@@ -1,6 +1,5 @@
 -- `header_of` gives the header of the record at the front of the cells.
 -- The casts fit since the record is well-formed.
-use borrow.Author.Rules.{rules}
 use mathlib.Core.Path.{sym}
 use lib.Dec.{eqb}
 use lib.ListN.{get_or}

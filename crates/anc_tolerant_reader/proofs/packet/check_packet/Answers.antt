@@ -1,7 +1,6 @@
 -- `check_packet` tells what a packet is in the strict way.
 -- A run of one packet is refused as its packet is, but for the index.
-use borrow.Author.Rules.{rules}
-use mathlib.Core.Path.{◌≡◌, ap, sym, ◌∙◌}
+use mathlib.Core.Path.{ap, sym, ◌∙◌}
 use Prim.Native.Nat.{ℕ}
 use Rattle.anc_tolerant_spec.proofs.StrictLaws.{anc-passes}
 use Rattle.anc_reader.specs.Answers.{verdict_of}

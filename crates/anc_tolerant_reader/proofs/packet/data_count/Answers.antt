@@ -1,6 +1,5 @@
 -- `data_count` gives a packet's Data_Count.
 -- The third word from DID on, and what it carries.
-use borrow.Author.Rules.{rules}
 use mathlib.Core.Path.{◌≡◌, ap, ◌∙◌}
 use Prim.Native.Nat.{ℕ, ◌+◌, ◌*◌, ◌%◌}
 use native.Mathlib.Omega.{arith}

@@ -1,6 +1,5 @@
 -- `left_out` tells of a packet that fails its checksum and nothing before.
 -- The bits behind its words, as the strict check tests them.
-use borrow.Author.Rules.{rules}
 use mathlib.Core.Path.{◌≡◌, ap, sym, subst, ◌∙◌}
 use mathlib.Core.Bool.{false, not}
 use Prim.Native.Nat.{ℕ, ◌+◌, ◌*◌, ◌<◌, ◌≤◌}
@@ -12,7 +11,6 @@ use Rattle.wire_spec.specs.Words.{word_bits, header_numbers}
 use Rattle.wire_spec.specs.Anc.{anc_size, data_count, alignment_ok}
 use Rattle.anc_reader.specs.Tests.{zero_bits}
 use Rattle.anc_reader.proofs.PacketLaws.{passed, failed, There, there, alignment-test}
-use Rattle.anc_tolerant_reader.specs.Answers.{part_of}
 use Rattle.anc_tolerant_reader.specs.declared.packet.Part.TheVariants as part
 use Rattle.anc_tolerant_reader.proofs.PacketLaws.{sized, left-12, left_out}
 use Rattle.anc_tolerant_reader.proofs.packet.left_out.Goals as goal

@@ -1,7 +1,6 @@
 -- `take_packet` tells what a packet is in the tolerant way.
 -- From the strict verdict on it.
-use borrow.Author.Rules.{rules}
-use mathlib.Core.Path.{◌≡◌, sym, ◌∙◌}
+use mathlib.Core.Path.{sym, ◌∙◌}
 use Rattle.anc_tolerant_reader.proofs.PacketLaws.{part-own, part-refused, part-11}
 use Rattle.anc_tolerant_reader.proofs.packet.take_packet.Goals as goal
 

@@ -1,6 +1,5 @@
 -- `read_own` writes the record of a packet that comes through, and nothing of one that is left out.
 -- By the strict verdict: it refuses exactly where the checksum fails.
-use borrow.Author.Rules.{rules}
 use mathlib.Core.Path.{◌≡◌, refl, ap, sym, subst, ◌∙◌}
 use mathlib.Core.List.{List, append-nil}
 use Prim.Native.Nat.{ℕ, ◌+◌, ◌≤◌}
@@ -8,7 +7,7 @@ use native.Mathlib.Omega.{arith}
 use lib.ListN.{length}
 use Rattle.wire_spec.specs.Bits.{overwrite}
 use Rattle.wire_spec.specs.Result.{IsAccepted}
-use Rattle.wire_spec.specs.Anc.{anc_record, anc_size, read_run, behind}
+use Rattle.wire_spec.specs.Anc.{anc_record, anc_size, read_run}
 use Rattle.wire_spec.specs.Cells.{head_cells, cells_of}
 use Rattle.anc_reader.specs.Answers.{run_cells}
 use Rattle.anc_reader.proofs.PacketLaws.{length-words}

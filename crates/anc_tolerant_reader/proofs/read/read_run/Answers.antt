@@ -1,12 +1,11 @@
-use borrow.Author.Rules.{rules}
-use mathlib.Core.Path.{◌≡◌, refl, ap, ap₂, sym, subst, ◌∙◌}
+use mathlib.Core.Path.{◌≡◌, refl, ap, sym, subst, ◌∙◌}
 use mathlib.Core.List.{List, ◌++◌}
-use Prim.Native.Nat.{ℕ, suc, zero-le, ◌≤◌, ◌+◌, ◌-◌}
+use Prim.Native.Nat.{ℕ, suc, ◌≤◌, ◌+◌, ◌-◌}
 use native.Mathlib.Nat.{sub-zero}
 use native.Mathlib.Omega.{arith}
-use lib.ListN.{length, drop, length-take, length-drop, length-append}
+use lib.ListN.{length, length-take, length-drop, length-append}
 use Rattle.wire_spec.specs.Result.{IsAccepted}
-use Rattle.wire_spec.specs.Anc.{anc_size, data_count, behind}
+use Rattle.wire_spec.specs.Anc.{behind}
 use Rattle.wire_spec.proofs.ListLaws.{splice-none}
 use Rattle.anc_tolerant_spec.specs.Tolerant.{tolerate_run}
 use Rattle.anc_tolerant_reader.specs.Answers.{own_cells, taken_cells}

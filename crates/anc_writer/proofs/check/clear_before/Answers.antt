@@ -1,10 +1,5 @@
 -- `clear_before` counts a record on while all before it were clear.
 -- Its test is that of the definition.
-use Prim.Native.Nat.{◌+◌}
-use mathlib.Core.Path.{◌≡◌, ap, sym}
-use mathlib.Core.Bool.{Bool, cond}
-use borrow.Author.Rules.{rules}
-use Prim.Native.Nat.{ℕ}
 use Rattle.anc_writer.proofs.check.clear_before.Goals as goal
 
 pub returns-then-clear-first : goal.returns-then-clear-first

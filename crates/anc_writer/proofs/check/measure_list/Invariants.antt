@@ -1,22 +1,12 @@
 -- `measure_list` answers how many records a list has and the octets of their packets, or that it is refused.
 -- Invariant: every record so far is clear; what was counted, with what the cells that are left will add, is the answer; and the sums fit.
-use borrow.Author.Rules.{rules}
-use borrow.Author.Tests.{not-true, not-false}
-use mathlib.Core.Path.{◌≡◌, refl, ap, sym, ◌∙◌, subst}
-use mathlib.Core.Bool.{true}
-use mathlib.Core.List.{List}
-use Prim.Native.Nat.{ℕ, ◌+◌, ◌*◌, ◌≤◌}
-use native.Mathlib.Omega.{arith}
-use lib.ListN.{length, length-drop}
+use mathlib.Core.Path.{◌≡◌}
+use Prim.Native.Nat.{◌+◌, ◌*◌, ◌≤◌}
+use lib.ListN.{length}
 use Rattle.wire_spec.specs.Result.{◌then◌}
-use Rattle.wire_spec.specs.Anc.{anc_size}
-use Rattle.wire_spec.specs.Cells.{head_cells, cell_count, rest, records_from, read_list}
-use Rattle.wire_spec.proofs.ListLaws.{part-all}
-use Rattle.wire_spec.proofs.SizeLaws.{size-cells}
-use Rattle.anc_record.specs.Answers.{front_of, is_clear_front}
-use Rattle.anc_record.proofs.FrontLaws.{Lies, lies, rest-is, clear-taken}
-use Rattle.anc_writer.specs.Answers.{listed_of, measured_of}
-use Rattle.anc_writer.proofs.ListRun.{verdict, tally, tally-none, tally-ends, ends-clear, tally-clear, tally-unclear}
+use Rattle.wire_spec.specs.Cells.{rest, records_from, read_list}
+use Rattle.anc_writer.specs.Answers.{listed_of}
+use Rattle.anc_writer.proofs.ListRun.{verdict, tally}
 use Rattle.anc_writer.proofs.check.measure_list.Given as goal
 
 abbrev pub invariant-loop-rest : goal.invariant-loop-rest

@@ -1,20 +1,12 @@
 -- `no_stream` tells whether S and StreamNum of each record are zero.
 -- Invariant: the test of the records that were seen, with the test of those that are left, is the test of all.
-use mathlib.Core.Bool.{Bool, true, ◌&&◌, and_assoc, and-true}
-use mathlib.Core.Path.{◌≡◌, refl, ap, sym, ◌∙◌, subst}
-use mathlib.Core.List.{List, [], ◌∷◌}
-use Prim.Native.Nat.{ℕ, ◌+◌, ◌≤◌}
-use native.Mathlib.Omega.{arith}
-use lib.Dec.{eqb}
-use lib.ListN.{get_or, length, length-drop}
+use mathlib.Core.Bool.{◌&&◌}
+use mathlib.Core.Path.{◌≡◌}
+use lib.ListN.{length}
 use Rattle.wire_spec.specs.Result.{IsAccepted}
-use Rattle.wire_spec.specs.Anc.{Record}
-use Rattle.wire_spec.specs.Cells.{head_cells, cell_count, cell_record, records_from, clear_from, rest, read_list}
+use Rattle.wire_spec.specs.Cells.{rest, read_list}
 use Rattle.wire_spec.specs.Writing.{no_stream}
-use Rattle.wire_spec.proofs.ListLaws.{part-all}
-use Rattle.anc_record.proofs.FrontLaws.{rest-is}
 use Rattle.anc_writer.specs.Answers.{list_records}
-use Rattle.anc_writer.proofs.ListFront.{Front, front}
 use Rattle.anc_writer.proofs.check.no_stream.Given as goal
 
 abbrev pub invariant-loop-rest : goal.invariant-loop-rest

@@ -1,8 +1,7 @@
 -- `write_head` writes all that stands before the words, and tells the sum of the header words.
 -- Each callee tells its store; the laws of a packet's stores put them together, in the layout that each arm is told.
-use borrow.Author.Rules.{rules}
 use mathlib.Core.Path.{◌≡◌, ap, sym, subst, ◌∙◌}
-use Prim.Native.Nat.{ℕ, ◌≤◌}
+use Prim.Native.Nat.{◌≤◌}
 use native.Mathlib.Omega.{arith}
 use lib.ListN.{length, set, length-set}
 use Rattle.wire_spec.specs.Anc.{header_fields}

@@ -1,6 +1,5 @@
 -- `write_header_words` stores DID, SDID and Data_Count as header words, and tells their sum.
 -- By the table's entries, which are the header words of the numbers.
-use borrow.Author.Rules.{rules}
 use mathlib.Core.Path.{◌≡◌, ap, sym, ◌∙◌, subst}
 use mathlib.Core.List.{List, [], ◌∷◌}
 use Prim.Native.Nat.{ℕ, ◌^◌, ◌%◌, ◌<◌}

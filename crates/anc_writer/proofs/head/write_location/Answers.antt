@@ -1,6 +1,5 @@
 -- `write_location` writes the four octets before DID.
 -- By the law of stores one after the other; the octets are the packed fields of the record.
-use borrow.Author.Rules.{rules}
 use mathlib.Core.Path.{ap, ◌∙◌}
 use mathlib.Core.List.{List}
 use Prim.Native.Nat.{ℕ}

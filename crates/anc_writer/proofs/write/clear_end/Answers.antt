@@ -1,6 +1,5 @@
 -- `clear_end` sets the last four octets of a packet to zero.
 -- By the law of stores one after the other.
-use borrow.Author.Rules.{rules}
 use mathlib.Core.Path.{◌≡◌, sym, ◌∙◌}
 use mathlib.Core.List.{List, [], ◌∷◌, append_assoc}
 use Prim.Native.Nat.{ℕ, suc, ◌-◌}

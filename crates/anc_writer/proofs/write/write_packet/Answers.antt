@@ -1,6 +1,5 @@
 -- `write_packet` writes the record at the front of the cells as the packet at the front of the octets.
 -- Each callee tells its store; the law of a packet's stores puts them together.
-use borrow.Author.Rules.{rules}
 use mathlib.Core.Path.{◌≡◌, refl, ap, sym, ◌∙◌, subst}
 use mathlib.Core.List.{List}
 use Prim.Native.Nat.{ℕ, ◌+◌, ◌-◌, ◌^◌, ◌<◌, ◌≤◌}

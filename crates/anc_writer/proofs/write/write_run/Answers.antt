@@ -1,4 +1,3 @@
-use borrow.Author.Rules.{rules}
 use mathlib.Core.Path.{◌≡◌, refl, ap, ◌∙◌}
 use Prim.Native.Nat.{ℕ, ◌+◌, ◌≤◌}
 use native.Mathlib.Omega.{arith}
@@ -9,7 +8,7 @@ use Rattle.wire_spec.specs.Cells.{head_cells, cell_count, cell_record, rest, rea
 use Rattle.wire_spec.proofs.ListLaws.{part-all, part-written}
 use Rattle.anc_writer.specs.Answers.{list_octets}
 use Rattle.anc_record.proofs.FrontLaws.{rest-is}
-use Rattle.anc_writer.proofs.RunLeft.{ToWrite, Next, to-write-all, to-write-none, next, to-write-same}
+use Rattle.anc_writer.proofs.RunLeft.{Next, to-write-all, to-write-none, next, to-write-same}
 use Rattle.anc_writer.proofs.write.write_run.Goals as goal
 
 pub loop-rest-init : goal.loop-rest-init

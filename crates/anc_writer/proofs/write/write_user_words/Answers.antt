@@ -1,10 +1,9 @@
 -- `write_user_words` stores the user data words, and the checksum word behind them.
 -- One store after the other is one store of both, in the layout that each arm is told.
-use borrow.Author.Rules.{rules}
 use mathlib.Core.Path.{◌≡◌, ap, sym, subst, ◌∙◌}
 use mathlib.Core.Bool.{Bool}
 use mathlib.Core.List.{List}
-use Prim.Native.Nat.{ℕ, ◌+◌, ◌*◌}
+use Prim.Native.Nat.{◌+◌, ◌*◌}
 use native.Mathlib.Omega.{arith}
 use lib.ListN.{length}
 use Rattle.wire_spec.specs.Anc.{words_at}

@@ -1,10 +1,9 @@
 -- `reply_written` gives a writer's answer.
 -- By the answer.
-use borrow.Author.Rules.{rules}
 use mathlib.Core.Path.{ap, sym, ◌∙◌}
 use Rattle.wire_spec.specs.declared.written.Written.{Written}
 use Rattle.wire_spec.specs.Bits.{overwrite}
-use Rattle.capi_answer.specs.Rows.{given, written_reply}
+use Rattle.capi_answer.specs.Rows.{written_reply}
 use Rattle.capi_answer.proofs.answer.reply_written.Goals as goal
 
 pub returns-in-Refused : goal.returns-in-Refused

@@ -1,6 +1,5 @@
 -- `put_whole` writes what a field says to the first numbers of a row.
 -- By what `put` gives.
-use borrow.Author.Rules.{rules}
 use Rattle.capi_depacketizer.proofs.answer.put_whole.Goals as goal
 
 pub returns : goal.returns

@@ -1,6 +1,5 @@
 -- `reply_arrival` writes what became of an arrival to the answer.
 -- By the answer of the library.
-use borrow.Author.Rules.{rules}
 use mathlib.Core.Path.{ap, sym, ◌∙◌}
 use Rattle.wire_spec.specs.Bits.{overwrite}
 use Rattle.depacketizer_spec.specs.declared.state.Answer.{Answer}

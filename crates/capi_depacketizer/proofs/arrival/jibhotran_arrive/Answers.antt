@@ -1,9 +1,8 @@
 -- `jibhotran_arrive` does one step of the state in a row, or gives 35, 254 or 255.
 -- By what the library gives of the state that the row is, where both rows are long enough.
-use borrow.Author.Rules.{rules}
 use mathlib.Core.Path.{◌≡◌, ap, sym, ◌∙◌}
 use mathlib.Core.Bool.{true}
-use borrow.Author.Tests.{not-true, not-false, le-leb, lt-leb}
+use borrow.Author.Tests.{le-leb, lt-leb}
 use lib.ListN.{length}
 use Rattle.wire_spec.specs.Bits.{overwrite}
 use Rattle.wire_spec.specs.Layout.{Layout}
@@ -12,12 +11,11 @@ use Rattle.depacketizer.specs.Answers.{arrival_of}
 use Rattle.depacketizer.specs.declared.state.Arrival.{Arrival}
 use Rattle.capi_state.specs.declared.state.Restored.{Restored}
 use Rattle.capi_answer.specs.Rows.{answer_size, last_layout, layout_of}
-use Rattle.capi_depacketizer.specs.Calls.{Arrived, arrive, arrived_at, rows_fit, state_after}
+use Rattle.capi_depacketizer.specs.Calls.{Arrived, arrived_at, rows_fit, state_after}
 use Rattle.capi_depacketizer.specs.Rows.{arrival_reply}
-use Rattle.capi_state.specs.State.{state_size}
+use Rattle.capi_state.specs.State.{state_size, numbers_of}
 use Prim.Native.Nat.{◌≤◌}
 use Rattle.capi_state.specs.declared.state.Restored.TheVariants as restored
-use Rattle.capi_state.specs.State.{numbers_of}
 use Rattle.capi_depacketizer.proofs.RowLaws.{rows_long}
 use Rattle.capi_depacketizer.proofs.arrival.jibhotran_arrive.Goals as goal
 

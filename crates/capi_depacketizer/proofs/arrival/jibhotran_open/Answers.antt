@@ -1,17 +1,14 @@
 -- `jibhotran_open` gives the row of a state just opened, or 24 or 255.
 -- By what the library gives, where both rows are long enough.
-use borrow.Author.Rules.{rules}
 use mathlib.Core.Path.{◌≡◌, ap, sym, ◌∙◌}
 use mathlib.Core.Bool.{true}
 use Prim.Native.Nat.{◌≤◌}
-use borrow.Author.Tests.{not-true, not-false}
 use lib.ListN.{length}
 use Rattle.wire_spec.specs.Bits.{overwrite}
 use Rattle.depacketizer.specs.declared.state.Opened.{Opened}
 use Rattle.capi_answer.specs.Rows.{answer_size}
 use Rattle.capi_depacketizer.specs.Calls.{opened_in, opened_numbers, opened_reply, rows_fit}
-use Rattle.capi_state.specs.State.{state_size}
-use Rattle.capi_state.specs.State.{state_in}
+use Rattle.capi_state.specs.State.{state_size, state_in}
 use Rattle.capi_depacketizer.proofs.RowLaws.{rows_long}
 use Rattle.capi_depacketizer.proofs.arrival.jibhotran_open.Goals as goal
 

@@ -1,12 +1,8 @@
-use borrow.Author.Rules.{rules}
 use mathlib.Core.Path.{◌≡◌, sym, ◌∙◌}
-use mathlib.Core.Bool.{◌&&◌}
-use Prim.Native.Nat.{ℕ, ◌≤◌, ◌-◌, ◌^◌}
+use Prim.Native.Nat.{◌-◌, ◌^◌}
 use native.Mathlib.Omega.{arith}
-use lib.Dec.{leb}
-use lib.ListN.{length, drop}
+use lib.ListN.{length}
 use borrow.Author.Tests.{le-leb}
-use Rattle.capi_egress_state.specs.Row.{all_fit}
 use Rattle.capi_egress_state.proofs.FitLaws.{join-next, join-end}
 use Rattle.capi_egress_state.proofs.numbers.joined.Goals as goal
 

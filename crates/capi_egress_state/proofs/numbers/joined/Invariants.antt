@@ -1,15 +1,11 @@
 -- `joined` gives the bits of all the numbers.
 -- Invariant: all fit a width exactly if what is joined does, and those that are left do.
-use borrow.Author.Rules.{rules}
-use mathlib.Core.Path.{◌≡◌, sym, ◌∙◌}
+use mathlib.Core.Path.{◌≡◌}
 use mathlib.Core.Bool.{◌&&◌}
 use Prim.Native.Nat.{ℕ, ◌≤◌, ◌-◌, ◌^◌}
-use native.Mathlib.Omega.{arith}
 use lib.Dec.{leb}
 use lib.ListN.{length, drop}
-use borrow.Author.Tests.{le-leb}
 use Rattle.capi_egress_state.specs.Row.{all_fit}
-use Rattle.capi_egress_state.proofs.FitLaws.{join-next, join-end}
 use Rattle.capi_egress_state.proofs.numbers.joined.Given as goal
 
 abbrev pub invariant-loop-k : goal.invariant-loop-k

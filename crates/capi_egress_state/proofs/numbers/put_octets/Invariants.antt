@@ -1,15 +1,9 @@
 -- `put_octets` puts numbers of 8 bits into a row from a place on, and no other number changes.
 -- Invariant: the numbers that are left, written behind those that are, make all of them written.
-use borrow.Author.Rules.{rules}
-use mathlib.Core.Path.{◌≡◌, refl, sym, ◌∙◌}
+use mathlib.Core.Path.{◌≡◌}
 use Prim.Native.Nat.{◌≤◌, ◌-◌, ◌+◌}
-use native.Mathlib.Numerals.{add-one}
-use native.Mathlib.Nat.{add-zero}
-use native.Mathlib.Omega.{arith}
-use lib.ListN.{length, drop, length-set}
-use lib.Seq.{drop-cons, drop-length}
+use lib.ListN.{length, drop}
 use Rattle.wire_spec.specs.Bits.{splice}
-use Rattle.wire_spec.proofs.ListLaws.{splice-set, splice-none}
 use Rattle.capi_egress_state.proofs.numbers.put_octets.Given as goal
 
 abbrev pub invariant-loop-k : goal.invariant-loop-k

@@ -1,11 +1,9 @@
-use borrow.Author.Rules.{rules}
 use mathlib.Core.Path.{◌≡◌, refl, sym, ◌∙◌}
-use Prim.Native.Nat.{◌≤◌, ◌-◌, ◌+◌}
+use Prim.Native.Nat.{◌-◌, ◌+◌}
 use native.Mathlib.Numerals.{add-one}
 use native.Mathlib.Omega.{arith}
 use lib.ListN.{length, drop, length-set}
 use lib.Seq.{drop-cons, drop-length}
-use Rattle.wire_spec.specs.Bits.{overwrite, splice}
 use Rattle.wire_spec.proofs.ListLaws.{splice-set, splice-none}
 use Rattle.capi_egress_state.specs.Row.{max8}
 use Rattle.capi_egress_state.proofs.FitLaws.{fit_at}

@@ -1,6 +1,5 @@
 -- `is_state` tells whether each number of a row is one that its value can have.
 -- By the five tests in their order.
-use borrow.Author.Rules.{rules}
 use mathlib.Core.Bool.{◌&&◌}
 use lib.Dec.{leb}
 use lib.ListN.{get_or}

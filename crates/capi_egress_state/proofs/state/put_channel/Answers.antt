@@ -1,6 +1,5 @@
 -- `put_channel` writes the five numbers in which a row differs from a state.
 -- What they are is `change-written`; that they are in the row, its length.
-use borrow.Author.Rules.{rules}
 use native.Mathlib.Omega.{arith}
 use lib.ListN.{length-set}
 use Rattle.capi_egress_state.proofs.ChangeLaws.{change-written}

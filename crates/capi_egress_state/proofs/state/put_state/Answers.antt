@@ -2,11 +2,9 @@
 -- Part by part, each behind the one before.
 use borrow.Author.Rules.{rules}
 use mathlib.Core.Path.{◌≡◌, sym}
-use Prim.Native.Nat.{◌<◌}
 use native.Mathlib.Omega.{arith}
 use lib.ListN.{length, length-set}
 use Rattle.egress_spec.specs.Queues.{channels, slot_count}
-use Rattle.capi_egress_state.specs.Row.{next_at}
 use Rattle.capi_egress_state.proofs.RowLaws.{Sized, put_all}
 use Rattle.capi_egress_state.proofs.state.put_state.Goals as goal
 

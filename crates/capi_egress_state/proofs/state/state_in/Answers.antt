@@ -1,7 +1,6 @@
 -- `state_in` gives the state whose numbers stand in a row.
 -- A row that is a state has numbers that fit; each part is taken whole.
-use borrow.Author.Rules.{rules}
-use mathlib.Core.Path.{◌≡◌, ◌∙◌}
+use mathlib.Core.Path.{◌∙◌}
 use native.Mathlib.Omega.{arith}
 use lib.ListN.{get_or}
 use Rattle.egress_spec.specs.Queues.{channels, slot_count}

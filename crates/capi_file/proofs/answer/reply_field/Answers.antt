@@ -1,6 +1,5 @@
 -- `reply_field` gives what a field of a file says, or its refusal.
 -- By the answer.
-use borrow.Author.Rules.{rules}
 use mathlib.Core.Path.{ap, sym, ◌∙◌}
 use Rattle.fieldfile_reader.specs.declared.field.FieldRead.{FieldRead}
 use Rattle.wire_spec.specs.Bits.{overwrite}

@@ -1,6 +1,5 @@
 -- `reply_line_read` gives what was read from a line, or its refusal.
 -- By the answer.
-use borrow.Author.Rules.{rules}
 use mathlib.Core.Path.{ap, sym, ◌∙◌}
 use Rattle.sdi_spec.specs.declared.answer.ReadLine.{ReadLine}
 use Rattle.wire_spec.specs.Bits.{overwrite}

@@ -1,6 +1,5 @@
 -- `reply_line_written` gives the answer of the writer of lines.
 -- By the answer.
-use borrow.Author.Rules.{rules}
 use mathlib.Core.Path.{ap, sym, ◌∙◌}
 use Rattle.sdi_spec.specs.declared.answer.WrittenLine.{WrittenLine}
 use Rattle.wire_spec.specs.Bits.{overwrite}

@@ -1,6 +1,5 @@
 -- `jibhotran_file_write` writes a field, or gives 255.
 -- By what the library gives, where the answer is long enough.
-use borrow.Author.Rules.{rules}
 use mathlib.Core.Path.{ap, ◌∙◌}
 use borrow.Author.Tests.{le-leb, lt-leb}
 use lib.ListN.{length}

@@ -1,6 +1,5 @@
 -- `put_summary` writes what a packet says to the first numbers of a row.
 -- By what `flag` and `put` give.
-use borrow.Author.Rules.{rules}
 use Rattle.capi_packet.proofs.answer.put_summary.Goals as goal
 
 pub returns : goal.returns

@@ -1,6 +1,5 @@
 -- `reply_read` gives what a packet says, or its refusal.
 -- By the answer.
-use borrow.Author.Rules.{rules}
 use mathlib.Core.Path.{ap, sym, ◌∙◌}
 use Rattle.rtp_reader.specs.declared.packet.TolerantRead.{TolerantRead}
 use Rattle.wire_spec.specs.Bits.{overwrite}

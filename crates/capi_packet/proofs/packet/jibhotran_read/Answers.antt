@@ -1,6 +1,5 @@
 -- `jibhotran_read` reads a packet in the tolerant way, or gives 255 or 254.
 -- By what the library gives in each of its two ways, where the answer is long enough and the layout is one.
-use borrow.Author.Rules.{rules}
 use mathlib.Core.Path.{◌≡◌, ap, sym, ◌∙◌}
 use mathlib.Core.List.{List}
 use Prim.Native.Nat.{ℕ, ◌≤◌}

@@ -1,6 +1,5 @@
 -- `jibhotran_read_strict` reads a packet in the strict way, or gives 255 or 254.
 -- By what the library gives, where the answer is long enough and the layout is one.
-use borrow.Author.Rules.{rules}
 use mathlib.Core.Path.{ap, ◌∙◌}
 use borrow.Author.Tests.{le-leb, lt-leb}
 use lib.ListN.{length}

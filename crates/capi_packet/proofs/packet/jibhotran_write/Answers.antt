@@ -1,6 +1,5 @@
 -- `jibhotran_write` writes a packet, or gives 255 or 254.
 -- By what the library gives, where the answer is long enough and the layout is one.
-use borrow.Author.Rules.{rules}
 use mathlib.Core.Path.{ap, ◌∙◌}
 use borrow.Author.Tests.{le-leb, lt-leb}
 use lib.ListN.{length}

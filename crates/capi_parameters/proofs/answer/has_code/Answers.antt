@@ -1,6 +1,5 @@
 -- `has_code` gives 1 where there is a VPID code, and 0 where not.
 -- By the two cases.
-use borrow.Author.Rules.{rules}
 use mathlib.Core.Path.{ap, sym}
 use Rattle.capi_parameters.specs.Rows.{has_code}
 use Rattle.capi_parameters.proofs.answer.has_code.Goals as goal

@@ -1,6 +1,5 @@
 -- `put_parameters` writes what a text says to the first numbers of a row.
 -- By what `has_code`, `code_or_0` and `put` give.
-use borrow.Author.Rules.{rules}
 use Rattle.capi_parameters.proofs.answer.put_parameters.Goals as goal
 
 pub returns : goal.returns

@@ -1,6 +1,5 @@
 -- `reply_reading` gives what a text says, or its refusal.
 -- By the answer.
-use borrow.Author.Rules.{rules}
 use mathlib.Core.Path.{ap, sym, ◌∙◌}
 use Rattle.sdp_reader.specs.declared.Reading.{Reading}
 use Rattle.wire_spec.specs.Bits.{overwrite}

@@ -1,6 +1,5 @@
 -- `jibhotran_wanted_of` gives 1 where a record is wanted, and 0 where not.
 -- By the contracts of `wanted_of` and `flag`.
-use borrow.Author.Rules.{rules}
 use mathlib.Core.Path.{ap, ◌∙◌}
 use Rattle.wire_spec.specs.Bits.{bit}
 use Rattle.capi_parameters.proofs.parameters.jibhotran_wanted_of.Goals as goal

@@ -1,6 +1,5 @@
 -- `vpid_of` takes a number for a VPID code, or for none.
 -- By the test against the largest code.
-use borrow.Author.Rules.{rules}
 use borrow.Author.Tests.{le-leb, lt-leb}
 use Rattle.sdp_spec.specs.Text.{max_code}
 use Rattle.capi_parameters.proofs.parameters.vpid_of.Goals as goal

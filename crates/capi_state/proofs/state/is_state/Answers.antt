@@ -1,6 +1,5 @@
 -- `is_state` tests whether each number of a row is one that its value can have.
 -- By computation: the tests in their order.
-use borrow.Author.Rules.{rules}
 use mathlib.Core.Path.{refl}
 use Rattle.capi_state.specs.State.{is_state}
 use Rattle.capi_state.proofs.state.is_state.Goals as goal

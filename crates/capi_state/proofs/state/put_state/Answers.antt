@@ -1,12 +1,10 @@
 -- `put_state` writes the numbers of a state to the first of a row, which is that state again.
 -- By what `phase_number`, `flag` and `put` give, and by the types of the numbers.
-use borrow.Author.Rules.{rules}
 use mathlib.Core.Path.{◌≡◌, ap, ◌∙◌}
 use native.Mathlib.Omega.{arith}
 use lib.ListN.{drop}
 use Rattle.wire_spec.specs.Bits.{overwrite}
-use Rattle.capi_state.specs.State.{state_size}
-use Rattle.capi_state.specs.State.{numbers_of, state_in}
+use Rattle.capi_state.specs.State.{state_size, numbers_of, state_in}
 use Rattle.capi_state.proofs.StateLaws.{RowFits, phase-known, heard-known, state-again}
 use Rattle.capi_state.proofs.state.put_state.Goals as goal
 

@@ -1,10 +1,8 @@
 -- `state_in` gives the state whose numbers stand in a row, or that they are none.
 -- By `is_state`: a number that passed fits its value.
-use borrow.Author.Rules.{rules}
 use mathlib.Core.Path.{◌≡◌, sym, ◌∙◌}
 use mathlib.Core.Bool.{true}
 use native.Mathlib.Omega.{arith}
-use borrow.Author.Tests.{not-true, not-false}
 use Rattle.capi_state.specs.State.{is_state}
 use Rattle.capi_state.proofs.StateLaws.{RowFits, fitting}
 use Rattle.capi_state.proofs.state.state_in.Goals as goal

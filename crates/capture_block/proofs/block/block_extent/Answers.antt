@@ -1,9 +1,8 @@
 -- `block_extent` is the block at the front.
 -- By the tests of its length, before and behind.
-use borrow.Author.Rules.{rules}
 use mathlib.Core.Path.{sym, ◌∙◌}
 use native.Mathlib.Omega.{arith}
-use borrow.Author.Tests.{eq-eqb, ne_eqb, le-ltb, lt-ltb, leb-true, not-true, not-false}
+use borrow.Author.Tests.{eq-eqb, ne_eqb, le-ltb, lt-ltb, leb-true}
 use lib.Dec.{eqb, leb}
 use Prim.Native.Nat.{◌%◌}
 use Rattle.capture_spec.proofs.StepLaws.{and_left}

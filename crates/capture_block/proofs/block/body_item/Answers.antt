@@ -1,6 +1,5 @@
 -- `body_item` is what a whole block of a type holds.
 -- By the tests of the type, and the octets that it has at least.
-use borrow.Author.Rules.{rules}
 use mathlib.Core.Path.{ap, ◌∙◌}
 use Prim.Native.Nat.{ℕ}
 use native.Mathlib.Omega.{arith}

@@ -1,6 +1,5 @@
 -- `enhanced_item` is a packet from an interface.
 -- As it stands.
-use borrow.Author.Rules.{rules}
 use mathlib.Core.Path.{ap, ◌∙◌}
 use Prim.Native.Nat.{ℕ, ◌-◌}
 use Rattle.capture_spec.specs.Step.{packet_from}

@@ -1,6 +1,5 @@
 -- `interface_item` is an interface, where there is room for one more.
 -- By the test.
-use borrow.Author.Rules.{rules}
 use borrow.Author.Tests.{le-ltb, lt-ltb}
 use Rattle.capture_spec.specs.declared.state.Item.TheVariants as item
 use Rattle.capture_block.proofs.block.interface_item.Goals as goal

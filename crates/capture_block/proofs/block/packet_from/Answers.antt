@@ -1,6 +1,5 @@
 -- `packet_from` is a packet, where the block has its octets and the section its interface.
 -- By the tests.
-use borrow.Author.Rules.{rules}
 use borrow.Author.Tests.{le-leb, le-ltb, lt-leb, lt-ltb}
 use Rattle.capture_block.proofs.block.packet_from.Goals as goal
 

@@ -1,6 +1,5 @@
 -- `record_extent` is the record at the front.
 -- By the tests of its length.
-use borrow.Author.Rules.{rules}
 use borrow.Author.Tests.{le-ltb, lt-ltb}
 use Rattle.capture_block.proofs.block.record_extent.Goals as goal
 

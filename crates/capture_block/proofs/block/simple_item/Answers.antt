@@ -1,6 +1,5 @@
 -- `simple_item` is a packet from the first interface.
 -- As it stands.
-use borrow.Author.Rules.{rules}
 use mathlib.Core.Path.{ap, ◌∙◌}
 use Prim.Native.Nat.{ℕ, ◌-◌}
 use Rattle.capture_spec.specs.Step.{packet_from, simple_size}

@@ -1,6 +1,5 @@
 -- `half_at` is the number of two octets.
 -- In either order.
-use borrow.Author.Rules.{rules}
 use Rattle.capture_spec.specs.Numbers.{half_at}
 use Rattle.capture_block.proofs.number.half_at.Goals as goal
 

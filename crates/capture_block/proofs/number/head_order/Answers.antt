@@ -1,6 +1,5 @@
 -- `head_order` is the order of pcap's magic number.
 -- By the number in both.
-use borrow.Author.Rules.{rules}
 use mathlib.Core.Path.{ap, ◌∙◌}
 use Rattle.capture_spec.specs.Numbers.{is_magic, ordering}
 use Rattle.capture_block.proofs.number.head_order.Goals as goal

@@ -1,6 +1,5 @@
 -- `order_by` is the order in which a number is a magic one.
 -- By both tests.
-use borrow.Author.Rules.{rules}
 use Rattle.capture_block.proofs.number.order_by.Goals as goal
 
 pub returns-then-big : goal.returns-then-big

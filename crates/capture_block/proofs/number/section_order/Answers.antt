@@ -1,6 +1,5 @@
 -- `section_order` is the order of a section's magic number.
 -- By the number in both.
-use borrow.Author.Rules.{rules}
 use mathlib.Core.Path.{◌∙◌}
 use lib.Dec.{eqb}
 use Rattle.capture_spec.specs.Numbers.{order_magic, ordering}

@@ -1,6 +1,5 @@
 -- `word_at` is the number of four octets.
 -- In either order.
-use borrow.Author.Rules.{rules}
 use Rattle.capture_spec.specs.Numbers.{word_at}
 use Rattle.capture_block.proofs.number.word_at.Goals as goal
 

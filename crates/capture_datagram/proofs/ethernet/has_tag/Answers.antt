@@ -1,6 +1,5 @@
 -- `has_tag` tells whether a whole tag stands there.
 -- By the definition.
-use borrow.Author.Rules.{rules}
 use native.Mathlib.Omega.{arith}
 use Rattle.capture_datagram.specs.Link.{has_tag}
 use Rattle.capture_datagram.proofs.FieldLaws.{passed, failed, held}

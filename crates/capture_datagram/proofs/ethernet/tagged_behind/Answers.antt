@@ -1,6 +1,5 @@
 -- `tagged_behind` tells what stands behind the octets before the tags.
 -- By the definition.
-use borrow.Author.Rules.{rules}
 use borrow.Author.Tests.{le-leb, lt-leb}
 use Rattle.capture_datagram.proofs.ethernet.tagged_behind.Goals as goal
 

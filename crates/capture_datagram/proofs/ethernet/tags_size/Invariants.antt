@@ -1,14 +1,9 @@
 -- `tags_size` is the octets of the tags.
 -- Invariant: what was counted, with the tags from there on, is all of them.
-use mathlib.Core.Path.{◌≡◌, ap, sym, ◌∙◌}
-use mathlib.Core.Bool.{true}
-use mathlib.Core.List.{List}
-use Prim.Native.Nat.{ℕ, ◌+◌, ◌-◌, ◌≤◌}
-use native.Mathlib.Omega.{arith}
-use lib.ListN.{length, drop, length-drop}
-use lib.Seq.{drop-drop}
-use Rattle.capture_datagram.specs.Link.{has_tag, tag_octets}
-use Rattle.capture_datagram.proofs.LinkLaws.{tag-inside, tag-next, tag-none}
+use mathlib.Core.Path.{◌≡◌}
+use Prim.Native.Nat.{◌+◌, ◌-◌, ◌≤◌}
+use lib.ListN.{length, drop}
+use Rattle.capture_datagram.specs.Link.{tag_octets}
 use Rattle.capture_datagram.proofs.ethernet.tags_size.Given as goal
 
 abbrev pub invariant-loop-size : goal.invariant-loop-size

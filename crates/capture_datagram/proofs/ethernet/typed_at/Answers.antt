@@ -1,6 +1,5 @@
 -- `typed_at` tells what the packet of an EtherType is.
 -- By the definition.
-use borrow.Author.Rules.{rules}
 use borrow.Author.Tests.{eq-eqb, ne_eqb}
 use Rattle.capture_datagram.proofs.ethernet.typed_at.Goals as goal
 

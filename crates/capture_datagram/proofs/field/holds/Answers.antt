@@ -1,6 +1,5 @@
 -- `holds` tells whether so many octets were captured.
 -- By the length of what is left behind `at`.
-use borrow.Author.Rules.{rules}
 use lib.ListN.{length-drop}
 use Rattle.capture_datagram.proofs.field.holds.Goals as goal
 

@@ -1,6 +1,5 @@
 -- `number` is two octets of the header at `at`.
 -- By the law of an element behind a drop, for each.
-use borrow.Author.Rules.{rules}
 use mathlib.Core.Path.{sym, ◌∙◌}
 use Rattle.capture_datagram.proofs.FieldLaws.{pair-drop}
 use Rattle.capture_datagram.proofs.field.number.Goals as goal

@@ -1,6 +1,5 @@
 -- `octet` is an octet of the header at `at`.
 -- By the law of an element behind a drop.
-use borrow.Author.Rules.{rules}
 use lib.Seq.{get_or-drop}
 use Rattle.capture_datagram.proofs.field.octet.Goals as goal
 

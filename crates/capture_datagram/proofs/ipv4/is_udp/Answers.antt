@@ -1,6 +1,5 @@
 -- `is_udp` tells whether an IPv4 header is right, and of UDP.
 -- By the definition.
-use borrow.Author.Rules.{rules}
 use Rattle.capture_datagram.specs.Ip.{is_ipv4_udp}
 use Rattle.capture_datagram.proofs.ipv4.is_udp.Goals as goal
 

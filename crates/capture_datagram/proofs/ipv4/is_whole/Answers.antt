@@ -1,6 +1,5 @@
 -- `is_whole` tells whether a packet is no fragment.
 -- By the definition.
-use borrow.Author.Rules.{rules}
 use Rattle.capture_datagram.specs.Ip.{is_ipv4_whole}
 use Rattle.capture_datagram.proofs.ipv4.is_whole.Goals as goal
 

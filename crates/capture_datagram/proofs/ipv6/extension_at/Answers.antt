@@ -1,6 +1,5 @@
 -- `extension_at` tells what an extension header is.
 -- Each return knows the tests before it, in the order of the definition.
-use borrow.Author.Rules.{rules}
 use mathlib.Core.Path.{◌≡◌, ap}
 use mathlib.Core.Bool.{true, ◌&&◌, not}
 use mathlib.Core.List.{List}

@@ -1,6 +1,5 @@
 -- `extension_size` is the octets of an extension header.
 -- By the definition; its second octet is below 256.
-use borrow.Author.Rules.{rules}
 use Prim.Native.Nat.{◌+◌, ◌<◌}
 use native.Mathlib.Omega.{arith}
 use borrow.Author.Tests.{eq-eqb, ne_eqb}

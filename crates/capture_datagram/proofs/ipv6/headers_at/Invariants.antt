@@ -1,16 +1,10 @@
 -- `headers_at` walks over the extension headers to UDP's.
 -- Invariant: what the headers from here on say is what all of them say.
-use borrow.Author.Rules.{rules}
-use mathlib.Core.Path.{◌≡◌, refl, ap, sym, ◌∙◌}
-use mathlib.Core.Bool.{true}
-use Prim.Native.Nat.{ℕ, ◌+◌, ◌-◌, ◌≤◌}
-use native.Mathlib.Omega.{arith}
-use lib.ListN.{length, drop, length-drop}
-use Rattle.capture_datagram.specs.declared.answer.Extension.TheVariants as extension
+use mathlib.Core.Path.{◌≡◌}
+use Prim.Native.Nat.{◌-◌, ◌≤◌}
+use lib.ListN.{length, drop}
 use Rattle.capture_datagram.specs.Answer.{beyond}
-use Rattle.capture_datagram.specs.Ip.{is_extension, extension_in, headers}
-use Rattle.capture_datagram.proofs.FieldLaws.{beyond-at}
-use Rattle.capture_datagram.proofs.IpLaws.{Whole, whole-extension, ends_nowhere, headers-udp, headers-end, headers-next}
+use Rattle.capture_datagram.specs.Ip.{headers}
 use Rattle.capture_datagram.proofs.ipv6.headers_at.Given as goal
 
 abbrev pub invariant-loop-header : goal.invariant-loop-header

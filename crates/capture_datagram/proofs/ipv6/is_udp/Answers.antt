@@ -1,6 +1,5 @@
 -- `is_udp` tells whether an IPv6 header is right, and leads to UDP.
 -- By the definition.
-use borrow.Author.Rules.{rules}
 use Rattle.capture_datagram.specs.Ip.{is_ipv6_udp}
 use Rattle.capture_datagram.proofs.ipv6.is_udp.Goals as goal
 

@@ -1,6 +1,5 @@
 -- `is_whole` tells whether an extension header is not that of a part of a datagram.
 -- By the definition.
-use borrow.Author.Rules.{rules}
 use borrow.Author.Tests.{eq-eqb, ne_eqb}
 use Rattle.capture_datagram.specs.Ip.{is_ipv6_whole}
 use Rattle.capture_datagram.proofs.ipv6.is_whole.Goals as goal

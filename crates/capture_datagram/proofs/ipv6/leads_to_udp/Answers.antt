@@ -1,6 +1,5 @@
 -- `leads_to_udp` tells whether a header is UDP's or may stand before it.
 -- By the definition.
-use borrow.Author.Rules.{rules}
 use Rattle.capture_datagram.specs.Ip.{leads_to_udp}
 use Rattle.capture_datagram.proofs.ipv6.leads_to_udp.Goals as goal
 

@@ -1,6 +1,5 @@
 -- `is_link_taken` tells whether the packets of a link type are looked into.
 -- By the definition.
-use borrow.Author.Rules.{rules}
 use mathlib.Core.Path.{◌≡◌, ap, sym, ◌∙◌}
 use Rattle.capture_datagram.specs.declared.link.Link.{Link}
 use Rattle.capture_datagram.specs.Link.{is_taken, is_link_taken}

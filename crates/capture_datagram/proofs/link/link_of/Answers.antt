@@ -1,7 +1,7 @@
 -- `link_of` tells a link type.
 -- By the definition, whose tests the arms make one after the other.
 use mathlib.Core.Path.{ap, sym}
-use mathlib.Core.Logic.{⊎_elim, inl, inr}
+use mathlib.Core.Logic.{⊎_elim}
 use borrow.Author.Tests.{ne_eqb}
 use native.Mathlib.Omega.{arith}
 use Rattle.capture_datagram.specs.Link.{link_of}
@@ -34,11 +34,11 @@ returns-in-229 c = sym (ap link_of c.in-229.is)
 pub returns-in_default : goal.returns-in_default
 unfolding link_of
 returns-in_default c = rw (
-      ne_eqb c.args.number 1 (omega arith),
-      ne_eqb c.args.number 113 (omega arith),
-      ne_eqb c.args.number 276 (omega arith),
-      ne_eqb c.args.number 12 (grind arith),
-      ne_eqb c.args.number 101 (grind arith),
-      ne_eqb c.args.number 228 (omega arith),
-      ne_eqb c.args.number 229 (omega arith),
-    )
+  ne_eqb c.args.number 1 (omega arith),
+  ne_eqb c.args.number 113 (omega arith),
+  ne_eqb c.args.number 276 (omega arith),
+  ne_eqb c.args.number 12 (grind arith),
+  ne_eqb c.args.number 101 (grind arith),
+  ne_eqb c.args.number 228 (omega arith),
+  ne_eqb c.args.number 229 (omega arith),
+)

@@ -1,6 +1,5 @@
 -- `is_for_port` tells whether a datagram is to the port, with a right length.
 -- By the definition.
-use borrow.Author.Rules.{rules}
 use Rattle.capture_datagram.specs.Udp.{is_for_port}
 use Rattle.capture_datagram.proofs.udp.is_for_port.Goals as goal
 

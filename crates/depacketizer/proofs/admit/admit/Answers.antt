@@ -1,7 +1,7 @@
 -- `admit` lets a packet pass, or gives 35, 1 to 13, 30 or 31.
 -- By the stages, in their order.
-use Rattle.std.proofs.Common.{◌≡◌, Bool, [], ◌∷◌, sym, ap, ◌∙◌, rules}
-use Rattle.depacketizer_spec.specs.Step.{opened_checks, sound}
+use Rattle.std.proofs.Common.{◌≡◌, Bool, [], ◌∷◌, sym, ap, ◌∙◌}
+use Rattle.depacketizer_spec.specs.Step.{sound}
 use Rattle.depacketizer.specs.Answers.{admitted, from_opened, passing, stage_of, stage_refusal}
 use Rattle.depacketizer.specs.declared.admit.Stage.{Stage}
 use Rattle.depacketizer.specs.declared.admit.Stage.TheVariants as stage

@@ -1,6 +1,5 @@
 -- `check_opened` tests a packet for 30, then 31.
 -- By the stage that each test gives.
-use Rattle.std.proofs.Common.{rules}
 use Rattle.depacketizer.proofs.AdmitLaws.{stage-first}
 use Rattle.depacketizer.proofs.admit.check_opened.Goals as goal
 

@@ -1,6 +1,6 @@
 -- `is_sound` tests a state for 35.
 -- By the phase.
-use Rattle.std.proofs.Common.{◌&&◌, eqb, rules}
+use Rattle.std.proofs.Common.{◌&&◌, eqb}
 use mathlib.Core.Bool.{and-true, or-true, or-false}
 use Rattle.depacketizer.proofs.admit.is_sound.Goals as goal
 

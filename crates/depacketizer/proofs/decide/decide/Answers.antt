@@ -1,6 +1,5 @@
 -- `decide` decides what a fresh packet does.
 -- By whether it follows the last fresh one.
-use Rattle.std.proofs.Common.{rules}
 use Rattle.depacketizer.proofs.decide.decide.Goals as goal
 
 pub returns-then-next : goal.returns-then-next

@@ -1,6 +1,5 @@
 -- `follow` decides what a packet that follows the last fresh one does.
 -- By what is gathered.
-use Rattle.std.proofs.Common.{rules}
 use Rattle.depacketizer.proofs.decide.follow.Goals as goal
 
 pub returns-in-Lost : goal.returns-in-Lost

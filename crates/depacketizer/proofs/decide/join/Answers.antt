@@ -1,7 +1,6 @@
 -- `join` decides what a packet that joins does.
 -- By the limits; a packet over them by itself is over them with what is gathered.
-use Rattle.std.proofs.Common.{◌≡◌, ◌+◌, ◌<◌, false, sym, ◌∙◌, arith, rules}
-use borrow.Author.Tests.{not-true, not-false}
+use Rattle.std.proofs.Common.{◌≡◌, ◌+◌, ◌<◌, false, sym, ◌∙◌, arith}
 use Rattle.wire_spec.specs.Writing.{max_field_cells}
 use Rattle.depacketizer_spec.specs.Step.{fits}
 use Rattle.depacketizer.proofs.DecideLaws.{over-cells}

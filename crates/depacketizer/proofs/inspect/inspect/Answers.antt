@@ -1,6 +1,6 @@
 -- `inspect` gives what the octets say, with its outline and its summary, or the refusal.
 -- By what was checked.
-use Rattle.std.proofs.Common.{◌≡◌, sym, ap, ◌∙◌, rules}
+use Rattle.std.proofs.Common.{sym, ap, ◌∙◌}
 use Rattle.wire_spec.specs.Packet.{read_content}
 use Rattle.rtp_strict_reader.specs.Answers.{checked_refusal}
 use Rattle.rtp_strict_reader.proofs.ReadLaws.{Found, found, refused-is, summary-is}

@@ -1,6 +1,5 @@
 -- `after` gives the state after a fresh packet.
 -- By the contract of `increased`.
-use Rattle.std.proofs.Common.{rules}
 use Rattle.depacketizer.proofs.state.after.Goals as goal
 
 pub returns : goal.returns

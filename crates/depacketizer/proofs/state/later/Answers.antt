@@ -1,6 +1,5 @@
 -- `later` counts one late arrival.
 -- By the contract of `increased`.
-use Rattle.std.proofs.Common.{rules}
 use Rattle.depacketizer.proofs.state.later.Goals as goal
 
 pub returns : goal.returns

@@ -1,10 +1,9 @@
 -- `refuse` gives 32 and counts a late packet, or gives 36 and remembers the number after a far one's.
 -- By the variant that each arm is told.
-use Rattle.std.proofs.Common.{◌≡◌, sym, ap, ◌∙◌, rules}
+use Rattle.std.proofs.Common.{sym, ap, ◌∙◌}
 use Rattle.depacketizer_spec.specs.declared.state.State.{State}
 use Rattle.depacketizer_spec.specs.declared.state.Answer.TheVariants as answer
 use Rattle.depacketizer_sequence.specs.declared.place.Freshness.{Freshness}
-use Rattle.depacketizer.specs.declared.state.Arrival.{Arrival}
 use Rattle.depacketizer.specs.Answers.{refused_of}
 use Rattle.depacketizer.proofs.state.refuse.Goals as goal
 

@@ -1,6 +1,5 @@
 -- `remembering` remembers the number after this one.
 -- By the contract of `wrapping_add_u32`.
-use Rattle.std.proofs.Common.{rules}
 use Rattle.depacketizer.proofs.state.remembering.Goals as goal
 
 pub returns : goal.returns

@@ -1,6 +1,6 @@
 -- `distance` is the wrapped difference, read as a signed number.
 -- By the two halves of its range.
-use Rattle.std.proofs.Common.{sym, ◌∙◌, arith, rules, ltb-false, ltb-true}
+use Rattle.std.proofs.Common.{sym, ◌∙◌, arith, ltb-false, ltb-true}
 use Rattle.depacketizer_sequence.proofs.SignedLaws.{less-fits, less-cast, less-signed, signed-small, distance-of}
 use Rattle.depacketizer_sequence.proofs.distance.distance.Goals as goal
 

@@ -1,6 +1,6 @@
 -- `far_or_restart` restarts where the number is the remembered one.
 -- By the test.
-use Rattle.std.proofs.Common.{Bool, false, sym, ap, ◌∙◌, rules}
+use Rattle.std.proofs.Common.{Bool, false, sym, ap, ◌∙◌}
 use Rattle.depacketizer_spec.specs.declared.state.State.{State}
 use Rattle.depacketizer_sequence.specs.declared.place.Freshness.TheVariants as freshness
 use Rattle.depacketizer_sequence.specs.Answers.{far_of}

@@ -1,6 +1,6 @@
 -- `place` tells where a packet stands, from the class of its distance.
 -- By the class that each arm is told.
-use Rattle.std.proofs.Common.{◌≡◌, ℤ, sym, ap, ◌∙◌, to_z-of_z, w32, rules}
+use Rattle.std.proofs.Common.{◌≡◌, ℤ, sym, ap, ◌∙◌, to_z-of_z, w32}
 use borrow.Author.Tests.{not-true, not-false}
 use Rattle.depacketizer_spec.specs.Step.{classify}
 use Rattle.depacketizer_sequence.specs.declared.distance.Class.{Class as Told}

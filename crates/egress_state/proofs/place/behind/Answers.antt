@@ -1,5 +1,4 @@
 -- `behind` is the next channel in the circle.
-use borrow.Author.Rules.{rules}
 use native.Mathlib.Omega.{arith}
 use borrow.Author.Tests.{lt-ltb, le-ltb}
 use Rattle.egress_state.proofs.place.behind.Goals as goal

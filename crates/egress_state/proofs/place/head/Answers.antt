@@ -1,5 +1,4 @@
 -- `head` tells where a channel's head stands.
-use borrow.Author.Rules.{rules}
 use mathlib.Core.Path.{refl}
 use Rattle.egress_state.proofs.place.head.Goals as goal
 

@@ -1,5 +1,4 @@
 -- `kept` puts a packet behind a channel's last.
-use borrow.Author.Rules.{rules}
 use mathlib.Core.Path.{refl}
 use Rattle.egress_state.proofs.place.kept.Goals as goal
 

@@ -1,7 +1,4 @@
 -- `left` takes the head off a channel's queue.
-use borrow.Author.Rules.{rules}
-use mathlib.Core.Path.{◌≡◌, refl, sym, ◌∙◌, ap}
-use native.Mathlib.Omega.{arith}
 use Rattle.egress_state.proofs.place.left.Goals as goal
 
 pub returns : goal.returns

@@ -1,14 +1,7 @@
 -- `turn` finds the channel whose turn it is.
 -- Invariant: from `c` on, `n` channels find what all eight find from `next` on.
-use borrow.Author.Rules.{rules}
-use mathlib.Core.Path.{◌≡◌, refl, sym, ◌∙◌, ap}
-use mathlib.Core.Bool.{cond}
-use mathlib.Core.List.{List}
-use Prim.Native.Nat.{ℕ, zero, suc, ◌≤◌, ◌-◌, ◌+◌, ◌<◌}
-use native.Mathlib.Omega.{arith}
-use lib.ListN.{get_or}
-use borrow.Author.Tests.{lt-ltb, le-ltb}
-use Rattle.egress_spec.specs.Queues.{behind}
+use mathlib.Core.Path.{◌≡◌}
+use Prim.Native.Nat.{◌≤◌, ◌-◌, ◌<◌}
 use Rattle.egress_spec.specs.Step.{turn_of}
 use Rattle.egress_state.proofs.place.turn.Given as goal
 

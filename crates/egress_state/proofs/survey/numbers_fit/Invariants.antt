@@ -1,14 +1,9 @@
 -- `numbers_fit` tells whether the heads, the counts, the next channel and the slots are in range.
 -- Invariant: those of the channels passed are.
-use borrow.Author.Rules.{rules}
-use mathlib.Core.Path.{◌≡◌, refl, sym, ◌∙◌, ap}
-use mathlib.Core.Bool.{Bool, true, false, not, ◌&&◌}
-use Prim.Native.Nat.{ℕ, ◌≤◌, ◌-◌, ◌+◌, ◌<◌}
-use native.Mathlib.Omega.{arith}
-use lib.Dec.{ltb}
-use borrow.Author.Tests.{lt-ltb, le-ltb, not-true, not-false}
-use Rattle.egress_spec.specs.Places.{all_upto, channel_ok, numbers_ok}
-use Rattle.egress_spec.proofs.Upto.{upto-fails, upto-more, upto-none}
+use mathlib.Core.Path.{◌≡◌}
+use mathlib.Core.Bool.{true}
+use Prim.Native.Nat.{◌≤◌, ◌-◌}
+use Rattle.egress_spec.specs.Places.{all_upto, channel_ok}
 use Rattle.egress_state.proofs.survey.numbers_fit.Given as goal
 
 abbrev pub invariant-loop-c : goal.invariant-loop-c

@@ -1,14 +1,9 @@
 -- `slots_fit` tells whether every slot's number is in range.
 -- Invariant: those of the places passed are.
-use borrow.Author.Rules.{rules}
-use mathlib.Core.Path.{◌≡◌, refl, sym, ◌∙◌, ap}
-use mathlib.Core.Bool.{Bool, true, false, not, ◌&&◌}
-use Prim.Native.Nat.{ℕ, ◌≤◌, ◌-◌, ◌+◌, ◌<◌}
-use native.Mathlib.Omega.{arith}
-use lib.Dec.{ltb}
-use borrow.Author.Tests.{not-true, not-false}
+use mathlib.Core.Path.{◌≡◌}
+use mathlib.Core.Bool.{true}
+use Prim.Native.Nat.{◌≤◌, ◌-◌}
 use Rattle.egress_spec.specs.Places.{all_upto, slot_ok}
-use Rattle.egress_spec.proofs.Upto.{upto-fails, upto-more, upto-none}
 use Rattle.egress_state.proofs.survey.slots_fit.Given as goal
 
 abbrev pub invariant-loop-k : goal.invariant-loop-k

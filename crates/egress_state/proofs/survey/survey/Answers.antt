@@ -1,15 +1,10 @@
-use borrow.Author.Rules.{rules}
-use mathlib.Core.Path.{◌≡◌, refl, sym, ◌∙◌, ap, subst}
-use mathlib.Core.Bool.{Bool, true, false, not, ◌&&◌}
-use mathlib.Core.Logic.{⊎_elim}
-use Prim.Native.Nat.{ℕ, ◌≤◌, ◌-◌, ◌+◌, ◌*◌, ◌<◌}
+use mathlib.Core.Path.{◌≡◌, refl, sym, ◌∙◌, subst}
+use mathlib.Core.Bool.{true, false}
+use Prim.Native.Nat.{ℕ, ◌-◌, ◌+◌, ◌*◌, ◌<◌}
 use native.Mathlib.Omega.{arith}
 use lib.ListN.{set}
-use borrow.Author.Tests.{not-true, not-false}
 use Rattle.egress_spec.specs.Places.{held, slot_at}
-use Rattle.egress_state.proofs.SurveyLaws.{Fit, Passed, fits_below, held_of, mark-at, no-marks}
-use Rattle.egress_state.proofs.SurveyLaws.{passed-free, passed-held, passes, twice, unfit}
-use Rattle.egress_state.proofs.SurveyLaws.{refuses-memory, refuses-numbers, refuses-place}
+use Rattle.egress_state.proofs.SurveyLaws.{Fit, Passed, fits_below, held_of, mark-at, no-marks, passed-free, passed-held, passes, twice, unfit, refuses-memory, refuses-numbers, refuses-place}
 use Rattle.egress_spec.proofs.PlaceLaws.{head-fits, slot-fits}
 use Rattle.egress_spec.proofs.Upto.{upto-none}
 use Rattle.egress_state.proofs.survey.survey.Goals as goal

@@ -1,19 +1,7 @@
 -- `survey` tells whether a state is sound, and then which slots are used.
 -- Invariant: the places passed are sound, and their slots are the marks.
-use borrow.Author.Rules.{rules}
-use mathlib.Core.Path.{◌≡◌, refl, sym, ◌∙◌, ap, subst}
-use mathlib.Core.Bool.{Bool, true, false, not, ◌&&◌}
-use mathlib.Core.Logic.{⊎_elim}
-use Prim.Native.Nat.{ℕ, ◌≤◌, ◌-◌, ◌+◌, ◌*◌, ◌<◌}
-use native.Mathlib.Omega.{arith}
-use lib.ListN.{set}
-use borrow.Author.Tests.{not-true, not-false}
-use Rattle.egress_spec.specs.Places.{held, slot_at}
-use Rattle.egress_state.proofs.SurveyLaws.{Fit, Passed, fits_below, held_of, mark-at, no-marks}
-use Rattle.egress_state.proofs.SurveyLaws.{passed-free, passed-held, passes, twice, unfit}
-use Rattle.egress_state.proofs.SurveyLaws.{refuses-memory, refuses-numbers, refuses-place}
-use Rattle.egress_spec.proofs.PlaceLaws.{head-fits, slot-fits}
-use Rattle.egress_spec.proofs.Upto.{upto-none}
+use Prim.Native.Nat.{◌≤◌, ◌-◌, ◌+◌, ◌*◌, ◌<◌}
+use Rattle.egress_state.proofs.SurveyLaws.{Passed}
 use Rattle.egress_state.proofs.survey.survey.Given as goal
 
 abbrev pub invariant-loop-i : goal.invariant-loop-i

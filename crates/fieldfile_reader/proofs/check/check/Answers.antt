@@ -1,10 +1,9 @@
 -- `check` tells what the field at an offset says, and the offset after it, or gives the refusal.
 -- Stage by stage; the octets from the offset on are what is left of the file.
-use borrow.Author.Rules.{rules}
 use mathlib.Core.Path.{◌≡◌, ap, sym, subst, ◌∙◌}
 use mathlib.Core.List.{List}
 use Prim.Native.Nat.{ℕ, ◌+◌, ◌≤◌}
-use lib.ListN.{length, drop}
+use lib.ListN.{length}
 use Rattle.wire_spec.specs.Result.{◌then◌, accepted}
 use Rattle.wire_spec.proofs.ListLaws.{part-all}
 use Rattle.wire_spec.proofs.ResultLaws.{Passed}

@@ -1,8 +1,7 @@
 -- `check_file` gives 50 or 51, or passes.
 -- Each return knows the tests before it, in the order of the definition.
-use borrow.Author.Rules.{rules}
 use mathlib.Core.Path.{ap, sym, ◌∙◌}
-use borrow.Author.Tests.{le-leb, lt-leb, not-true, not-false}
+use borrow.Author.Tests.{le-leb, lt-leb}
 use lib.ListN.{length}
 use Rattle.fieldfile_spec.specs.File.{name_size, file_head_size, is_version, file_checks}
 use Rattle.fieldfile_reader.proofs.stages.check_file.Goals as goal

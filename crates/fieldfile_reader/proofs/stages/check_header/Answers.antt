@@ -1,14 +1,13 @@
 -- `check_header` gives 52 or 53, or passes.
 -- Each return knows the tests before it, in the order of the definition.
-use borrow.Author.Rules.{rules}
-use mathlib.Core.Path.{◌≡◌, ap, sym, subst, ◌∙◌}
+use mathlib.Core.Path.{ap, sym, subst, ◌∙◌}
 use mathlib.Core.Bool.{true}
 use Prim.Native.Nat.{ℕ, ◌<◌, ◌≤◌}
 use native.Mathlib.Omega.{arith}
-use borrow.Author.Tests.{le-leb, lt-leb, not-true, not-false}
+use borrow.Author.Tests.{le-leb, lt-leb}
 use lib.ListN.{length}
 use Rattle.wire_offsets.specs.declared.stage.Stage.TheVariants as stage
-use Rattle.fieldfile_spec.specs.File.{field_header_size, file_f_ok, file_f_field, field_header_checks}
+use Rattle.fieldfile_spec.specs.File.{field_header_size, file_f_ok, field_header_checks}
 use Rattle.fieldfile_spec.proofs.FrontLaws.{header-least}
 use Rattle.fieldfile_reader.proofs.HeadFields.{f-at}
 use Rattle.fieldfile_reader.proofs.stages.check_header.Goals as goal

@@ -1,8 +1,7 @@
 -- `check_offset` gives 55 or 54, or passes.
 -- Each return knows the tests before it, in the order of the definition.
-use borrow.Author.Rules.{rules}
 use mathlib.Core.Path.{sym, ◌∙◌}
-use borrow.Author.Tests.{eq-eqb, ne_eqb, not-true, not-false}
+use borrow.Author.Tests.{eq-eqb, ne_eqb}
 use lib.ListN.{length}
 use Rattle.fieldfile_spec.specs.File.{offset_checks}
 use Rattle.fieldfile_reader.proofs.stages.check_offset.Goals as goal

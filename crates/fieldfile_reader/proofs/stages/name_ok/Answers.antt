@@ -1,6 +1,5 @@
 -- `name_ok` tells whether the file starts with `ANF`.
 -- By the number that its first three octets write.
-use borrow.Author.Rules.{rules}
 use mathlib.Core.Path.{ap}
 use Prim.Native.Nat.{ℕ}
 use native.Mathlib.Omega.{arith}

@@ -1,8 +1,7 @@
 -- `count_at` is the count that a field's header says.
 -- By the version: the number of one octet, or of two.
-use borrow.Author.Rules.{rules}
-use mathlib.Core.Path.{◌≡◌, ap, sym, subst, ◌∙◌}
-use Prim.Native.Nat.{ℕ, ◌≤◌}
+use mathlib.Core.Path.{subst}
+use Prim.Native.Nat.{◌≤◌}
 use native.Mathlib.Omega.{arith}
 use lib.ListN.{length}
 use Rattle.fieldfile_spec.specs.declared.format.Version.{Version}

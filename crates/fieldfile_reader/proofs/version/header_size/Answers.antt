@@ -1,6 +1,5 @@
 -- `header_size` is the octets of a field's header.
 -- By the version.
-use borrow.Author.Rules.{rules}
 use Rattle.fieldfile_reader.proofs.version.header_size.Goals as goal
 
 pub returns-in-One : goal.returns-in-One

@@ -1,6 +1,5 @@
 -- `version_at` is the version that the file's head says.
 -- By the test of its number.
-use borrow.Author.Rules.{rules}
 use mathlib.Core.Path.{ap, sym, ◌∙◌}
 use Prim.Native.Nat.{ℕ}
 use borrow.Author.Tests.{eq-eqb, ne_eqb}

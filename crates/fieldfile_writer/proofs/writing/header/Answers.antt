@@ -1,6 +1,5 @@
 -- `header` is the packed header of a field.
 -- By the law of those seven octets.
-use borrow.Author.Rules.{rules}
 use native.Mathlib.Omega.{arith}
 use Rattle.fieldfile_writer.proofs.HeadOctets.{header-packed}
 use Rattle.fieldfile_writer.proofs.writing.header.Goals as goal

@@ -1,9 +1,7 @@
 -- `measure` gives 53, 20, 16, 21 or 23, or the records and octets of a field that fits.
 -- Each return knows the checks before it, in the order of the definition.
-use borrow.Author.Rules.{rules}
 use mathlib.Core.Path.{◌≡◌, ap, sym, ◌∙◌}
 use mathlib.Core.Bool.{true}
-use borrow.Author.Tests.{not-true, not-false}
 use Rattle.wire_spec.specs.Cells.{read_list}
 use Rattle.fieldfile_spec.specs.File.{file_f_ok}
 use Rattle.wire_spec.specs.Layout.{rfc8331}

@@ -1,6 +1,5 @@
 -- `write_header` writes the packed header to the first octets, and no other octet.
 -- By what `header` and `copy` give.
-use borrow.Author.Rules.{rules}
 use mathlib.Core.Path.{ap, ◌∙◌}
 use mathlib.Core.List.{List}
 use Prim.Native.Nat.{ℕ}

@@ -1,6 +1,5 @@
 -- `begin` puts the first line where there is room.
 -- By the test.
-use borrow.Author.Rules.{rules}
 use borrow.Author.Tests.{lt-leb, le-leb}
 use native.Mathlib.Omega.{arith}
 use mathlib.Core.Path.{refl, ap}

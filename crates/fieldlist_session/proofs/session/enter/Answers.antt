@@ -1,6 +1,5 @@
 -- `enter` gives the depacketizer that a packet arrives at.
 -- By the session.
-use borrow.Author.Rules.{rules}
 use mathlib.Core.Path.{ap, sym}
 use Rattle.fieldlist_session.specs.declared.session.Session.{Session}
 use Rattle.fieldlist_session.specs.Answers.{entered_by}

@@ -1,6 +1,5 @@
 -- `finish` puts the last lines where there is room.
 -- By the test; `cut` and the counts are pieces one behind the other.
-use borrow.Author.Rules.{rules}
 use borrow.Author.Tests.{lt-leb, le-leb}
 use mathlib.Core.Path.{refl, ap, ◌∙◌}
 use native.Mathlib.Nat.{zero-add}

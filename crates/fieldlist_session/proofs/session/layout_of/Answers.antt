@@ -1,6 +1,5 @@
 -- `layout_of` is the layout of a session.
 -- By the session.
-use borrow.Author.Rules.{rules}
 use Rattle.fieldlist_session.proofs.session.layout_of.Goals as goal
 
 pub returns-in-Waiting : goal.returns-in-Waiting

@@ -1,6 +1,5 @@
 -- `list_frame` lists the frame at the front, where there is room and a whole frame.
 -- By the room, and by what stands at the front, as for any program over frames (`program_spec` `FrameLaws`).
-use borrow.Author.Rules.{rules}
 use borrow.Author.Tests.{not-true, not-false, leb-true}
 use mathlib.Core.Path.{◌≡◌, ap, sym, ◌∙◌}
 use Prim.Native.Nat.{ℕ, ◌+◌, ◌*◌, ◌-◌}

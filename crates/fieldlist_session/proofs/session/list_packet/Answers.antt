@@ -1,11 +1,9 @@
 -- `list_packet` gives what one packet does: the session, the store and the text.
 -- By whether a depacketizer is open, or opened by the packet.
-use borrow.Author.Rules.{rules}
 use mathlib.Core.Path.{◌≡◌, ap, sym, ◌∙◌}
 use Rattle.wire_spec.specs.Layout.{Layout}
 use Rattle.wire_spec.specs.Packet.{read_content}
 use Rattle.depacketizer_spec.specs.Step.{step}
-use Rattle.depacketizer.specs.declared.state.Arrival.{Arrival}
 use Rattle.depacketizer.specs.Answers.{arrival_of}
 use Rattle.text.proofs.PutLaws.{same}
 use Rattle.fieldlist_session.specs.declared.session.Session.TheVariants as session

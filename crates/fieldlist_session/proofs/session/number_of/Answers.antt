@@ -1,6 +1,5 @@
 -- `number_of` gives the number of a packet that was inspected, for its line.
 -- By what was inspected.
-use borrow.Author.Rules.{rules}
 use mathlib.Core.Path.{ap, sym}
 use Rattle.fieldlist_session.specs.Answers.{number_in}
 use Rattle.fieldlist_session.proofs.session.number_of.Goals as goal

@@ -1,6 +1,5 @@
 -- `opening` opens the depacketizer for a packet that passes.
 -- By what was inspected.
-use borrow.Author.Rules.{rules}
 use mathlib.Core.Path.{ap, sym, ◌∙◌}
 use Rattle.fieldlist_session.specs.Answers.{opening_by}
 use Rattle.fieldlist_session.proofs.session.opening.Goals as goal

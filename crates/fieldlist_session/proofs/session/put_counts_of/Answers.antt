@@ -1,6 +1,5 @@
 -- `put_counts_of` puts the counts of a session.
 -- By the session.
-use borrow.Author.Rules.{rules}
 use mathlib.Core.Path.{ap, sym}
 use Rattle.text.proofs.PutLaws.{same}
 use Rattle.fieldlist_session.specs.Session.{counts_of}

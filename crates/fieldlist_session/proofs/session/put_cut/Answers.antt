@@ -1,6 +1,5 @@
 -- `put_cut` puts `cut` for a broken frame.
 -- By what stands at the front.
-use borrow.Author.Rules.{rules}
 use native.Mathlib.Omega.{arith}
 use Rattle.text.specs.Text.{ascii}
 use Rattle.text.proofs.PutLaws.{nothing}

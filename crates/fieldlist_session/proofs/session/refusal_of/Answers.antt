@@ -1,6 +1,5 @@
 -- `refusal_of` gives the refusal.
 -- By what was opened.
-use borrow.Author.Rules.{rules}
 use Rattle.fieldlist_session.proofs.session.refusal_of.Goals as goal
 
 pub returns-in-Open : goal.returns-in-Open

@@ -1,6 +1,5 @@
 -- `put_left_out` puts how many fragments and cut packets there were.
 -- By whether there were any.
-use borrow.Author.Rules.{rules}
 use native.Mathlib.Omega.{arith}
 use Rattle.text.specs.Text.{ascii}
 use Rattle.text.proofs.PutLaws.{nothing}

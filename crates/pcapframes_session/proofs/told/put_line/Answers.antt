@@ -1,6 +1,5 @@
 -- `put_line` puts two numbers with their labels.
 -- Pieces one behind the other are one piece.
-use borrow.Author.Rules.{rules}
 use native.Mathlib.Omega.{arith}
 use Rattle.text.specs.Text.{ascii}
 use Rattle.text.proofs.PutLaws.{both}

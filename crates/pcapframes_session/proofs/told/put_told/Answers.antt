@@ -1,8 +1,7 @@
 -- `put_told` puts what was left out, and behind it the refusal.
 -- By whether there was one; two pieces one behind the other are one piece.
-use borrow.Author.Rules.{rules}
 use mathlib.Core.Path.{◌≡◌, ap, sym}
-use mathlib.Core.List.{List, ◌++◌}
+use mathlib.Core.List.{◌++◌}
 use native.Mathlib.Omega.{arith}
 use Rattle.text.specs.Text.{ascii}
 use Rattle.text.proofs.PutLaws.{both, nothing, same}

@@ -1,6 +1,5 @@
 -- `read_outlined` reads a packet that the strict way accepts, or gives 14 and leaves the cells.
 -- By what the strict way answers: it leaves none out.
-use borrow.Author.Rules.{rules}
 use mathlib.Core.Path.{◌≡◌, ap, sym, ◌∙◌}
 use native.Mathlib.Omega.{arith}
 use lib.ListN.{length}

@@ -1,11 +1,9 @@
 -- `check_tolerant` tells what a packet says of which some records may be left out, or gives the refusal of its ANC data packets or 13.
 -- By what their run is.
-use borrow.Author.Rules.{rules}
 use mathlib.Core.Path.{◌≡◌, ap, ap₂, sym, ◌∙◌}
 use mathlib.Core.List.{List}
 use Prim.Native.Nat.{ℕ, ◌+◌, ◌-◌, ◌<◌, ◌≤◌}
 use native.Mathlib.Omega.{arith}
-use lib.ListN.{length}
 use Rattle.wire_spec.specs.Packet.{header_size, length_field, anc_count, run_at, payload_at}
 use Rattle.wire_spec.proofs.BitLaws.{bits_at-lt}
 use Rattle.anc_tolerant_spec.specs.Tolerant.{tolerate_run}

@@ -1,7 +1,6 @@
 -- `read_refused` gives the refusal of the strict way, and by 11 reads in the tolerant way.
 -- Only a refusal by 11 is another there.
-use borrow.Author.Rules.{rules}
-use mathlib.Core.Path.{◌≡◌, ap, sym, ◌∙◌}
+use mathlib.Core.Path.{ap, sym, ◌∙◌}
 use lib.ListN.{length}
 use Rattle.rtp_strict_reader.specs.Answers.{read_of}
 use Rattle.rtp_strict_reader.proofs.ReadLaws.{into-refused}

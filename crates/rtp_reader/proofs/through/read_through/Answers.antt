@@ -1,16 +1,15 @@
 -- `read_through` reads the records that come through into the lent cells, or gives the refusal and leaves them.
 -- By what the check found, and 14 last.
-use borrow.Author.Rules.{rules}
 use mathlib.Core.Path.{◌≡◌, ap, ap₂, sym, subst, ◌∙◌}
 use mathlib.Core.List.{List}
-use Prim.Native.Nat.{ℕ, ◌+◌, ◌-◌, ◌<◌, ◌≤◌}
+use Prim.Native.Nat.{ℕ, ◌+◌, ◌-◌}
 use native.Mathlib.Omega.{arith}
 use lib.ListN.{length, take, drop}
 use Rattle.wire_spec.specs.Bits.{overwrite}
 use Rattle.wire_spec.specs.Result.{Result, IsAccepted}
 use Rattle.wire_spec.specs.Packet.{length_field, anc_count, run_at, payload_at}
 use Rattle.wire_spec.proofs.BitLaws.{bits_at-lt}
-use Rattle.anc_tolerant_spec.specs.Tolerant.{Taken, Tolerated, tolerate_run, tolerate_content}
+use Rattle.anc_tolerant_spec.specs.Tolerant.{Taken, Tolerated, tolerate_run}
 use Rattle.anc_tolerant_reader.specs.Answers.{taken_cells}
 use Rattle.rtp_reader.specs.Answers.{tolerant_of, tolerant_refusal, through_after}
 use Rattle.rtp_reader.specs.declared.through.Region.{Region}

@@ -1,11 +1,10 @@
 -- `region_of` tells where a packet's ANC data packets stand.
 -- By the place of each field; the stages before say that they are there.
-use borrow.Author.Rules.{rules}
 use mathlib.Core.Path.{◌≡◌, sym, ◌∙◌}
 use Prim.Native.Nat.{ℕ, ◌+◌, ◌<◌, ◌≤◌}
 use native.Mathlib.Omega.{arith}
 use lib.ListN.{length, get_or}
-use Rattle.wire_spec.specs.Packet.{header_size, length_field, anc_count, run_at}
+use Rattle.wire_spec.specs.Packet.{header_size, length_field, run_at}
 use Rattle.wire_spec.proofs.LayoutLaws.{places}
 use Rattle.rtp_strict_reader.proofs.HeaderFields.{length_at, count_at}
 use Rattle.rtp_reader.proofs.RegionLaws.{Inside, inside}

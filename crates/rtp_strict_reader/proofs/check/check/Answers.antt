@@ -1,6 +1,5 @@
 -- `check` tells what a packet says and where its ANC data packets stand, or gives the refusal.
 -- Stage by stage: what each stage told is carried to the next.
-use borrow.Author.Rules.{rules}
 use mathlib.Core.Path.{◌≡◌, ap, sym, ◌∙◌, subst}
 use Prim.Native.Nat.{ℕ, ◌≤◌}
 use native.Mathlib.Omega.{arith}

@@ -1,6 +1,5 @@
 -- `check_packets` tells what a packet says and where its ANC data packets stand, or gives their refusal or 13.
 -- By what the stages before it found: the run stands where they say.
-use borrow.Author.Rules.{rules}
 use mathlib.Core.Path.{◌≡◌, ap, ap₂, sym, ◌∙◌}
 use mathlib.Core.List.{List}
 use Prim.Native.Nat.{ℕ, ◌+◌, ◌-◌, ◌<◌, ◌≤◌}

@@ -1,6 +1,5 @@
 -- `head_at` reads the six values beside a packet's records.
 -- By the place of each field.
-use borrow.Author.Rules.{rules}
 use Prim.Native.Nat.{ℕ, ◌+◌, ◌*◌, ◌<◌, ◌≤◌}
 use native.Mathlib.Omega.{arith}
 use lib.ListN.{length, get_or}

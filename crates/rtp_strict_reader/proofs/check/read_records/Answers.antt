@@ -1,6 +1,5 @@
 -- `read_records` writes the cells of a packet's records to the first cells, and no other cell.
 -- By what the check found of its run.
-use borrow.Author.Rules.{rules}
 use mathlib.Core.Path.{◌∙◌}
 use native.Mathlib.Omega.{arith}
 use Rattle.wire_spec.proofs.Window.{below_all}

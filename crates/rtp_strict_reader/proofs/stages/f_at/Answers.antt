@@ -1,8 +1,7 @@
 -- `f_at` is F, or 0 in a layout that has none.
 -- By the layout: two bits of an octet, or no bits.
-use borrow.Author.Rules.{rules}
-use mathlib.Core.Path.{◌≡◌, sym, subst}
-use Prim.Native.Nat.{ℕ, ◌+◌, ◌≤◌}
+use mathlib.Core.Path.{sym, subst}
+use Prim.Native.Nat.{◌+◌, ◌≤◌}
 use native.Mathlib.Omega.{arith}
 use lib.ListN.{length}
 use Rattle.wire_spec.specs.Layout.{Layout, rfc8331, payload_header_size}

@@ -1,6 +1,5 @@
 -- `header_size` finds the RTP header's octets, or more than there are.
 -- By cases: no extension, an extension whose first four octets are cut, an extension.
-use borrow.Author.Rules.{rules}
 use Prim.Native.Nat.{◌<◌, ◌+◌, ◌*◌, ◌%◌}
 use native.Mathlib.Omega.{arith}
 use Rattle.wire_spec.specs.Packet.{header_least}

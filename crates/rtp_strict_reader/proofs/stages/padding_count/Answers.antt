@@ -1,6 +1,5 @@
 -- `padding_count` is the last octet where P is set, and 0 otherwise.
 -- P is 0 or 1, so the product is at most the last octet.
-use borrow.Author.Rules.{rules}
 use Prim.Native.Nat.{◌-◌}
 use native.Mathlib.Omega.{arith}
 use lib.ListN.{length}

@@ -1,8 +1,5 @@
 -- `padding_flag` is P.
 -- By its place in the first octet.
-use borrow.Author.Rules.{rules}
-use mathlib.Core.Path.{ap, sym, ◌∙◌}
-use Prim.Native.Nat.{ℕ, ◌/◌, ◌%◌}
 use Rattle.rtp_strict_reader.proofs.HeaderFields.{padding-at}
 use Rattle.rtp_strict_reader.proofs.stages.padding_flag.Goals as goal
 

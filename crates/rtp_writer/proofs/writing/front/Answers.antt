@@ -1,6 +1,5 @@
 -- `front` is the packed RTP header, and payload header up to ANC_Count.
 -- By the law of those seventeen octets.
-use borrow.Author.Rules.{rules}
 use native.Mathlib.Omega.{arith}
 use Rattle.wire_spec.specs.Writing.{HeadFits}
 use Rattle.rtp_writer.specs.Answers.{content_of}

@@ -1,6 +1,5 @@
 -- `front_size` gives the octets before the ANC data packets.
 -- By what `payload_header_size` gives.
-use borrow.Author.Rules.{rules}
 use native.Mathlib.Omega.{arith}
 use Rattle.wire_spec.proofs.LayoutLaws.{places}
 use Rattle.rtp_writer.proofs.writing.front_size.Goals as goal

@@ -1,6 +1,5 @@
 -- `layout_ok` tests what the layout cannot hold.
 -- By the variant that each arm is told.
-use borrow.Author.Rules.{rules}
 use mathlib.Core.Path.{ap}
 use mathlib.Core.Bool.{Bool, ◌&&◌}
 use lib.Dec.{eqb}

@@ -1,11 +1,9 @@
 -- `measure` gives 24, 20, 16, 21, 25 or 23, or the records and octets of a packet that fits.
 -- Each return knows the checks before it, in the order of the definition.
-use borrow.Author.Rules.{rules}
 use mathlib.Core.Path.{◌≡◌, ap, sym, ◌∙◌}
 use mathlib.Core.Bool.{true, false}
 use mathlib.Core.List.{[], ◌∷◌}
 use Prim.Native.Nat.{ℕ, ◌+◌}
-use borrow.Author.Tests.{not-true, not-false}
 use lib.Dec.{leb}
 use lib.ListN.{take, get_or}
 use Rattle.wire_spec.specs.Cells.{read_list}

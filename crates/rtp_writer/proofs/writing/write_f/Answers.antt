@@ -1,6 +1,5 @@
 -- `write_f` writes F and the reserved bits, where the layout has them.
 -- By the variant that each arm is told: the law of those three octets, or none.
-use borrow.Author.Rules.{rules}
 use mathlib.Core.Path.{ap, sym, ◌∙◌, subst}
 use mathlib.Core.List.{[], ◌∷◌}
 use Prim.Native.Nat.{◌*◌, ◌≤◌}

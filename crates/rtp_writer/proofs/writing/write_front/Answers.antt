@@ -1,6 +1,5 @@
 -- `write_front` writes the packed headers to the first octets, and no other octet.
 -- F and the reserved bits stand behind what both layouts have: one store after the other is one store of both.
-use borrow.Author.Rules.{rules}
 use mathlib.Core.Path.{◌≡◌, ap, sym, ◌∙◌}
 use mathlib.Core.List.{List}
 use Prim.Native.Nat.{ℕ, ◌+◌, zero-le}

@@ -1,6 +1,5 @@
 -- `checksum_ok` tests the checksum word.
 -- By the words that are summed.
-use borrow.Author.Rules.{rules}
 use Rattle.sdi_spec.proofs.CodeLaws.{sum-test}
 use Rattle.sdi_check.proofs.check.checksum_ok.Goals as goal
 

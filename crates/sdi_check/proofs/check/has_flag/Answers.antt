@@ -1,6 +1,5 @@
 -- `has_flag` tells whether a whole flag stands at the front.
 -- By the definition.
-use borrow.Author.Rules.{rules}
 use borrow.Author.Tests.{le-leb, lt-leb}
 use Rattle.sdi_spec.specs.Packets.{has_flag}
 use Rattle.sdi_check.proofs.check.has_flag.Goals as goal

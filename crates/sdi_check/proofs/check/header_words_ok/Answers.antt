@@ -1,6 +1,5 @@
 -- `header_words_ok` tests DID, SDID and Data_Count.
 -- Each return knows the tests of the words before it.
-use borrow.Author.Rules.{rules}
 use mathlib.Core.Bool.{and-true, not}
 use Rattle.sdi_spec.proofs.CodeLaws.{headers-test, passed, failed}
 use mathlib.Core.Path.{ap}

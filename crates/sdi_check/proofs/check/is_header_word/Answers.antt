@@ -1,6 +1,5 @@
 -- `is_header_word` tests a word by the table.
 -- By the table's entry for the number that the word carries.
-use borrow.Author.Rules.{rules}
 use mathlib.Core.Path.{ap}
 use Prim.Native.Nat.{ℕ, ◌%◌}
 use native.Mathlib.Omega.{arith}

@@ -1,14 +1,9 @@
 -- `copy` writes all words of one slice to the first of another, and no other word.
 -- Invariant: the words that are left, written behind those that are, make all of them written.
-use borrow.Author.Rules.{rules}
-use mathlib.Core.Path.{◌≡◌, refl, sym, ◌∙◌}
-use Prim.Native.Nat.{◌≤◌, ◌-◌, ◌+◌}
-use native.Mathlib.Numerals.{add-one}
-use native.Mathlib.Omega.{arith}
-use lib.ListN.{length, drop, length-set}
-use lib.Seq.{drop-cons, drop-length}
+use mathlib.Core.Path.{◌≡◌}
+use Prim.Native.Nat.{◌≤◌, ◌-◌}
+use lib.ListN.{length, drop}
 use Rattle.wire_spec.specs.Bits.{overwrite, splice}
-use Rattle.wire_spec.proofs.ListLaws.{splice-set, splice-none}
 use Rattle.sdi_packets.proofs.reading.copy.Given as goal
 
 abbrev pub invariant-loop-k : goal.invariant-loop-k

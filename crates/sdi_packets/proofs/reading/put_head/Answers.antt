@@ -1,6 +1,5 @@
 -- `put_head` writes the cells before a record's words, and no other cell.
 -- The nine stores, one after the other, are one.
-use borrow.Author.Rules.{rules}
 use native.Mathlib.Omega.{arith}
 use lib.ListN.{length-set}
 use lib.Seq.{sets-eq}

@@ -1,4 +1,3 @@
-use borrow.Author.Rules.{rules}
 use mathlib.Core.Path.{◌≡◌, refl, ap, sym, ◌∙◌, subst₃}
 use mathlib.Core.Bool.{true}
 use mathlib.Core.List.{List}

@@ -1,6 +1,5 @@
 -- `put_checksum` writes the checksum word behind the user data words.
 -- One store is a splice of one word.
-use borrow.Author.Rules.{rules}
 use mathlib.Core.Path.{◌≡◌, ap, ◌∙◌}
 use mathlib.Core.List.{[], ◌∷◌}
 use Prim.Native.Nat.{ℕ, ◌+◌, ◌-◌}

@@ -1,6 +1,5 @@
 -- `put_front` writes the flag and the three header words, and no other word.
 -- The six stores, one after the other, are one.
-use borrow.Author.Rules.{rules}
 use native.Mathlib.Omega.{arith}
 use lib.ListN.{length-set}
 use lib.Seq.{sets-eq}

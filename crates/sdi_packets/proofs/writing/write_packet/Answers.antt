@@ -1,6 +1,5 @@
 -- `write_packet` writes the packet of the record at the front of the cells to the first words, and no other word.
 -- Its front, its user data words behind that, and the checksum.
-use borrow.Author.Rules.{rules}
 use mathlib.Core.Path.{◌≡◌, refl, ap, sym, ◌∙◌}
 use mathlib.Core.List.{List, ◌++◌}
 use Prim.Native.Nat.{ℕ, ◌+◌, ◌-◌}

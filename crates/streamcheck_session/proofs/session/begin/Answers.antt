@@ -1,6 +1,5 @@
 -- `begin` is before the first frame.
 -- By what `open` gives.
-use borrow.Author.Rules.{rules}
 use Rattle.streamcheck_session.proofs.session.begin.Goals as goal
 
 pub returns : goal.returns

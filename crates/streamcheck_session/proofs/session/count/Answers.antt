@@ -1,6 +1,5 @@
 -- `count` goes behind a frame.
 -- By its definition.
-use borrow.Author.Rules.{rules}
 use mathlib.Core.Path.{refl}
 use Rattle.streamcheck_session.proofs.session.count.Goals as goal
 

@@ -1,6 +1,5 @@
 -- `finish` puts the last line where there is room.
 -- By the test; the frame there is cut or not.
-use borrow.Author.Rules.{rules}
 use borrow.Author.Tests.{lt-leb, le-leb}
 use mathlib.Core.Path.{refl, ap, ◌∙◌}
 use mathlib.Core.Bool.{Bool}

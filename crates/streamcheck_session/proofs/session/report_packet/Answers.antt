@@ -1,6 +1,5 @@
 -- `report_packet` steps past a packet, and puts its lines.
 -- By what `check_packet` gives.
-use borrow.Author.Rules.{rules}
 use mathlib.Core.Path.{ap}
 use Rattle.text.proofs.PutLaws.{same}
 use Rattle.streamcheck_spec.specs.declared.checker.Step.{Step}

@@ -1,8 +1,8 @@
 -- `check_accepted` steps past a packet that was checked.
 -- By what it shows: its records are a list, which is never too short, and beside them stand its six values and the reserved bits.
-use Rattle.std.proofs.Common.{◌≡◌, List, take, sym, ap, ◌∙◌, subst, arith, length-take-le, rules}
+use Rattle.std.proofs.Common.{List, take, sym, ap, ◌∙◌, subst, arith, length-take-le}
 use Rattle.wire_spec.specs.Anc.{Record}
-use Rattle.wire_spec.specs.Result.{Result, accepted, IsAccepted}
+use Rattle.wire_spec.specs.Result.{Result, IsAccepted}
 use Rattle.wire_spec.specs.Cells.{read_list}
 use Rattle.wire_spec.proofs.Window.{below_all}
 use Rattle.rtp_strict_reader.proofs.ReadLaws.{Outlined, outlined}

@@ -1,6 +1,6 @@
 -- `check_packet` steps past a packet: refused by its reading, or checked.
 -- By the check.
-use Rattle.std.proofs.Common.{◌≡◌, sym, ap, ◌∙◌, rules}
+use Rattle.std.proofs.Common.{sym, ap, ◌∙◌}
 use Rattle.wire_spec.specs.declared.refusal.Refusal.{Refusal}
 use Rattle.wire_spec.specs.Result.{Result}
 use Rattle.wire_spec.specs.Packet.{Content, read_content}

@@ -1,6 +1,6 @@
 -- `reserved_set` tells whether reserved bits are set.
 -- By the layout: the last bits of four octets, or no bits.
-use Rattle.std.proofs.Common.{◌≡◌, ℕ, ◌+◌, ◌%◌, ◌≤◌, not, eqb, length, sym, refl, ap, ◌∙◌, subst, arith, rules}
+use Rattle.std.proofs.Common.{◌+◌, ◌≤◌, length, subst, arith}
 use Rattle.wire_spec.specs.Layout.{Layout, rfc8331, payload_header_size}
 use Rattle.wire_spec.proofs.BitLaws.{no_bits}
 use Rattle.streamcheck_step.proofs.ReservedLaws.{reserved-at}

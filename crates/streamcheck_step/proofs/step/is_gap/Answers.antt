@@ -1,6 +1,5 @@
 -- `is_gap` tells a number that is not the next.
 -- By the sum modulo 2^32.
-use Rattle.std.proofs.Common.{rules}
 use Rattle.streamcheck_step.proofs.step.is_gap.Goals as goal
 
 pub returns : goal.returns

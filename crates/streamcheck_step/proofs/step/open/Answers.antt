@@ -1,6 +1,5 @@
 -- `open` is the state before the first packet.
 -- Assumes nothing.
-use Rattle.std.proofs.Common.{rules}
 use Rattle.streamcheck_step.proofs.step.open.Goals as goal
 
 pub returns : goal.returns

@@ -1,6 +1,5 @@
 -- `sound_step` steps past a packet that is not refused.
 -- By its tests.
-use Rattle.std.proofs.Common.{rules}
 use Rattle.streamcheck_spec.specs.Code.{sound_step}
 use Rattle.streamcheck_step.proofs.step.sound_step.Goals as goal
 

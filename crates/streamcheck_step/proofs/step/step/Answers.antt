@@ -1,7 +1,6 @@
 -- `step` steps past an accepted packet.
 -- By 30, then 31.
-use Rattle.std.proofs.Common.{sym, ◌∙◌, rules}
-use borrow.Author.Tests.{not-true, not-false}
+use Rattle.std.proofs.Common.{sym, ◌∙◌}
 use Rattle.streamcheck_spec.specs.Code.{step_of}
 use Rattle.streamcheck_step.proofs.step.step.Goals as goal
 

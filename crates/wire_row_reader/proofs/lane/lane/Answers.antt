@@ -1,6 +1,5 @@
 -- `lane` is the ten bits that start in an octet, at the place of its lane.
 -- By the lane's mask and factor.
-use borrow.Author.Rules.{rules}
 use mathlib.Core.Path.{◌≡◌}
 use Prim.Native.Nat.{◌+◌}
 use native.Mathlib.Omega.{arith}

@@ -1,6 +1,5 @@
 -- `step` is 1.
 -- By the first factor.
-use borrow.Author.Rules.{rules}
 use native.Mathlib.Omega.{arith}
 use Rattle.wire_row_reader.proofs.lane.step.Goals as goal
 

@@ -1,6 +1,5 @@
 -- `ten` is what a mask keeps, multiplied and divided.
 -- A mask keeps no more than itself, so the product fits.
-use borrow.Author.Rules.{rules}
 use native.Mathlib.Nat.{mul-le-mul_right}
 use native.Mathlib.Omega.{arith}
 use lib.Bits.{and_le_r}

@@ -1,12 +1,10 @@
-use borrow.Author.Rules.{rules}
 use mathlib.Core.Path.{◌≡◌, refl, sym, ◌∙◌}
-use Prim.Native.Nat.{◌≤◌, ◌-◌, ◌+◌}
+use Prim.Native.Nat.{◌-◌, ◌+◌}
 use native.Mathlib.Nat.{add-zero}
 use native.Mathlib.Numerals.{add-one}
 use native.Mathlib.Omega.{arith}
 use lib.ListN.{length, drop, length-set}
 use lib.Seq.{drop-cons, drop-length}
-use Rattle.wire_spec.specs.Bits.{splice}
 use Rattle.wire_spec.proofs.ListLaws.{splice-set, splice-none}
 use Rattle.wire_row_reader.proofs.row.put.Goals as goal
 

@@ -1,6 +1,5 @@
 -- `read_few` writes at most three words from a bit on to the cells from one on, and no other cell.
 -- By the cells set one after the other.
-use borrow.Author.Rules.{rules}
 use mathlib.Core.Path.{◌≡◌, ap, sym, ◌∙◌}
 use mathlib.Core.List.{[], ◌∷◌}
 use native.Mathlib.Omega.{arith}

@@ -1,6 +1,5 @@
 -- `read_four` writes the four words from an octet on to the cells from one on, and no other cell.
 -- By the cells set one after the other.
-use borrow.Author.Rules.{rules}
 use mathlib.Core.Path.{ap, ◌∙◌}
 use mathlib.Core.List.{[], ◌∷◌}
 use Prim.Native.Nat.{◌*◌}

@@ -1,6 +1,5 @@
 -- `read_rest` writes at most seven words from an octet on to the cells from one on, and no other cell.
 -- By its two rows: four words where there are four, and the words that are left.
-use borrow.Author.Rules.{rules}
 use mathlib.Core.Path.{◌≡◌, ap, ◌∙◌}
 use Prim.Native.Nat.{ℕ, ◌+◌, ◌-◌, ◌*◌}
 use native.Mathlib.Omega.{arith}

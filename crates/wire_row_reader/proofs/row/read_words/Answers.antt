@@ -1,6 +1,5 @@
 -- `read_words` writes the words from a bit on to the first cells, and no other cell.
 -- By its three rows: to the first word that starts an octet, eight words a turn, and the words that are left.
-use borrow.Author.Rules.{rules}
 use mathlib.Core.Path.{◌≡◌}
 use Prim.Native.Nat.{◌+◌, ◌-◌, ◌*◌, ◌/◌}
 use native.Mathlib.Omega.{arith}

@@ -1,6 +1,5 @@
-use Rattle.std.proofs.Common.{◌≡◌, ℕ, ◌+◌, ◌-◌, ◌%◌, ◌≤◌, length, get_or, drop, refl, add-zero, add-one, arith, length-set, drop-cons, rules}
+use Rattle.std.proofs.Common.{◌≡◌, ℕ, ◌+◌, ◌-◌, ◌%◌, length, get_or, refl, add-zero, add-one, arith, length-set, drop-cons}
 use lib.Seq.{drop-length}
-use Rattle.wire_spec.specs.Words.{sum_low}
 use Rattle.wire_row_scan.specs.Total.{total}
 use Rattle.wire_row_scan.proofs.TotalLaws.{total-set}
 use Rattle.wire_row_scan.proofs.scan.add_lanes.Goals as goal

@@ -1,10 +1,8 @@
 -- `add_lanes` adds the words to the sums of the lanes: all together, modulo 512.
 -- Invariant: the sums, and the sum of the words that are left, make the whole sum, modulo 512.
-use Rattle.std.proofs.Common.{◌≡◌, ℕ, ◌+◌, ◌-◌, ◌%◌, ◌≤◌, length, get_or, drop, refl, add-zero, add-one, arith, length-set, drop-cons, rules}
-use lib.Seq.{drop-length}
+use Rattle.std.proofs.Common.{◌≡◌, ◌+◌, ◌-◌, ◌%◌, ◌≤◌, length, drop}
 use Rattle.wire_spec.specs.Words.{sum_low}
 use Rattle.wire_row_scan.specs.Total.{total}
-use Rattle.wire_row_scan.proofs.TotalLaws.{total-set}
 use Rattle.wire_row_scan.proofs.scan.add_lanes.Given as goal
 
 abbrev pub invariant-loop-j : goal.invariant-loop-j

@@ -1,7 +1,6 @@
-use Rattle.std.proofs.Common.{◌≡◌, ◌-◌, ◌≤◌, Bool, true, ◌&&◌, leb, length, get_or, drop, refl, ap, ◌∙◌, add-one, arith, drop-cons, rules}
+use Rattle.std.proofs.Common.{◌≡◌, ◌-◌, leb, length, get_or, refl, ◌∙◌, add-one, arith, drop-cons}
 use mathlib.Core.Bool.{and_assoc, and-true}
 use lib.Seq.{drop-length}
-use Rattle.wire_row_scan.specs.Clear.{all_high}
 use Rattle.wire_row_scan.proofs.scan.least_of.Goals as goal
 
 pub loop-j-init : goal.loop-j-init

@@ -1,8 +1,6 @@
 -- `least_of` is under 8 where one of the lanes is.
 -- Invariant: what was seen and what is left are under 8 nowhere, where all are.
-use Rattle.std.proofs.Common.{◌≡◌, ◌-◌, ◌≤◌, Bool, true, ◌&&◌, leb, length, get_or, drop, refl, ap, ◌∙◌, add-one, arith, drop-cons, rules}
-use mathlib.Core.Bool.{and_assoc, and-true}
-use lib.Seq.{drop-length}
+use Rattle.std.proofs.Common.{◌≡◌, ◌-◌, ◌≤◌, ◌&&◌, leb, length, drop}
 use Rattle.wire_row_scan.specs.Clear.{all_high}
 use Rattle.wire_row_scan.proofs.scan.least_of.Given as goal
 

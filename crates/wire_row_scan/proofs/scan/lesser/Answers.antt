@@ -1,6 +1,6 @@
 -- `lesser` is under 8 where one of two numbers is.
 -- By the lesser of them.
-use Rattle.std.proofs.Common.{arith, rules}
+use Rattle.std.proofs.Common.{arith}
 use Rattle.wire_row_scan.proofs.ClearLaws.{lesser-is, lesser-second}
 use Rattle.wire_row_scan.proofs.scan.lesser.Goals as goal
 

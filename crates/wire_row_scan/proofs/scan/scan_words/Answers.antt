@@ -1,6 +1,6 @@
 -- `scan_words` tells of the words from a bit on: their sum modulo 512, and whether none is protected.
 -- By their tally.
-use Rattle.std.proofs.Common.{◌∙◌, rules}
+use Rattle.std.proofs.Common.{◌∙◌}
 use Rattle.wire_row_scan.proofs.scan.scan_words.Goals as goal
 
 pub returns : goal.returns

@@ -1,8 +1,8 @@
-use Rattle.std.proofs.Common.{◌≡◌, ℕ, ◌+◌, ◌-◌, ◌*◌, ◌%◌, ◌≤◌, Bool, ◌&&◌, List, length, sym, refl, ap, ◌∙◌, subst, add-zero, mul-zero, zero-add, arith, rules}
+use Rattle.std.proofs.Common.{◌≡◌, ℕ, ◌+◌, ◌-◌, ◌*◌, ◌%◌, length, sym, refl, ap, ◌∙◌, subst, add-zero, mul-zero, zero-add, arith}
 use mathlib.Core.Bool.{and_assoc, and-true}
 use native.Mathlib.Nat.{sub-zero}
 use Rattle.wire_spec.specs.Bits.{Below, row_at}
-use Rattle.wire_spec.specs.Words.{word_bits, sum_low, all_clear}
+use Rattle.wire_spec.specs.Words.{word_bits}
 use Rattle.wire_spec.proofs.BitLaws.{length-row_at}
 use Rattle.wire_row_scan.specs.Clear.{all_high}
 use Rattle.wire_row_scan.specs.Total.{total}

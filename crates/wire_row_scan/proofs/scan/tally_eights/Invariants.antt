@@ -1,15 +1,10 @@
 -- `tally_eights` tallies the words from an octet on.
 -- Invariant: the lanes, and the words that are left, make the whole.
-use Rattle.std.proofs.Common.{◌≡◌, ℕ, ◌+◌, ◌-◌, ◌*◌, ◌%◌, ◌≤◌, Bool, ◌&&◌, List, length, sym, refl, ap, ◌∙◌, subst, add-zero, mul-zero, zero-add, arith, rules}
-use mathlib.Core.Bool.{and_assoc, and-true}
-use native.Mathlib.Nat.{sub-zero}
-use Rattle.wire_spec.specs.Bits.{Below, row_at}
+use Rattle.std.proofs.Common.{◌≡◌, ◌+◌, ◌-◌, ◌*◌, ◌%◌, ◌≤◌, ◌&&◌, length}
+use Rattle.wire_spec.specs.Bits.{row_at}
 use Rattle.wire_spec.specs.Words.{word_bits, sum_low, all_clear}
-use Rattle.wire_spec.proofs.BitLaws.{length-row_at}
 use Rattle.wire_row_scan.specs.Clear.{all_high}
 use Rattle.wire_row_scan.specs.Total.{total}
-use Rattle.wire_row_scan.proofs.ClearLaws.{clear-rows, row_below}
-use Rattle.wire_row_scan.proofs.SumLaws.{sum_rows}
 use Rattle.wire_row_scan.proofs.scan.tally_eights.Given as goal
 
 abbrev pub invariant-loop-k : goal.invariant-loop-k

@@ -1,6 +1,6 @@
 -- `tally_row` tallies the words from a bit on.
 -- By its three rows: to the first word that starts an octet, eight words a turn, and the words that are left.
-use Rattle.std.proofs.Common.{◌≡◌, ℕ, ◌+◌, ◌-◌, ◌*◌, ◌/◌, arith, rules}
+use Rattle.std.proofs.Common.{◌≡◌, ◌+◌, ◌-◌, ◌*◌, ◌/◌, arith}
 use Rattle.wire_row_scan.proofs.ClearLaws.{tallied-rows}
 use Rattle.wire_row_scan.proofs.scan.tally_row.Goals as goal
 

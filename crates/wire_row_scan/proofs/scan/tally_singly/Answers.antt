@@ -1,8 +1,8 @@
-use Rattle.std.proofs.Common.{◌≡◌, ℕ, suc, ◌+◌, ◌-◌, ◌*◌, ◌%◌, ◌<◌, ◌≤◌, Bool, ◌&&◌, leb, ap, ◌∙◌, add-zero, mul-zero, zero-add, arith, rules}
+use Rattle.std.proofs.Common.{◌≡◌, ℕ, suc, ◌+◌, ◌-◌, ◌*◌, ◌%◌, Bool, ◌&&◌, leb, ap, ◌∙◌, add-zero, mul-zero, zero-add, arith}
 use mathlib.Core.Bool.{and_assoc, and-true}
 use native.Mathlib.Nat.{sub-zero}
 use Rattle.wire_spec.specs.Bits.{bits_at, row_at}
-use Rattle.wire_spec.specs.Words.{word_bits, sum_low, all_clear, is_clear}
+use Rattle.wire_spec.specs.Words.{is_clear}
 use Rattle.wire_spec.proofs.BitLaws.{bits_at-lt}
 use Rattle.wire_row_scan.proofs.scan.tally_singly.Goals as goal
 

@@ -1,11 +1,8 @@
 -- `tally_singly` tallies the words from a bit on.
 -- Invariant: what was tallied, and the words that are left, make the whole.
-use Rattle.std.proofs.Common.{◌≡◌, ℕ, suc, ◌+◌, ◌-◌, ◌*◌, ◌%◌, ◌<◌, ◌≤◌, Bool, ◌&&◌, leb, ap, ◌∙◌, add-zero, mul-zero, zero-add, arith, rules}
-use mathlib.Core.Bool.{and_assoc, and-true}
-use native.Mathlib.Nat.{sub-zero}
-use Rattle.wire_spec.specs.Bits.{bits_at, row_at}
-use Rattle.wire_spec.specs.Words.{word_bits, sum_low, all_clear, is_clear}
-use Rattle.wire_spec.proofs.BitLaws.{bits_at-lt}
+use Rattle.std.proofs.Common.{◌≡◌, ◌+◌, ◌-◌, ◌*◌, ◌%◌, ◌≤◌, ◌&&◌, leb}
+use Rattle.wire_spec.specs.Bits.{row_at}
+use Rattle.wire_spec.specs.Words.{word_bits, sum_low, all_clear}
 use Rattle.wire_row_scan.proofs.scan.tally_singly.Given as goal
 
 abbrev pub invariant-loop-k : goal.invariant-loop-k

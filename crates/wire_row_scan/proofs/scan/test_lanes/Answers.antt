@@ -1,8 +1,8 @@
-use Rattle.std.proofs.Common.{◌≡◌, ℕ, ◌-◌, ◌≤◌, Bool, ◌&&◌, leb, length, get_or, drop, sym, refl, ap, ◌∙◌, add-one, arith, length-set, drop-cons, rules}
+use Rattle.std.proofs.Common.{◌≡◌, ◌-◌, Bool, ◌&&◌, leb, length, get_or, refl, ap, ◌∙◌, add-one, arith, length-set, drop-cons}
 use mathlib.Core.Bool.{and_assoc, and-true}
 use lib.Seq.{drop-length}
 use Rattle.wire_spec.proofs.BitLaws.{below_at}
-use Rattle.wire_spec.specs.Words.{all_clear, is_clear}
+use Rattle.wire_spec.specs.Words.{is_clear}
 use Rattle.wire_row_scan.specs.Clear.{all_high}
 use Rattle.wire_row_scan.proofs.ClearLaws.{high-set}
 use Rattle.wire_row_scan.proofs.scan.test_lanes.Goals as goal

@@ -1,12 +1,8 @@
 -- `test_lanes` tests each word in its lane.
 -- Invariant: the lanes, and the words that are left, show a protected word where there was one.
-use Rattle.std.proofs.Common.{◌≡◌, ℕ, ◌-◌, ◌≤◌, Bool, ◌&&◌, leb, length, get_or, drop, sym, refl, ap, ◌∙◌, add-one, arith, length-set, drop-cons, rules}
-use mathlib.Core.Bool.{and_assoc, and-true}
-use lib.Seq.{drop-length}
-use Rattle.wire_spec.proofs.BitLaws.{below_at}
-use Rattle.wire_spec.specs.Words.{all_clear, is_clear}
+use Rattle.std.proofs.Common.{◌≡◌, ◌-◌, ◌≤◌, ◌&&◌, length, drop}
+use Rattle.wire_spec.specs.Words.{all_clear}
 use Rattle.wire_row_scan.specs.Clear.{all_high}
-use Rattle.wire_row_scan.proofs.ClearLaws.{high-set}
 use Rattle.wire_row_scan.proofs.scan.test_lanes.Given as goal
 
 abbrev pub invariant-loop-j : goal.invariant-loop-j

@@ -1,4 +1,4 @@
-use Rattle.std.proofs.Common.{◌≡◌, ℕ, ◌+◌, ◌-◌, ◌%◌, ◌<◌, ◌≤◌, length, get_or, drop, zero-add, add-one, arith, drop-cons, rules}
+use Rattle.std.proofs.Common.{◌≡◌, ℕ, ◌+◌, ◌-◌, ◌%◌, length, get_or, zero-add, add-one, arith, drop-cons}
 use lib.Seq.{drop-length}
 use Rattle.wire_row_scan.specs.Total.{total}
 use Rattle.wire_row_scan.proofs.scan.total_of.Goals as goal

@@ -1,7 +1,6 @@
 -- `total_of` is the sum of numbers, modulo 65,536.
 -- Invariant: what was summed, and the sum of what is left, make the whole sum, modulo 65,536.
-use Rattle.std.proofs.Common.{◌≡◌, ℕ, ◌+◌, ◌-◌, ◌%◌, ◌<◌, ◌≤◌, length, get_or, drop, zero-add, add-one, arith, drop-cons, rules}
-use lib.Seq.{drop-length}
+use Rattle.std.proofs.Common.{◌≡◌, ◌+◌, ◌-◌, ◌%◌, ◌<◌, ◌≤◌, length, drop}
 use Rattle.wire_row_scan.specs.Total.{total}
 use Rattle.wire_row_scan.proofs.scan.total_of.Given as goal
 

@@ -1,6 +1,5 @@
 -- `turned` is under 8 for a protected word.
 -- By the two tests.
-use Rattle.std.proofs.Common.{rules}
 use Rattle.wire_row_scan.proofs.ClearLaws.{turned_clear}
 use Rattle.wire_row_scan.proofs.scan.turned.Goals as goal
 

@@ -1,6 +1,6 @@
 -- `five_octets` has the bits of four words.
 -- By the octets that two words share.
-use Rattle.std.proofs.Common.{◌/◌, [], ◌∷◌, ◌∙◌, rules}
+use Rattle.std.proofs.Common.{◌/◌, [], ◌∷◌, ◌∙◌}
 use Rattle.wire_spec.specs.Bits.{bits}
 use Rattle.wire_row_writer.proofs.FactorLaws.{five-are}
 use Rattle.wire_row_writer.proofs.row.five_octets.Goals as goal

@@ -1,6 +1,6 @@
 -- `shared_octet` is what two neighbouring words put into the octet that they share.
 -- By the factors of the two.
-use Rattle.std.proofs.Common.{◌≡◌, ◌+◌, get_or, arith, rules}
+use Rattle.std.proofs.Common.{◌≡◌, ◌+◌, get_or, arith}
 use Rattle.wire_row_writer.specs.Factors.{factors}
 use Rattle.wire_row_writer.proofs.FactorLaws.{Shared, shared-fits}
 use Rattle.wire_row_writer.proofs.row.shared_octet.Goals as goal

@@ -1,6 +1,6 @@
 -- `step` is 1.
 -- By the last word's factor.
-use Rattle.std.proofs.Common.{arith, rules}
+use Rattle.std.proofs.Common.{arith}
 use Rattle.wire_row_writer.proofs.row.step.Goals as goal
 
 pub overflow_cast-result : goal.overflow_cast-result

@@ -1,6 +1,6 @@
 -- `store_four` stores four words from an octet on, and changes no other bit.
 -- By the five octets that have the words' bits.
-use Rattle.std.proofs.Common.{ℕ, ◌+◌, ◌*◌, ◌<◌, List, length, get_or, ap, ◌∙◌, arith, rules}
+use Rattle.std.proofs.Common.{ℕ, ◌+◌, ◌*◌, ◌<◌, List, length, get_or, ap, ◌∙◌, arith}
 use Rattle.wire_spec.specs.Bits.{bits, field_bits, row, splice}
 use Rattle.wire_spec.specs.Words.{word_bits}
 use Rattle.wire_spec.proofs.BitLaws.{below_at}

@@ -1,6 +1,6 @@
 -- `write_few` stores at most four words from a bit on, and changes no other bit.
 -- By the words stored one after the other.
-use Rattle.std.proofs.Common.{◌≡◌, ℕ, ◌<◌, ◌≤◌, List, length, get_or, take, arith, rules}
+use Rattle.std.proofs.Common.{◌≡◌, ℕ, ◌<◌, ◌≤◌, List, length, get_or, take, arith}
 use Rattle.wire_spec.specs.Bits.{bits, field_bits, row, splice}
 use Rattle.wire_spec.specs.Words.{word_bits}
 use Rattle.wire_spec.proofs.BitLaws.{below_at, length-bits}

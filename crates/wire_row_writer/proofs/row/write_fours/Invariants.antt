@@ -1,10 +1,8 @@
 -- `write_fours` stores the first words from an octet on, and changes no other bit.
 -- Invariant: the first words, four for each turn, are stored.
-use Rattle.std.proofs.Common.{◌≡◌, ℕ, ◌+◌, ◌-◌, ◌*◌, ◌≤◌, length, take, drop, refl, ap, ◌∙◌, arith, rules}
+use Rattle.std.proofs.Common.{◌≡◌, ◌-◌, ◌*◌, ◌≤◌, length, take}
 use Rattle.wire_spec.specs.Bits.{bits, field_bits, row, splice}
 use Rattle.wire_spec.specs.Words.{word_bits}
-use Rattle.wire_spec.proofs.BitLaws.{length-bits}
-use Rattle.wire_row_writer.proofs.Fields.{none-stored, four-stored}
 use Rattle.wire_row_writer.proofs.row.write_fours.Given as goal
 
 abbrev pub invariant-loop-k : goal.invariant-loop-k

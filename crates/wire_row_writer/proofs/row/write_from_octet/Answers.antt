@@ -1,7 +1,7 @@
 -- `write_from_octet` stores the words from an octet on, and changes no other bit.
 -- By its two rows: four words a turn, and the words that are left.
-use Rattle.std.proofs.Common.{◌≡◌, ◌+◌, ◌-◌, ◌*◌, ◌/◌, length, drop, arith, length-drop, length-take, rules}
-use Rattle.wire_spec.specs.Bits.{bits, row}
+use Rattle.std.proofs.Common.{◌≡◌, ◌+◌, ◌-◌, ◌*◌, ◌/◌, length, drop, arith, length-drop, length-take}
+use Rattle.wire_spec.specs.Bits.{bits}
 use Rattle.wire_spec.proofs.BitLaws.{below-take, below-drop, length-bits}
 use Rattle.wire_row_writer.proofs.Fields.{parts-stored}
 use Rattle.wire_row_writer.proofs.row.write_from_octet.Goals as goal

@@ -1,6 +1,5 @@
-use Rattle.std.proofs.Common.{◌≡◌, ◌+◌, ◌-◌, ◌*◌, ◌≤◌, length, take, sym, refl, ◌∙◌, arith, rules}
-use Rattle.wire_spec.specs.Bits.{bits, field_bits, row, splice}
-use Rattle.wire_spec.specs.Words.{word_bits}
+use Rattle.std.proofs.Common.{◌-◌, refl, ◌∙◌, arith}
+use Rattle.wire_spec.specs.Bits.{bits}
 use Rattle.wire_spec.proofs.BitLaws.{below_at, length-bits}
 use Rattle.wire_row_writer.proofs.Fields.{none-stored, next-stored, all-stored}
 use Rattle.wire_row_writer.proofs.row.write_singly.Goals as goal

@@ -1,10 +1,8 @@
 -- `write_singly` stores the words from a bit on, and changes no other bit.
 -- Invariant: the first words are stored.
-use Rattle.std.proofs.Common.{◌≡◌, ◌+◌, ◌-◌, ◌*◌, ◌≤◌, length, take, sym, refl, ◌∙◌, arith, rules}
+use Rattle.std.proofs.Common.{◌≡◌, ◌-◌, ◌≤◌, length, take}
 use Rattle.wire_spec.specs.Bits.{bits, field_bits, row, splice}
 use Rattle.wire_spec.specs.Words.{word_bits}
-use Rattle.wire_spec.proofs.BitLaws.{below_at, length-bits}
-use Rattle.wire_row_writer.proofs.Fields.{none-stored, next-stored, all-stored}
 use Rattle.wire_row_writer.proofs.row.write_singly.Given as goal
 
 abbrev pub invariant-loop-k : goal.invariant-loop-k

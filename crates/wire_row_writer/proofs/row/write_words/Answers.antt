@@ -1,6 +1,6 @@
 -- `write_words` stores the words from a bit on, and changes no other bit.
 -- By its two rows: to the first word that starts an octet, and the words from there on.
-use Rattle.std.proofs.Common.{◌≡◌, ◌+◌, ◌-◌, ◌*◌, ◌/◌, length, take, drop, sym, arith, length-drop, length-take-le, rules}
+use Rattle.std.proofs.Common.{◌≡◌, ◌+◌, ◌-◌, ◌*◌, ◌/◌, length, take, drop, sym, arith, length-drop, length-take-le}
 use Rattle.wire_spec.specs.Bits.{bits}
 use Rattle.wire_spec.proofs.BitLaws.{below-take, below-drop, length-bits}
 use Rattle.wire_row_writer.proofs.Fields.{parts-stored}

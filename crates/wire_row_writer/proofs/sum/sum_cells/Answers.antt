@@ -1,4 +1,4 @@
-use Rattle.std.proofs.Common.{◌≡◌, ℕ, ◌+◌, ◌-◌, ◌*◌, ◌%◌, ◌≤◌, length, get_or, drop, zero-add, add-one, arith, drop-cons, rules}
+use Rattle.std.proofs.Common.{◌≡◌, ℕ, ◌+◌, ◌-◌, ◌%◌, length, get_or, zero-add, add-one, arith, drop-cons}
 use lib.Seq.{drop-length}
 use Rattle.wire_spec.specs.Words.{sum_low}
 use Rattle.wire_row_writer.proofs.sum.sum_cells.Goals as goal

@@ -1,7 +1,6 @@
 -- `sum_cells` is the sum of the low nine bits of the words, modulo 512.
 -- Invariant: what was summed, and the sum of what is left, make the whole sum, modulo 512.
-use Rattle.std.proofs.Common.{◌≡◌, ℕ, ◌+◌, ◌-◌, ◌*◌, ◌%◌, ◌≤◌, length, get_or, drop, zero-add, add-one, arith, drop-cons, rules}
-use lib.Seq.{drop-length}
+use Rattle.std.proofs.Common.{◌≡◌, ◌+◌, ◌-◌, ◌%◌, ◌≤◌, length, drop}
 use Rattle.wire_spec.specs.Words.{sum_low}
 use Rattle.wire_row_writer.proofs.sum.sum_cells.Given as goal
 

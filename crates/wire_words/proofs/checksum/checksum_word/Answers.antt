@@ -1,6 +1,5 @@
 -- `checksum_word` is the checksum word of a sum.
 -- By the definition.
-use borrow.Author.Rules.{rules}
 use mathlib.Core.Path.{refl}
 use Rattle.wire_spec.specs.Words.{checksum_word}
 use Rattle.wire_words.proofs.checksum.checksum_word.Goals as goal

@@ -1,6 +1,5 @@
 -- `back_at` is the thirty-two bits at an octet, its octets in reverse order.
 -- By the number that four octets write.
-use borrow.Author.Rules.{rules}
 use mathlib.Core.Path.{sym, ◌∙◌}
 use Prim.Native.Nat.{ℕ, ◌+◌, ◌<◌}
 use native.Mathlib.Omega.{arith}

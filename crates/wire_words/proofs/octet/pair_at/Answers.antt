@@ -1,6 +1,5 @@
 -- `pair_at` is the sixteen bits at an octet.
 -- By the number that two octets write.
-use borrow.Author.Rules.{rules}
 use mathlib.Core.Path.{sym, ◌∙◌}
 use native.Mathlib.Numerals.{add-one}
 use native.Mathlib.Omega.{arith}

@@ -1,6 +1,5 @@
 -- `quad_at` is the thirty-two bits at an octet.
 -- By its two steps: the octets in reverse order, reversed.
-use borrow.Author.Rules.{rules}
 use mathlib.Core.Path.{◌∙◌}
 use Rattle.wire_words.proofs.octet.quad_at.Goals as goal
 

@@ -1,6 +1,5 @@
 -- `zero` is 0.
 -- By induction: the product of two neighbouring numbers grows by an even number.
-use borrow.Author.Rules.{rules}
 use mathlib.Core.Path.{◌≡◌, refl}
 use Prim.Native.Nat.{ℕ, zero, suc, ◌+◌, ◌*◌, ◌%◌, ◌≤◌}
 use native.Mathlib.Nat.{mul-add, mul-le-mul, suc-mul}

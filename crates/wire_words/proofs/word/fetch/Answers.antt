@@ -1,6 +1,5 @@
 -- `fetch` reads the ten bits from a bit on.
 -- By the quotient that ten bits are of the two octets that hold them.
-use borrow.Author.Rules.{rules}
 use mathlib.Core.Path.{sym}
 use native.Mathlib.Omega.{arith}
 use Rattle.wire_spec.proofs.Window.{ten-at}

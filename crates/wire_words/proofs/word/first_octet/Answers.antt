@@ -1,6 +1,5 @@
 -- `first_octet` is the first of two octets with a word put in.
 -- Every step fits its type, at each of the seven places.
-use borrow.Author.Rules.{rules}
 use Prim.Native.Nat.{◌*◌, ◌^◌, ◌%◌}
 use native.Mathlib.Omega.{arith}
 use Rattle.wire_words.proofs.Unit.{First, first_fits, first-is}

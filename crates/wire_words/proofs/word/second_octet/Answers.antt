@@ -1,6 +1,5 @@
 -- `second_octet` is the second of two octets with a word put in.
 -- Every step fits its type, at each of the seven places.
-use borrow.Author.Rules.{rules}
 use Prim.Native.Nat.{◌*◌, ◌^◌, ◌%◌}
 use native.Mathlib.Omega.{arith}
 use Rattle.wire_words.proofs.Unit.{Second, second_fits, second_is}

@@ -1,6 +1,5 @@
 -- `store` changes the ten bits from a bit on, and no other.
 -- By the law of a field stored in two octets.
-use borrow.Author.Rules.{rules}
 use Prim.Native.Nat.{ℕ, ◌+◌, ◌/◌, ◌<◌}
 use native.Mathlib.Omega.{arith}
 use lib.ListN.{get_or, length-set}

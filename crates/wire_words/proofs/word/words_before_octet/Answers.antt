@@ -1,6 +1,5 @@
 -- `words_before_octet` counts the words to the next one that starts an octet.
 -- By cases on the bit's place in its octet.
-use borrow.Author.Rules.{rules}
 use mathlib.Core.Path.{◌≡◌}
 use Prim.Native.Nat.{ℕ, zero, suc, ◌+◌, ◌-◌, ◌*◌, ◌/◌, ◌%◌, ◌<◌, ◌≤◌}
 use native.Mathlib.Omega.{arith}

@@ -1,7 +1,5 @@
 -- `Header::at` finds the header of the record that starts at a cell, or refuses.
 -- By what `check_record` answers of the cells from there on; behind the last cell there is no record.
-use borrow.Author.Rules.{rules}
-use borrow.Author.Tests.{lt-leb}
 use mathlib.Core.Path.{◌≡◌, ap, sym, ◌∙◌, subst}
 use mathlib.Core.List.{List, []}
 use Prim.Native.Nat.{ℕ, ◌-◌}

@@ -1,6 +1,5 @@
 -- `Tally::plus` counts one packet more.
 -- By whether it comes through.
-use borrow.Author.Rules.{rules}
 use Rattle.anc_tolerant_reader.proofs.check.Tally.plus.Goals as goal
 
 pub returns-then-own : goal.returns-then-own

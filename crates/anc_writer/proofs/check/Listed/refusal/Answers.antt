@@ -1,6 +1,5 @@
 -- `Listed::refusal` gives a list's refusal.
 -- By the variant that each arm is told.
-use borrow.Author.Rules.{rules}
 use Rattle.anc_writer.proofs.check.Listed.refusal.Goals as goal
 
 pub returns-in-Records : goal.returns-in-Records

@@ -1,6 +1,6 @@
 -- `arrive_checked` does one step: the next state, the answer, and the store.
 -- By what was found of the packet, stage by stage.
-use Rattle.std.proofs.Common.{◌≡◌, ℕ, ◌+◌, ◌-◌, ◌≤◌, Bool, true, false, cond, ◌⊎◌, List, length, take, drop, sym, refl, ap, ◌∙◌, inl, inr, ⊎_elim, arith, length-drop, length-take, rules}
+use Rattle.std.proofs.Common.{◌≡◌, ℕ, ◌+◌, ◌-◌, ◌≤◌, Bool, true, false, cond, List, length, take, drop, sym, refl, ap, ◌∙◌, arith, length-drop, length-take}
 use Rattle.wire_spec.specs.Bits.{splice}
 use Rattle.wire_spec.specs.Result.{Result, accepted}
 use Rattle.wire_spec.specs.Cells.{list_in, list_of}
@@ -14,14 +14,11 @@ use Rattle.rtp_strict_reader.specs.declared.packet.Checked.TheVariants as checke
 use Rattle.rtp_strict_reader.specs.declared.packet.Read.TheVariants as read
 use Rattle.rtp_strict_reader.proofs.ReadLaws.{Found, found, summary-is}
 use Rattle.depacketizer_spec.specs.declared.state.State.{State}
-use denote.Enum.Declared.{tag_of}
 use Rattle.depacketizer_sequence.specs.declared.place.Freshness.{Freshness}
 use Rattle.depacketizer_sequence.specs.declared.place.Freshness.TheVariants as freshness
-use Rattle.depacketizer_sequence.specs.contracts.place.Freshness.{the_type}
 use Rattle.depacketizer_spec.specs.Step.{Step, step, gathered, lost, carried, follow, sound, admission}
 use Rattle.depacketizer_sequence.specs.Answers.{freshness_of}
-use Rattle.depacketizer.specs.Answers.{admitted, after_of, arrival_of, carried_by, decision_of, inspected_of}
-use Rattle.depacketizer.specs.Answers.{refused_of}
+use Rattle.depacketizer.specs.Answers.{admitted, after_of, arrival_of, carried_by, decision_of, inspected_of, refused_of}
 use Rattle.depacketizer_spec.proofs.StepLaws.{passed, step-admitted}
 use Rattle.depacketizer.proofs.AdmitLaws.{admits, inspected-packet, is_fresh, packet-refused}
 use Rattle.depacketizer.proofs.DecideLaws.{Sound}
@@ -231,9 +228,9 @@ shape_of-store c = let let-pass : let a = c.args in c.admit-admitted.result ≡ 
     let written : let a = c.args in c.if-decision.store ≡ cond c.decide-decision.result.append (splice a.store.now (from).cells (list_in (from).packets (says).says.records)) a.store.now = let a = c.args in
     let x = list_in (from).packets (says).says.records in
     elim c.if-decision.branch [
-      then-decision w ↦ w.store-is ∙ part-written (from).cells a.store.now x _ (w.read_records.ensures ∙ ap (λ (r : Result Content). cells_after_in (from).packets r (take (length a.store.now - (from).cells) (drop (from).cells a.store.now))) (passes).1)
-    ∙ ap (λ (b : Bool). cond b (splice a.store.now (from).cells x) a.store.now) (sym w.if-decision.true)
-    | else-decision w ↦ w.store-is ∙ ap (λ (b : Bool). cond b (splice a.store.now (from).cells x) a.store.now) (sym w.if-decision.false)
+      | then-decision w ↦ w.store-is ∙ part-written (from).cells a.store.now x _ (w.read_records.ensures ∙ ap (λ (r : Result Content). cells_after_in (from).packets r (take (length a.store.now - (from).cells) (drop (from).cells a.store.now))) (passes).1)
+          ∙ ap (λ (b : Bool). cond b (splice a.store.now (from).cells x) a.store.now) (sym w.if-decision.true)
+      | else-decision w ↦ w.store-is ∙ ap (λ (b : Bool). cond b (splice a.store.now (from).cells x) a.store.now) (sym w.if-decision.false)
     ] in
     let same_size : length c.if-decision.store ≡ length c.args.store.now = let a = c.args in
     let rs = (says).says.records in
@@ -267,9 +264,9 @@ returns c = let let-pass : let a = c.args in c.admit-admitted.result ≡ inspect
     let written : let a = c.args in c.if-decision.store ≡ cond c.decide-decision.result.append (splice a.store.now (from).cells (list_in (from).packets (says).says.records)) a.store.now = let a = c.args in
     let x = list_in (from).packets (says).says.records in
     elim c.if-decision.branch [
-      then-decision w ↦ w.store-is ∙ part-written (from).cells a.store.now x _ (w.read_records.ensures ∙ ap (λ (r : Result Content). cells_after_in (from).packets r (take (length a.store.now - (from).cells) (drop (from).cells a.store.now))) (passes).1)
-    ∙ ap (λ (b : Bool). cond b (splice a.store.now (from).cells x) a.store.now) (sym w.if-decision.true)
-    | else-decision w ↦ w.store-is ∙ ap (λ (b : Bool). cond b (splice a.store.now (from).cells x) a.store.now) (sym w.if-decision.false)
+      | then-decision w ↦ w.store-is ∙ part-written (from).cells a.store.now x _ (w.read_records.ensures ∙ ap (λ (r : Result Content). cells_after_in (from).packets r (take (length a.store.now - (from).cells) (drop (from).cells a.store.now))) (passes).1)
+          ∙ ap (λ (b : Bool). cond b (splice a.store.now (from).cells x) a.store.now) (sym w.if-decision.true)
+      | else-decision w ↦ w.store-is ∙ ap (λ (b : Bool). cond b (splice a.store.now (from).cells x) a.store.now) (sym w.if-decision.false)
     ] in
     let a = c.args in
     let e = ap (λ (x : ℕ). after_of (from) x c.decide-decision.result c.in-Fresh.missing) (number_is) in

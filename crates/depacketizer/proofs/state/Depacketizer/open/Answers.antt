@@ -1,6 +1,6 @@
 -- `open` opens a depacketizer, or gives 24.
 -- By the limit of the payload type.
-use Rattle.std.proofs.Common.{ap, rules, le-leb}
+use Rattle.std.proofs.Common.{ap, le-leb}
 use borrow.Author.Tests.{lt-leb}
 use Rattle.wire_spec.specs.Writing.{max_type}
 use Rattle.depacketizer_spec.specs.declared.state.State.{State}

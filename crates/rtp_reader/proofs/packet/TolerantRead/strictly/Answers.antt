@@ -1,6 +1,5 @@
 -- `TolerantRead::strictly` gives a strict answer with none left out.
 -- By the variant that each arm is told.
-use borrow.Author.Rules.{rules}
 use mathlib.Core.Path.{ap, sym}
 use Rattle.rtp_reader.specs.Answers.{strict_of}
 use Rattle.rtp_reader.proofs.packet.TolerantRead.strictly.Goals as goal

@@ -1,6 +1,5 @@
 -- `Checked::refusal` gives a packet's refusal.
 -- By the variant that each arm is told.
-use borrow.Author.Rules.{rules}
 use Rattle.rtp_strict_reader.proofs.packet.Checked.refusal.Goals as goal
 
 pub returns-in-Packet : goal.returns-in-Packet

@@ -1,6 +1,5 @@
 -- `Stage::refusal` gives a stage's refusal.
 -- By the variant that each arm is told.
-use borrow.Author.Rules.{rules}
 use Rattle.wire_offsets.proofs.stage.Stage.refusal.Goals as goal
 
 pub returns-in-Passed : goal.returns-in-Passed
