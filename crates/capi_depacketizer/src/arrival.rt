@@ -23,13 +23,7 @@ fn rows_fit(state: usize, answer: usize) -> bool
 }
 
 // The state of a depacketizer just opened.
-#[unsafe(no_mangle)]
-pub extern "C" fn jibhotran_open(
-    source: u32,
-    payload_type: u8,
-    state: &mut [u64],
-    answer: &mut [u64],
-) -> u8
+pub fn jibhotran_open(source: u32, payload_type: u8, state: &mut [u64], answer: &mut [u64]) -> u8
     ensures value { result ≡ (open_reply source payload_type state.old answer.old).number }
     ensures state_after { state.new ≡ overwrite (open_numbers source payload_type state.old answer.old) state.old }
     ensures answer_after { answer.new ≡ overwrite (open_reply source payload_type state.old answer.old).row answer.old }
@@ -49,8 +43,7 @@ pub extern "C" fn jibhotran_open(
 }
 
 // One arrival: the next state, the field's cells in the store, and what became of the packet.
-#[unsafe(no_mangle)]
-pub extern "C" fn jibhotran_arrive(
+pub fn jibhotran_arrive(
     layout: u8,
     state: &mut [u64],
     octets: &[u8],

@@ -36,8 +36,7 @@ fn unsound() -> Refusal
 }
 
 // The state of an outlet that holds nothing.
-#[unsafe(no_mangle)]
-pub extern "C" fn jibhotran_outlet_open(state: &mut [u64]) -> u8
+pub fn jibhotran_outlet_open(state: &mut [u64]) -> u8
     ensures value { result ≡ open_number state.old }
     ensures state_after { state.new ≡ overwrite (open_numbers state.old) state.old }
 {
@@ -50,8 +49,7 @@ pub extern "C" fn jibhotran_outlet_open(state: &mut [u64]) -> u8
 }
 
 // Copies a packet into the memory, behind its channel's last.
-#[unsafe(no_mangle)]
-pub extern "C" fn jibhotran_outlet_offer(
+pub fn jibhotran_outlet_offer(
     state: &mut [u64],
     channel: u8,
     packet: &[u8],
@@ -94,8 +92,7 @@ fn accept_taken(channel: u8, octets: usize, answer: &mut [u64]) -> u8
 }
 
 // Hands out the packet whose turn it is, to the first octets of `out`.
-#[unsafe(no_mangle)]
-pub extern "C" fn jibhotran_outlet_take(
+pub fn jibhotran_outlet_take(
     state: &mut [u64],
     memory: &[u8],
     out: &mut [u8],
