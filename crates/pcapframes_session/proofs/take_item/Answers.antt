@@ -26,4 +26,4 @@ pub returns-in-Open : goal.returns-in-Open
 returns-in-Open c = let a = c.args in
     let q = sym (front-open a.port a.session a.octets.now c.in-Open.is) in
     let y = c.take_open in
-    answers a.port a.session a.octets.now a.out.now c.if-out-lt-MAX_FRAME.false y.result (c.take_open.ensures.value ∙ ap (reply_of a.session) q) c.take_open.new.out (c.take_open.ensures.out_after ∙ ap (λ (f : Front Session). out_after f a.out.now) q) c.out-1.given
+    answers a.port a.session a.octets.now a.out.now c.if-out-lt-MAX_FRAME.false y.result (c.take_open.ensures.value ∙ ap (reply_of a.session) q) c.take_open.new.out (c.take_open.ensures.out_after ∙ ap (λ (f : Front Session). out_after f a.out.now) q) c.take_open.auto.out

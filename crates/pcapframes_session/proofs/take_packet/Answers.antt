@@ -20,7 +20,7 @@ returns-then-not-is_link_taken c = let a = c.args in
 
 pub take_found-requires : goal.take_found-requires
 take_found-requires c = let a = c.args in
-    (c.requires.0, found-fits a.packet.now a.link a.port (length a.out.now) (λ j. (c.shared_slice_known-1.given j).fits) c.requires.1 c.find.result c.find.ensures)
+    (c.requires.0, found-fits a.packet.now a.link a.port (length a.out.now) (λ j. (c.type_inv.packet j).fits) c.requires.1 c.find.result c.find.ensures)
 
 pub returns : goal.returns
 returns c = let a = c.args in

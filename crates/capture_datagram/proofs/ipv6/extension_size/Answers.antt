@@ -17,10 +17,10 @@ returns c = rw (ne_eqb _ _ c.if-next-eq-FRAGMENT.false, c.octet.ensures)
 
 pub overflow_add-result : goal.overflow_add-result
 overflow_add-result c = let small : c.octet.result < 256 = let a = c.args in
-    omega (arith, c.octet.ensures, get_or-drop a.at a.packet.now 1 0, (c.shared_slice_known-1.given (a.at + 1)).fits) in
+    omega (arith, c.octet.ensures, get_or-drop a.at a.packet.now 1 0, (c.type_inv.packet (a.at + 1)).fits) in
     omega (arith, small)
 
 pub overflow_mul-result : goal.overflow_mul-result
 overflow_mul-result c = let small : c.octet.result < 256 = let a = c.args in
-    omega (arith, c.octet.ensures, get_or-drop a.at a.packet.now 1 0, (c.shared_slice_known-1.given (a.at + 1)).fits) in
+    omega (arith, c.octet.ensures, get_or-drop a.at a.packet.now 1 0, (c.type_inv.packet (a.at + 1)).fits) in
     omega (arith, small)
