@@ -1,5 +1,5 @@
 //! Links the proved archives of the C boundary, in the folder that CAPI_DIR
-//! names, otherwise where `rt staticlib` puts them.
+//! names, otherwise where `tools/build` puts them.
 
 use std::env;
 use std::path::PathBuf;
@@ -25,7 +25,7 @@ fn main() {
         let path = archive.display();
         println!("cargo:rerun-if-changed={path}");
         if !archive.is_file() {
-            println!("cargo:warning=no archive {path}: run `rt staticlib {name}`, or set CAPI_DIR");
+            println!("cargo:warning=no archive {path}: run `tools/build`, or set CAPI_DIR");
         }
         println!("cargo:rustc-link-lib=static={name}");
     }
