@@ -8,10 +8,8 @@ use wire_spec::refusal::Refusal;
 
 fn half_held() -> State {
     let mut slots = [0u8; SLOTS];
-    let mut k: usize = 0;
-    while k < SLOTS {
+    for k in 0..SLOTS {
         slots[k] = k as u8;
-        k += 1;
     }
     State {
         heads: [0; CHANNELS],
@@ -90,10 +88,8 @@ fn try_number(
 ) {
     number(stdout, label, value as u64);
     print(stdout, b" ");
-    let mut k: usize = 0;
-    while k < places {
+    for k in 0..places {
         mark(stdout, changed(which, k, value), memory);
-        k += 1;
     }
     print(stdout, b"\n");
 }

@@ -48,10 +48,8 @@ fn take(stdout: Stdout, state: State, memory: &[u8]) -> State {
 // One channel offers so many packets.
 fn reload(stdout: Stdout, state: State, packets: u8, memory: &mut [u8]) -> State {
     let mut now = state;
-    let mut k: u8 = 0;
-    while k < packets {
+    for k in 0..packets {
         now = offer(stdout, now, RELOADING, k, memory);
-        k += 1;
     }
     now
 }
@@ -59,10 +57,8 @@ fn reload(stdout: Stdout, state: State, packets: u8, memory: &mut [u8]) -> State
 // Each of the channels offers one packet.
 fn trickle(stdout: Stdout, state: State, memory: &mut [u8]) -> State {
     let mut now = state;
-    let mut c: usize = 0;
-    while c < CHANNELS {
+    for c in 0..CHANNELS {
         now = offer(stdout, now, c as u8, 0x80, memory);
-        c += 1;
     }
     now
 }
@@ -70,11 +66,9 @@ fn trickle(stdout: Stdout, state: State, memory: &mut [u8]) -> State {
 // So many takes, the reload going on between them.
 fn serve(stdout: Stdout, state: State, takes: u8, memory: &mut [u8]) -> State {
     let mut now = state;
-    let mut k: u8 = 0;
-    while k < takes {
+    for k in 0..takes {
         now = take(stdout, now, memory);
         now = offer(stdout, now, RELOADING, k, memory);
-        k += 1;
     }
     now
 }

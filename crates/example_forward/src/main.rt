@@ -97,12 +97,10 @@ fn same(a: &[u8], b: &[u8]) -> bool {
     if a.len() != b.len() {
         return false;
     }
-    let mut k: usize = 0;
-    while k < a.len() {
+    for k in 0..a.len() {
         if a[k] != b[k] {
             return false;
         }
-        k += 1;
     }
     true
 }
@@ -215,9 +213,7 @@ fn main(rt: HostRuntime) {
     };
     let mut now = depacketizer;
     let mut store = [0u16; 64];
-    let mut k: usize = 0;
-    while k < PACKETS {
+    for k in 0..PACKETS {
         now = arrive(stdout, now, k, &mut store);
-        k += 1;
     }
 }

@@ -1,5 +1,5 @@
 -- By the buffers' sizes; the length of a long array comes by a law, and is not counted.
-use Rattle.std.proofs.Common.{◌≡◌, ℕ, sym, arith}
+use Rattle.std.proofs.Common.{sym, arith}
 use Rattle.program_spec.proofs.RunLaws.{zeros}
 use Rattle.pcapframes_turns.specs.Turns.{Enough}
 use Rattle.pcapframes_turns.proofs.TurnLaws.{still-enough}
