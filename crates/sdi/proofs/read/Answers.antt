@@ -87,11 +87,11 @@ returns-else-cells-need c = let placed : position_ok c.args.position ≡ true = 
     let found-is : let a = c.args in c.check_packets-found.result ≡ found_of (packets_in a.position (drop a.start a.line.now)) = let a = c.args in
     c.check_packets-found.ensures a.position ∙ ap (λ (x : List ℕ). found_of (packets_in a.position x)) (part-all a.start a.line.now) in
     let here : let a = c.args in FoundThere a.position (drop a.start a.line.now) c.in-Packets.count c.in-Packets.used = found-there _ ((position-iff _).0 (placed)) _ _ _ (sym (found-is) ∙ c.in-Packets.is) in
-    let room : length (list_of (here).records) ≤ length c.args.cells.now = omega (arith, (here).cells, c.if-cells-need.false) in
+    let fits : length (list_of (here).records) ≤ length c.args.cells.now = omega (arith, (here).cells, c.if-cells-need.false) in
     let cells_are : let a = c.args in found_cells (packets_in a.position (drop a.start a.line.now)) ≡ list_of (here).records = ap found_cells (here).packets in
     let a = c.args in
     let h = here in
     let r = c.read_packets in let both = read_is a.line.now a.start a.position a.cells.now (accepted h.records)
-    (read_fits a.line.now a.start a.position a.cells.now c.if-line-gt-MAX_LINE.false c.if-start-line.false (placed) (in-range) h.records h.packets (room)) _ _
+    (read_fits a.line.now a.start a.position a.cells.now c.if-line-gt-MAX_LINE.false c.if-start-line.false (placed) (in-range) h.records h.packets (fits)) _ _
     (sym (λ j. read_line.Records (h.count j) (h.cells j) (a.start + h.words j)))
     (c.read_packets.ensures ∙ ap (λ (x : List ℕ). overwrite (found_cells (packets_in a.position x)) a.cells.now) (part-all a.start a.line.now) ∙ ap (λ (x : List ℕ). overwrite x a.cells.now) (cells_are)) in record { value = both.0; cells_after = both.1 }

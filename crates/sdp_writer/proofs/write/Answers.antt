@@ -109,7 +109,7 @@ put_vpid-end-requires c = let a = c.args in
 
 pub returns : goal.returns
 returns c = let a = c.args in
-    let few : length a.pairs.now ≤ 2 * max_pairs = omega (arith, c.if-pairs-gt-MAX_PAIRS.false, c.if-pairs-ne0.false) in
+    let within : length a.pairs.now ≤ 2 * max_pairs = omega (arith, c.if-pairs-gt-MAX_PAIRS.false, c.if-pairs-ne0.false) in
     let room = subst (λ (n : ℕ). n ≤ length a.out.now) c.text_size-size.ensures c.if-out-size.false in
     let put = all-put a.pairs.now a.vpid a.out.now room _ _ c.put_pairs-to.ensures _ _ c.put_vpid-end.ensures in
-    let even = c.if-pairs-ne0.false in let both = put-answers _ a.out.now _ _ put (fits a.pairs.now a.vpid a.out.now even few room) in record { value = both.0; out_after = both.1 }
+    let even = c.if-pairs-ne0.false in let both = put-answers _ a.out.now _ _ put (fits a.pairs.now a.vpid a.out.now even within room) in record { value = both.0; out_after = both.1 }
