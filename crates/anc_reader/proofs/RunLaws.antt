@@ -10,7 +10,7 @@ use borrow.Author.Tests.{leb-true}
 use Rattle.wire_spec.specs.declared.refusal.Refusal.{Refusal}
 use Rattle.wire_spec.specs.declared.count.WordCount.{WordCount}
 use Rattle.wire_spec.specs.Bits.{overwrite, splice}
-use Rattle.wire_spec.specs.Result.{Result, refused, accepted, ◌then◌, IsAccepted}
+use Rattle.wire_spec.specs.Result.{Result, Err, Ok, ◌then◌, IsAccepted}
 use Rattle.wire_spec.specs.Layout.{Layout}
 use Rattle.wire_spec.specs.Anc.{Record, anc_record, anc_size, data_count, anc_checks, read_anc, read_run, behind, run_size}
 use Rattle.wire_spec.specs.Cells.{head_cells, cells_in, list_of}
@@ -19,43 +19,41 @@ use Rattle.wire_spec.proofs.ResultLaws.{judge-accepts}
 use Rattle.wire_spec.proofs.AncLaws.{count-read, record-read}
 use Rattle.anc_reader.proofs.PacketLaws.{length-words}
 use Rattle.anc_reader.specs.Answers.{verdict_of, run_of, run_cells_in}
-use Rattle.anc_reader.specs.declared.check.Verdict.TheVariants as verdict
 use Rattle.anc_reader.specs.declared.check.Run.{Run}
-use Rattle.anc_reader.specs.declared.check.Run.TheVariants as run
 
 module _ (L : Layout) where
   -- a run behind octets and cells that were counted
-  abbrev pub tally : ℕ → ℕ → Result (List Record × List ℕ) → Run
-  tally o c (refused x) = run.Refused x
-  tally o c (accepted q) = run.Accepted (record { 0 = o + run_size L q.0 }) (c + length (list_of q.0))
+  abbrev pub tally : ℕ → ℕ → Result (List Record × List ℕ) → Result Run
+  tally o c (Err x) = Err x
+  tally o c (Ok q) = Ok (record { octets = record { 0 = o + run_size L q.0 }; cells = c + length (list_of q.0) })
 
   pub tally-none : (x : Result (List Record × List ℕ)) → tally 0 0 x ≡ run_of L x
-  tally-none (refused x) = refl
-  tally-none (accepted q) = rw (zero-add (run_size L q.0), zero-add (length (list_of q.0)))
+  tally-none (Err x) = refl
+  tally-none (Ok q) = rw (zero-add (run_size L q.0), zero-add (length (list_of q.0)))
 
   tally-cons : (o c : ℕ) (r : Record) (x : Result (List Record × List ℕ))
-      → tally o c (x then λ q. accepted (r ∷ q.0, q.1)) ≡ tally (o + anc_size L (length r.words)) (c + (head_cells + length r.words)) x
-  tally-cons o c r (refused x) = refl
-  tally-cons o c r (accepted q) =
-      ap₂ (λ (a b : ℕ). run.Accepted (record { 0 = a }) b) (omega arith) (omega (arith, length-append r.words (list_of q.0)))
+      → tally o c (x then λ q. Ok (r ∷ q.0, q.1)) ≡ tally (o + anc_size L (length r.words)) (c + (head_cells + length r.words)) x
+  tally-cons o c r (Err x) = refl
+  tally-cons o c r (Ok q) =
+      ap₂ (λ (a b : ℕ). Ok (record { octets = record { 0 = a }; cells = b })) (omega arith) (omega (arith, length-append r.words (list_of q.0)))
 
   -- the size of an accepted packet is there
-  pub size_fits : (s : List ℕ) (i : ℕ) (r : Record) → read_anc L i s ≡ accepted r → anc_size L (data_count L s) ≤ length s
+  pub size_fits : (s : List ℕ) (i : ℕ) (r : Record) → read_anc L i s ≡ Ok r → anc_size L (data_count L s) ≤ length s
   unfolding read_anc anc_checks
   size_fits s i r e =
-      let p = (judge-accepts i (anc_checks L s) (accepted (anc_record L s)) r e).0 in
+      let p = (judge-accepts i (anc_checks L s) (Ok (anc_record L s)) r e).0 in
       leb-true (anc_size L (data_count L s)) (length s) search
 
   module _ (s : List ℕ) (i m o c : ℕ) where
     -- the first packet is refused: so is the run
-    pub refused-next : (x : Refusal) → verdict_of (read_anc L i s) ≡ verdict.Refused x → tally o c (read_run L i (suc m) s) ≡ run.Refused x
+    pub refused-next : (x : Refusal) → verdict_of (read_anc L i s) ≡ Err x → tally o c (read_run L i (suc m) s) ≡ Err x
     unfolding read_run
     refused-next x h = go (read_anc L i s) h
       where
-        go : (v : Result Record) → verdict_of v ≡ verdict.Refused x
-            → tally o c (v then λ r. read_run L (i + 1) m (behind L s) then λ q. accepted (r ∷ q.0, q.1)) ≡ run.Refused x
-        go (refused y) h = let e : y ≡ x = cc in ap run.Refused e
-        go (accepted r) h = let z : ◌≡◌ {A = ℕ} 0 1 = cc in absurd (omega arith)
+        go : (v : Result Record) → verdict_of v ≡ Err x
+            → tally o c (v then λ r. read_run L (i + 1) m (behind L s) then λ q. Ok (r ∷ q.0, q.1)) ≡ Err x
+        go (Err y) h = let e : y ≡ x = cc in ap Err e
+        go (Ok r) h = let z : ◌≡◌ {A = ℕ} 0 1 = cc in absurd (omega arith)
 
     -- the first packet is accepted: the run goes on behind it
     pub record Next (w : WordCount) : Type 0 where
@@ -64,13 +62,13 @@ module _ (L : Layout) where
       pub goes : tally o c (read_run L i (suc m) s)
           ≡ tally (o + anc_size L w.0) (c + (head_cells + w.0)) (read_run L (i + 1) m (drop (anc_size L w.0) s))
 
-    pub accepted-next : (w : WordCount) → verdict_of (read_anc L i s) ≡ verdict.Accepted w → Next w
+    pub accepted-next : (w : WordCount) → verdict_of (read_anc L i s) ≡ Ok w → Next w
     unfolding read_run
     accepted-next w h = go (read_anc L i s) refl h
       where
-        go : (v : Result Record) → read_anc L i s ≡ v → verdict_of v ≡ verdict.Accepted w → Next w
-        go (refused y) e h = let z : ◌≡◌ {A = ℕ} 0 1 = cc in absurd (omega arith)
-        go (accepted r) e h =
+        go : (v : Result Record) → read_anc L i s ≡ v → verdict_of v ≡ Ok w → Next w
+        go (Err y) e h = let z : ◌≡◌ {A = ℕ} 0 1 = cc in absurd (omega arith)
+        go (Ok r) e h =
             let a : record { 0 = length r.words } ≡ w = cc in
             let k : length r.words ≡ w.0 = ap (λ (x : WordCount). x.0) a in
             let d : data_count L s ≡ w.0 = count-read L s i r e ∙ k in
@@ -78,7 +76,7 @@ module _ (L : Layout) where
               count = d;
               fits = subst (λ (n : ℕ). anc_size L n ≤ length s) d (size_fits s i r e);
               goes =
-                  ap (λ v. tally o c (v then λ r. read_run L (i + 1) m (behind L s) then λ q. accepted (r ∷ q.0, q.1))) e
+                  ap (λ v. tally o c (v then λ r. read_run L (i + 1) m (behind L s) then λ q. Ok (r ∷ q.0, q.1))) e
                   ∙ tally-cons o c r (read_run L (i + 1) m (behind L s))
                   ∙ rw (k, d);
             }
@@ -95,15 +93,15 @@ module _ (L : Layout) where
     reads-next h = go (read_anc L i s) refl (read_run L (i + 1) m (behind L s)) refl h
       where
         go : (v : Result Record) → read_anc L i s ≡ v → (y : Result (List Record × List ℕ)) → read_run L (i + 1) m (behind L s) ≡ y
-            → IsAccepted {A = List Record × List ℕ} (v then λ r. y then λ q. accepted (r ∷ q.0, q.1)) → Reads
-        go (refused x) e y f h = absurd h
-        go (accepted r) e (refused x) f h = absurd h
-        go (accepted r) e (accepted q) f h =
+            → IsAccepted {A = List Record × List ℕ} (v then λ r. y then λ q. Ok (r ∷ q.0, q.1)) → Reads
+        go (Err x) e y f h = absurd h
+        go (Ok r) e (Err x) f h = absurd h
+        go (Ok r) e (Ok q) f h =
             record {
               fits = size_fits s i r e;
               more = subst IsAccepted (sym f) tt;
               cells =
-                  ap₂ (λ v y. run_cells_in p (v then λ r. y then λ q. accepted (r ∷ q.0, q.1))) e f
+                  ap₂ (λ v y. run_cells_in p (v then λ r. y then λ q. Ok (r ∷ q.0, q.1))) e f
                   ∙ ap₂ (λ (x : Record) (y : Result (List Record × List ℕ)). cells_in p x ++ run_cells_in p y) (sym (record-read L s i r e)) (sym f);
             }
 

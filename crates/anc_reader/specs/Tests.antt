@@ -1,6 +1,6 @@
 -- The tests of a packet by the bits at which its parts start, whatever its layout.
 use Rattle.std.specs.Prelude.{Bool, List, ◌++◌, ℕ, ◌-◌, eqb, drop}
-use Rattle.wire_spec.specs.Result.{Result, accepted, judge}
+use Rattle.wire_spec.specs.Result.{Result, Ok, judge}
 use Rattle.wire_spec.specs.Bits.{bits_at, row_at}
 use Rattle.wire_spec.specs.Words.{word_bits}
 use Rattle.wire_spec.specs.Layout.{Layout}
@@ -17,7 +17,7 @@ zero_bits s from to = eqb (bits_at s from (to - from)) 0
 
 -- "each ANC packet in turn: 9 (under 12 octets left), 10, 9 (its size), ..": what follows these three, 15, 16, 11, 12
 abbrev pub read_anc_content : Layout → ℕ → List ℕ → Result Record
-read_anc_content L i s = judge i (drop 3 (anc_checks L s)) (accepted (anc_record L s))
+read_anc_content L i s = judge i (drop 3 (anc_checks L s)) (Ok (anc_record L s))
 
 -- the octet of S and StreamNum, behind C, line and offset: "Records come out with F, S and StreamNum zero" in the drafts' layout
 abbrev pub stream_octet : Layout → ℕ → ℕ

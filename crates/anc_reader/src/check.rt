@@ -3,9 +3,9 @@ ghost use Rattle.std.specs.Prelude.{◌≡◌, true, ◌+◌, ◌*◌, ◌<◌, 
 ghost use Rattle.wire_spec.specs.Anc.{anc_size, are_header_words, data_count, did_at, headers_ok, r_ok, read_anc, read_run, words_at};
 ghost use Rattle.wire_spec.specs.Bits.{bits_at, row_at};
 ghost use Rattle.wire_spec.specs.Layout.{least_size};
-ghost use Rattle.wire_spec.specs.Words.{HeaderTable, checksum_word, is_header_word, word_bits};
+ghost use Rattle.wire_spec.specs.Words.{checksum_word, word_bits};
 ghost use Rattle.wire_words.specs.Word.{WordsFit};
-ghost use Rattle.anc_reader.specs.Answers.{run_of, run_refusal, verdict_of};
+ghost use Rattle.anc_reader.specs.Answers.{run_of, verdict_of};
 ghost use Rattle.wire_row_scan.specs.Clear.{Scanned};
 ghost use Rattle.anc_reader.specs.Tests.{packet_words, read_anc_content, zero_bits};
 
@@ -16,46 +16,31 @@ use wire_spec::count::{OctetCount, WordCount};
 use wire_spec::layout::{
     DID_AT, DRAFT_DID_AT, DRAFT_R_AT, DRAFT_WORDS_AT, HEADER_NUMBERS, Layout, WORD_BITS,
 };
-use wire_spec::refusal::Refusal;
+use wire_spec::refusal::{Refusal, refuse_at};
 use wire_words::checksum::checksum_word;
 use wire_words::octet::quad_at;
+use wire_words::table::{HeaderWords, header_words};
 use wire_words::word::fetch;
-
-// What one packet is.
-#[derive(Clone, Copy)]
-pub enum Verdict {
-    Accepted(WordCount),
-    Refused(Refusal),
-}
 
 // What a run of packets is: the octets that it takes, and the cells that its records take.
 #[derive(Clone, Copy)]
-pub enum Run {
-    Accepted { octets: OctetCount, cells: usize },
-    Refused(Refusal),
-}
-
-// The table's word for the number that the word carries is the word.
-fn is_header_word(w: u16, table: &[u16; 256]) -> bool
-    requires { HeaderTable table.now }
-    ensures { result ≡ is_header_word w }
-{
-    let x = (w % HEADER_NUMBERS) as usize;
-    w == table[x]
+pub struct Run {
+    pub octets: OctetCount,
+    pub cells: usize,
 }
 
 // The three words from the bit `at` on: DID, SDID and Data_Count.
-fn header_words_ok(octets: &[u8], at: usize, table: &[u16; 256]) -> bool
-    requires { HeaderTable table.now × WordsFit octets.now at 3 }
+fn header_words_ok(octets: &[u8], at: usize, table: &HeaderWords) -> bool
+    requires { WordsFit octets.now at 3 }
     ensures { result ≡ are_header_words (row_at word_bits octets.now at 3) }
 {
-    if !is_header_word(fetch(octets, at), table) {
+    if !table.has(fetch(octets, at)) {
         return false;
     }
-    if !is_header_word(fetch(octets, at + WORD_BITS), table) {
+    if !table.has(fetch(octets, at + WORD_BITS)) {
         return false;
     }
-    is_header_word(fetch(octets, at + 2 * WORD_BITS), table)
+    table.has(fetch(octets, at + 2 * WORD_BITS))
 }
 
 // Of DID, SDID, Data_Count and `n` user data words: one row in RFC 8331's layout, two in the drafts', where R stands between them.
@@ -105,32 +90,6 @@ fn r_ok(layout: Layout, octets: &[u8]) -> bool
     }
 }
 
-impl Run {
-    // The refusal of a run.
-    pub fn refusal(self) -> Refusal
-        ensures { result ≡ run_refusal self }
-    {
-        match self {
-            Run::Refused(refusal) => refusal,
-            Run::Accepted {
-                octets: _,
-                cells: _,
-            } => Refusal {
-                number: 0,
-                index: 0,
-            },
-        }
-    }
-}
-
-impl Verdict {
-    fn refuse(number: u8, index: usize) -> Verdict
-        ensures { result ≡ Verdict.Refused (record { number = number; index = index }) }
-    {
-        Verdict::Refused(Refusal { number, index })
-    }
-}
-
 // 15, 16, 11 and 12 of the packet at the front of the octets, which is all there and passed 10. A header word that passed is no protected word, so one
 // pass over them and the user data words tells of these.
 fn check_content(
@@ -139,75 +98,69 @@ fn check_content(
     words: WordCount,
     size: OctetCount,
     index: usize,
-) -> Verdict
+) -> Result<WordCount, Refusal>
     requires octets_value { headers_ok layout octets.now ≡ true }
     requires octets_value_2 { (data_count layout octets.now ≡ words.0) × (size.0 ≡ anc_size layout words.0) × (size.0 ≤ length octets.now) }
     ensures { result ≡ verdict_of (read_anc_content layout index octets.now) }
 {
     let n = words.0 as usize;
     if !r_ok(layout, octets) {
-        return Verdict::refuse(Refusal::R_BIT_SET, index);
+        return refuse_at(Refusal::R_BIT_SET, index);
     }
     let scan = scan_packet(layout, octets, n);
     if !scan.clear {
-        return Verdict::refuse(Refusal::PROTECTED_WORD, index);
+        return refuse_at(Refusal::PROTECTED_WORD, index);
     }
     if !checksum_ok(layout, octets, n, scan.sum) {
-        return Verdict::refuse(Refusal::CHECKSUM_WRONG, index);
+        return refuse_at(Refusal::CHECKSUM_WRONG, index);
     }
     if !zero_end(octets, words_at(layout) + WORD_BITS * (n + 1), size) {
-        return Verdict::refuse(Refusal::ALIGNMENT_BIT_SET, index);
+        return refuse_at(Refusal::ALIGNMENT_BIT_SET, index);
     }
-    Verdict::Accepted(words)
+    Ok(words)
 }
 
 // The packet at the front of the octets, the run's packet `index`: 9, 10, 9, and its content.
-fn check_packet(layout: Layout, octets: &[u8], index: usize, table: &[u16; 256]) -> Verdict
-    requires { HeaderTable table.now }
+fn check_packet(
+    layout: Layout,
+    octets: &[u8],
+    index: usize,
+    table: &HeaderWords,
+) -> Result<WordCount, Refusal>
     ensures { result ≡ verdict_of (read_anc layout index octets.now) }
 {
     if octets.len() < least_size(layout) {
-        return Verdict::refuse(Refusal::ANC_CUT, index);
+        return refuse_at(Refusal::ANC_CUT, index);
     }
     let did = did_at(layout);
     if !header_words_ok(octets, did, table) {
-        return Verdict::refuse(Refusal::HEADER_WORD_MALFORMED, index);
+        return refuse_at(Refusal::HEADER_WORD_MALFORMED, index);
     }
     let words = WordCount((fetch(octets, did + 2 * WORD_BITS) % HEADER_NUMBERS) as u8);
     let size = packet_size(layout, words);
     if octets.len() < size.0 {
-        return Verdict::refuse(Refusal::ANC_CUT, index);
+        return refuse_at(Refusal::ANC_CUT, index);
     }
     check_content(layout, octets, words, size, index)
 }
 
 // `count` packets at the front of the octets.
-pub fn check_run(layout: Layout, octets: &[u8], count: usize) -> Run
+pub fn check_run(layout: Layout, octets: &[u8], count: usize) -> Result<Run, Refusal>
     ensures { result ≡ run_of layout (read_run layout 0 count octets.now) }
 {
-    let table = wire_words::table::header_words();
+    let table = header_words();
     let mut rest = octets;
     let mut used = OctetCount(0);
     let mut cells: usize = 0;
-    let mut i: usize = 0;
-    while i < count {
-        let verdict = check_packet(layout, rest, i, &table);
-        match verdict {
-            Verdict::Refused(refusal) => {
-                return Run::Refused(refusal);
-            }
-            Verdict::Accepted(words) => {
-                let size = packet_size(layout, words);
-                let step = size.0;
-                rest = &rest[step..];
-                used = plus(used, size);
-                cells += Header::CELLS + (words.0 as usize);
-            }
-        }
-        i += 1;
+    for i in 0..count {
+        let words = check_packet(layout, rest, i, &table)?;
+        let size = packet_size(layout, words);
+        rest = &rest[size.0..];
+        used = plus(used, size);
+        cells += Header::CELLS + (words.0 as usize);
     }
-    Run::Accepted {
+    Ok(Run {
         octets: used,
         cells,
-    }
+    })
 }

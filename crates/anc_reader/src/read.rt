@@ -21,10 +21,8 @@ fn read_singly(octets: &[u8], bit: usize, count: usize, cells: &mut [u16])
     requires { WordsFit octets.now bit count × (count ≤ length cells.old) }
     ensures { cells.new ≡ overwrite (row_at word_bits octets.now bit count) cells.old }
 {
-    let mut k: usize = 0;
-    while k < count {
+    for k in 0..count {
         cells[k] = fetch(octets, bit + WORD_BITS * k);
-        k += 1;
     }
 }
 
@@ -61,13 +59,11 @@ pub fn read_run(layout: Layout, octets: &[u8], count: usize, index: u16, cells: 
 {
     let mut rest = octets;
     let mut to: usize = 0;
-    let mut i: usize = 0;
-    while i < count {
+    for i in 0..count {
         let words = read_packet(layout, rest, index, &mut cells[to..]);
         let size = packet_size(layout, words);
         let step = size.0;
         rest = &rest[step..];
         to += Header::CELLS + (words.0 as usize);
-        i += 1;
     }
 }

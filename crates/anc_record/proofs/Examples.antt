@@ -4,7 +4,7 @@ use mathlib.Core.Path.{◌≡◌, refl}
 use mathlib.Core.Bool.{true, false}
 use mathlib.Core.List.{[], ◌∷◌}
 use Rattle.wire_spec.specs.Cells.{list_of, cell_record, head_in_range, cell_checks}
-use Rattle.wire_spec.specs.Result.{accepted, refuse}
+use Rattle.wire_spec.specs.Result.{Ok, refuse}
 use Rattle.wire_spec.proofs.Examples.{a, b}
 use Rattle.anc_record.specs.declared.location.Line.TheVariants as line
 use Rattle.anc_record.specs.declared.location.Offset.TheVariants as offset
@@ -45,7 +45,7 @@ unfolding line_of offset_of
 places = (refl, refl, refl, refl, refl, refl, refl, refl, refl, refl, refl)
 
 -- A starts at cell 0 and B at cell 9; none starts at 10, nor behind the last cell
-pub headers : (header_at (list_of (a ∷ b ∷ [])) 0 ≡ accepted a_header) × (header_at (list_of (a ∷ b ∷ [])) 9 ≡ accepted b_header)
+pub headers : (header_at (list_of (a ∷ b ∷ [])) 0 ≡ Ok a_header) × (header_at (list_of (a ∷ b ∷ [])) 9 ≡ Ok b_header)
     × (header_at (list_of (a ∷ b ∷ [])) 10 ≡ refuse 20 0) × (header_at (list_of (a ∷ b ∷ [])) 99 ≡ refuse 20 0)
 unfolding line_of offset_of cell_record head_in_range cell_checks header_at
 headers = (refl, refl, refl, refl)

@@ -1,5 +1,6 @@
 -- The record at the front of cells: what its checks say of where it lies, and what `check_record` answers.
 -- By the checks in their order, which all give one number.
+use Rattle.std.specs.Prelude.{Option, Some, None}
 use mathlib.Core.Path.{◌≡◌, refl, ap, ap₂, sym, ◌∙◌}
 use mathlib.Core.Bool.{Bool, true, false, ◌&&◌, true≢false}
 use mathlib.Core.List.{List, [], ◌∷◌}
@@ -9,7 +10,7 @@ use lib.ListN.{length, take, drop, get_or, length-drop}
 use lib.Seq.{length-take-le}
 use lib.Dec.{leb, ltb}
 use borrow.Author.Tests.{leb-true, ltb-true, lt-ltb}
-use Rattle.wire_spec.specs.Result.{Result, accepted, refuse, Checks, judge}
+use Rattle.wire_spec.specs.Result.{Result, Ok, refuse, Checks, judge}
 use Rattle.wire_spec.specs.Words.{word_bits, header_numbers, least_clear, most_clear, is_clear, all_clear}
 use Rattle.wire_spec.specs.Anc.{Each, Record}
 use Rattle.wire_spec.specs.Cells.{head_cells, max_index, cell_count, cell_index, cell_record, all_below, head_in_range, cell_checks, rest}
@@ -18,7 +19,6 @@ use Rattle.wire_spec.proofs.ResultLaws.{Passed, judge-passes, and-true, and_both
 use Rattle.wire_spec.proofs.CellLaws.{front-passed}
 use Rattle.wire_spec.proofs.ListLaws.{part-all}
 use Rattle.anc_record.specs.declared.check.Front.{Front}
-use Rattle.anc_record.specs.declared.check.Front.TheVariants as front
 use Rattle.anc_record.specs.Answers.{front_from, front_of, has_words, is_clear_front}
 
 -- a record whose checks pass lies in the cells, and has as many words as its count says
@@ -57,9 +57,9 @@ rest-is l n e = part-all (head_cells + n) l ∙ ap (λ (k : ℕ). drop (head_cel
 
 -- what `check_record` answers
 pub front-taken : (l : List ℕ) (clear : Bool) → Passed (cell_checks l) → all_clear (cell_record l).words ≡ clear
-    → front.Record (record { 0 = cell_count l }) clear ≡ front_of l
+    → Some (record { words = record { 0 = cell_count l }; clear = clear }) ≡ front_of l
 front-taken l clear p c =
-    sym (ap front_from (judge-passes 0 (cell_checks l) (accepted (cell_record l)) p) ∙ ap₂ (λ (n : ℕ) (x : Bool). front.Record (record { 0 = n }) x) (lies l p).words c)
+    sym (ap front_from (judge-passes 0 (cell_checks l) (Ok (cell_record l)) p) ∙ ap₂ (λ (n : ℕ) (x : Bool). Some (record { words = record { 0 = n }; clear = x })) (lies l p).words c)
 
 -- clear words fit ten bits
 pub clear-below : (ws : List ℕ) → all_clear ws ≡ true → all_below (2 ^ word_bits) ws ≡ true
@@ -78,12 +78,12 @@ module _ (l : List ℕ) where
   pub words_are : take (head_cells + cell_count l - head_cells) (drop head_cells l) ≡ word_cells
   words_are = let e : head_cells + cell_count l - head_cells ≡ cell_count l = omega arith in ap (λ (n : ℕ). take n (drop head_cells l)) e
 
-  pub no_words : has_words l ≡ false → front_of l ≡ front.Malformed
+  pub no_words : has_words l ≡ false → front_of l ≡ None
   unfolding cell_checks
   no_words e = go (leb head_cells (length l)) (head_in_range l) (leb (head_cells + cell_count l) (length l)) e
     where
       go : (a b c : Bool) → (a && (b && c)) ≡ false
-          → front_from (judge 0 ((a, 20) ∷ (b, 20) ∷ (c, 20) ∷ (all_below (2 ^ word_bits) word_cells, 20) ∷ []) (accepted (cell_record l))) ≡ front.Malformed
+          → front_from (judge 0 ((a, 20) ∷ (b, 20) ∷ (c, 20) ∷ (all_below (2 ^ word_bits) word_cells, 20) ∷ []) (Ok (cell_record l))) ≡ None
       go false b c e = refl
       go true false c e = refl
       go true true false e = refl
@@ -106,15 +106,15 @@ module _ (l : List ℕ) where
     unfolding cell_checks
     whole-passes fit = (three.0, (three.1, (three.2, (fit, tt))))
 
-    pub words-large : all_below (2 ^ word_bits) word_cells ≡ false → front_of l ≡ front.Malformed
+    pub words-large : all_below (2 ^ word_bits) word_cells ≡ false → front_of l ≡ None
     unfolding cell_checks
     words-large e = rw (three.0, three.1, three.2, e) refl
 
-    pub words-fit : (clear : Bool) → all_below (2 ^ word_bits) word_cells ≡ true → all_clear word_cells ≡ clear → front.Record (record { 0 = cell_count l }) clear ≡ front_of l
+    pub words-fit : (clear : Bool) → all_below (2 ^ word_bits) word_cells ≡ true → all_clear word_cells ≡ clear → Some (record { words = record { 0 = cell_count l }; clear = clear }) ≡ front_of l
     unfolding cell_record
     words-fit clear fit e = front-taken l clear (whole-passes fit) e
 
-    pub words-clear : all_clear word_cells ≡ true → front.Record (record { 0 = cell_count l }) true ≡ front_of l
+    pub words-clear : all_clear word_cells ≡ true → Some (record { words = record { 0 = cell_count l }; clear = true }) ≡ front_of l
     words-clear e = words-fit true (clear-below word_cells e) e
 
     -- its words tell whether it is clear
@@ -126,12 +126,11 @@ module _ (l : List ℕ) where
         go true false f e = ap is_clear_front (sym (words-fit false f e)) ∙ sym e
         go false false f e = ap is_clear_front (words-large f) ∙ sym e
 
-front-record : (ts : Checks) (r : Record) (w : WordCount) (clear : Bool) → front_from (judge 0 ts (accepted r)) ≡ front.Record w clear
+front-record : (ts : Checks) (r : Record) (w : WordCount) (clear : Bool) → front_from (judge 0 ts (Ok r)) ≡ Some (record { words = w; clear = clear })
     → Passed ts × (w.0 ≡ length r.words) × (clear ≡ all_clear r.words)
 front-record [] r w clear e =
-    let q : w ≡ record { 0 = length r.words } = cc in
-    let c : clear ≡ all_clear r.words = cc in
-    (tt, ap (λ (x : WordCount). x.0) q, c)
+    let q : ◌≡◌ {A = Front} (record { words = w; clear = clear }) (record { words = record { 0 = length r.words }; clear = all_clear r.words }) = cc in
+    (tt, ap (λ (x : Front). x.words.0) q, ap (λ (x : Front). x.clear) q)
 front-record ((true, m) ∷ ts) r w clear e = let p = front-record ts r w clear e in ((refl, p.0), p.1, p.2)
 front-record ((false, m) ∷ ts) r w clear e = let o : ◌≡◌ {A = ℕ} 0 1 = cc in absurd (omega arith)
 
@@ -141,7 +140,7 @@ pub record Taken (l : List ℕ) (w : WordCount) (clear : Bool) : Type 0 where
   pub count : w.0 ≡ cell_count l
   pub told : clear ≡ all_clear (cell_record l).words
 
-pub taken : (l : List ℕ) (w : WordCount) (clear : Bool) → front_of l ≡ front.Record w clear → Taken l w clear
+pub taken : (l : List ℕ) (w : WordCount) (clear : Bool) → front_of l ≡ Some (record { words = w; clear = clear }) → Taken l w clear
 taken l w clear e =
     let p = front-record (cell_checks l) (cell_record l) w clear e in
     record { passed = p.0; count = p.1 ∙ (lies l p.0).words; told = p.2 }
@@ -150,18 +149,18 @@ taken l w clear e =
 pub clear-taken : (l : List ℕ) → is_clear_front (front_of l) ≡ true → Passed (cell_checks l) × (all_clear (cell_record l).words ≡ true)
 clear-taken l h = go (front_of l) refl h
   where
-    go : (f : Front) → front_of l ≡ f → is_clear_front f ≡ true → Passed (cell_checks l) × (all_clear (cell_record l).words ≡ true)
-    go front.Malformed e h = absurd (true≢false (sym h))
-    go (front.Record w clear) e h = let t = taken l w clear e in (t.passed, sym t.told ∙ h)
+    go : (f : Option Front) → front_of l ≡ f → is_clear_front f ≡ true → Passed (cell_checks l) × (all_clear (cell_record l).words ≡ true)
+    go None e h = absurd (true≢false (sym h))
+    go (Some p) e h = let t = taken l p.words p.clear e in (t.passed, sym t.told ∙ h)
 
 -- checks that all give one number give it, whatever the index
 all-one-number : {A : Type 0} (i m : ℕ) (ts : Checks) (r : Record) (x : Result A) → Each (λ (t : Bool × ℕ). t.1 ≡ m) ts
-    → front_from (judge 0 ts (accepted r)) ≡ front.Malformed → judge i ts x ≡ refuse m i
+    → front_from (judge 0 ts (Ok r)) ≡ None → judge i ts x ≡ refuse m i
 all-one-number i m [] r x h e = let o : ◌≡◌ {A = ℕ} 0 1 = cc in absurd (omega arith)
 all-one-number i m ((true, k) ∷ ts) r x h e = all-one-number i m ts r x h.1 e
 all-one-number i m ((false, k) ∷ ts) r x h e = ap (λ (j : ℕ). refuse j i) h.0
 
 -- a malformed record is refused by 20, whatever follows the checks
-pub malformed : {A : Type 0} (i : ℕ) (l : List ℕ) (x : Result A) → front_of l ≡ front.Malformed → judge i (cell_checks l) x ≡ refuse 20 i
+pub malformed : {A : Type 0} (i : ℕ) (l : List ℕ) (x : Result A) → front_of l ≡ None → judge i (cell_checks l) x ≡ refuse 20 i
 unfolding cell_checks
 malformed i l x e = all-one-number i 20 (cell_checks l) (cell_record l) x (refl, (refl, (refl, (refl, tt)))) e

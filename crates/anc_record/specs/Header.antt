@@ -4,7 +4,7 @@ use Rattle.anc_record.specs.declared.header.Header.{Header}
 use Rattle.anc_record.specs.Location.{line_of, line_number, offset_of, offset_number}
 use Rattle.wire_spec.specs.Bits.{bit, Fields}
 use Rattle.wire_spec.specs.Layout.{rfc8331}
-use Rattle.wire_spec.specs.Result.{Result, accepted, judge}
+use Rattle.wire_spec.specs.Result.{Result, Ok, judge}
 use Rattle.wire_spec.specs.Anc.{Record, InRange, location_fields}
 use Rattle.wire_spec.specs.Cells.{cells_in, max_index, cell_record, cell_checks}
 
@@ -47,7 +47,7 @@ header_location h = location_fields rfc8331 (record_of h [])
 
 -- the header of the record that starts at cell `at` of the list; 20: "list malformed: a cell too large for its field, a record cut"
 unfoldable pub header_at : List ℕ → ℕ → Result Header
-header_at l at = judge 0 (cell_checks (drop at l)) (accepted (header_of (cell_record (drop at l))))
+header_at l at = judge 0 (cell_checks (drop at l)) (Ok (header_of (cell_record (drop at l))))
 
 -- the cells of the record `r`, whose numbers are in range, stand from the cell `at` on, with others behind them
 pub record StandsAt (l : List ℕ) (at : ℕ) (r : Record) : Type 0 where

@@ -14,9 +14,9 @@ use wire_spec::limit::MAX_INDEX;
 
 // What the record at the front of a list is: its n, and whether none of its words is a protected one.
 #[derive(Clone, Copy)]
-pub enum Front {
-    Record { words: WordCount, clear: bool },
-    Malformed,
+pub struct Front {
+    pub words: WordCount,
+    pub clear: bool,
 }
 
 // Each cell before the words fits its field.
@@ -40,10 +40,8 @@ pub fn words_in_range(words: &[u16]) -> bool
     ensures { result ≡ all_below (2 ^ word_bits) words.now }
 {
     let mut fit = true;
-    let mut k: usize = 0;
-    while k < words.len() {
-        fit = fit & (words[k] < WORD_NUMBERS);
-        k += 1;
+    for w in words {
+        fit = fit & (*w < WORD_NUMBERS);
     }
     fit
 }
@@ -53,10 +51,8 @@ pub fn words_clear(words: &[u16]) -> bool
     ensures { result ≡ all_clear words.now }
 {
     let mut clear = true;
-    let mut k: usize = 0;
-    while k < words.len() {
-        clear = clear & ((LEAST_CLEAR <= words[k]) & (words[k] <= MOST_CLEAR));
-        k += 1;
+    for w in words {
+        clear = clear & ((LEAST_CLEAR <= *w) & (*w <= MOST_CLEAR));
     }
     clear
 }
@@ -84,23 +80,23 @@ pub fn is_clear_record(cells: &[u16]) -> bool
 }
 
 // The record at the front of the cells. Words are looked at twice only where one is protected or too large.
-pub fn check_record(cells: &[u16]) -> Front
+pub fn check_record(cells: &[u16]) -> Option<Front>
     ensures { result ≡ front_of cells.now }
 {
     if !has_words(cells) {
-        return Front::Malformed;
+        return None;
     }
     let n = cells[Header::COUNT_CELL] as usize;
     let end = Header::CELLS + n;
     let words = WordCount(n as u8);
     if words_clear(&cells[Header::CELLS..end]) {
-        return Front::Record { words, clear: true };
+        return Some(Front { words, clear: true });
     }
     if words_in_range(&cells[Header::CELLS..end]) {
-        return Front::Record {
+        return Some(Front {
             words,
             clear: false,
-        };
+        });
     }
-    Front::Malformed
+    None
 }

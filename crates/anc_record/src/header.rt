@@ -6,10 +6,10 @@ ghost use Rattle.wire_spec.specs.Layout.{rfc8331};
 ghost use Rattle.anc_record.specs.Answers.{found_of};
 ghost use Rattle.anc_record.specs.Header.{header_at, header_of};
 
-use crate::check::{Front, check_record};
+use crate::check::check_record;
 use crate::location::{Line, Location, Offset};
 use wire_spec::count::WordCount;
-use wire_spec::refusal::Refusal;
+use wire_spec::refusal::{Refusal, refuse};
 
 #[derive(Clone, Copy)]
 pub struct Header {
@@ -25,13 +25,6 @@ pub struct Header {
     pub words: WordCount,
 }
 
-// What is found where a header is looked for.
-#[derive(Clone, Copy)]
-pub enum Found {
-    Header(Header),
-    Refused(Refusal),
-}
-
 impl Header {
     // Cells of a record before its words, and the last two of them: n, and the index of its packet within its field (02, K13).
     pub const CELLS: usize = 9;
@@ -41,29 +34,18 @@ impl Header {
     pub const INDEX_CELL: usize = 8;
 
     // The header of the record that starts at the cell `at`, or refusal 20.
-    pub fn at(cells: &[u16], at: usize) -> Found
+    pub fn at(cells: &[u16], at: usize) -> Result<Header, Refusal>
         ensures { result ≡ found_of (header_at cells.now at) }
     {
         if cells.len() < at {
-            return malformed();
+            return refuse(Refusal::LIST_MALFORMED);
         }
         let here = &cells[at..];
-        let front = check_record(here);
-        match front {
-            Front::Malformed => malformed(),
-            Front::Record { words: _, clear: _ } => Found::Header(header_of(here)),
+        match check_record(here) {
+            Some(_) => Ok(header_of(here)),
+            None => refuse(Refusal::LIST_MALFORMED),
         }
     }
-}
-
-// No whole record starts there whose numbers are in range.
-fn malformed() -> Found
-    ensures { result ≡ Found.Refused (record { number = 20; index = 0 }) }
-{
-    Found::Refused(Refusal {
-        number: Refusal::LIST_MALFORMED,
-        index: 0,
-    })
 }
 
 // The header of the record at the front of the cells, which was checked.

@@ -2,9 +2,9 @@
 ghost use Rattle.std.specs.Prelude.{◌≡◌, ◌+◌, ◌<◌, ◌^◌};
 ghost use Rattle.wire_spec.specs.Cells.{head_cells};
 ghost use Rattle.anc_tolerant_spec.specs.Tolerant.{tolerate_run};
-ghost use Rattle.anc_tolerant_reader.specs.Answers.{tallied, tolerant_refusal, tolerant_run_of};
+ghost use Rattle.anc_tolerant_reader.specs.Answers.{tallied, tolerant_run_of};
 
-use crate::packet::{Part, take_packet};
+use crate::packet::take_packet;
 use anc_record::header::Header;
 use wire_offsets::packet_size;
 use wire_spec::count::{OctetCount, WordCount};
@@ -20,24 +20,9 @@ pub struct Tally {
 
 // What a run of packets is: its tally, and the octets behind it.
 #[derive(Clone, Copy)]
-pub enum TolerantRun {
-    Accepted { tally: Tally, left: OctetCount },
-    Refused(Refusal),
-}
-
-impl TolerantRun {
-    // The refusal of a run.
-    pub fn refusal(self) -> Refusal
-        ensures { result ≡ tolerant_refusal self }
-    {
-        match self {
-            TolerantRun::Refused(refusal) => refusal,
-            TolerantRun::Accepted { tally: _, left: _ } => Refusal {
-                number: 0,
-                index: 0,
-            },
-        }
-    }
+pub struct TolerantRun {
+    pub tally: Tally,
+    pub left: OctetCount,
 }
 
 impl Tally {
@@ -60,7 +45,7 @@ impl Tally {
 }
 
 // `count` packets at the front of the octets.
-pub fn check_run(layout: Layout, octets: &[u8], count: usize) -> TolerantRun
+pub fn check_run(layout: Layout, octets: &[u8], count: usize) -> Result<TolerantRun, Refusal>
     ensures { result ≡ tolerant_run_of (tolerate_run layout 0 count octets.now) }
 {
     let mut rest = octets;
@@ -68,23 +53,14 @@ pub fn check_run(layout: Layout, octets: &[u8], count: usize) -> TolerantRun
         omitted: 0,
         cells: 0,
     };
-    let mut i: usize = 0;
-    while i < count {
-        let part = take_packet(layout, rest, i);
-        match part {
-            Part::Refused(refusal) => {
-                return TolerantRun::Refused(refusal);
-            }
-            Part::Taken { words, own } => {
-                let step = packet_size(layout, words).0;
-                rest = &rest[step..];
-                tally = tally.plus(words, own);
-            }
-        }
-        i += 1;
+    for i in 0..count {
+        let part = take_packet(layout, rest, i)?;
+        let step = packet_size(layout, part.words).0;
+        rest = &rest[step..];
+        tally = tally.plus(part.words, part.own);
     }
-    TolerantRun::Accepted {
+    Ok(TolerantRun {
         tally,
         left: OctetCount(rest.len()),
-    }
+    })
 }

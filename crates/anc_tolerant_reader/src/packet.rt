@@ -7,18 +7,18 @@ ghost use Rattle.anc_tolerant_spec.specs.Tolerant.{tolerant_checks};
 ghost use Rattle.anc_reader.specs.Answers.{verdict_of};
 ghost use Rattle.anc_tolerant_reader.specs.Answers.{part_of, tolerate_anc};
 
-use anc_reader::check::{Run, Verdict, check_run, zero_end};
+use anc_reader::check::{check_run, zero_end};
 use wire_offsets::{did_at, packet_size, words_at};
 use wire_spec::count::WordCount;
 use wire_spec::layout::{HEADER_NUMBERS, Layout, WORD_BITS};
-use wire_spec::refusal::Refusal;
+use wire_spec::refusal::{Refusal, refuse_at};
 use wire_words::word::fetch;
 
 // What a packet is: its Data_Count, and whether its checksum is its own.
 #[derive(Clone, Copy)]
-pub enum Part {
-    Taken { words: WordCount, own: bool },
-    Refused(Refusal),
+pub struct Part {
+    pub words: WordCount,
+    pub own: bool,
 }
 
 // Data_Count of the packet at the front of the octets.
@@ -30,7 +30,7 @@ pub(crate) fn data_count(layout: Layout, octets: &[u8]) -> WordCount
 }
 
 // 12 of the packet at the front of the octets, which fails its checksum and nothing before.
-fn left_out(layout: Layout, octets: &[u8], index: usize) -> Part
+fn left_out(layout: Layout, octets: &[u8], index: usize) -> Result<Part, Refusal>
     requires { Passed (take 5 (tolerant_checks layout octets.now)) × (checksum_ok layout octets.now ≡ false) }
     ensures { result ≡ part_of (data_count layout octets.now) (tolerate_anc layout index octets.now) }
 {
@@ -38,41 +38,36 @@ fn left_out(layout: Layout, octets: &[u8], index: usize) -> Part
     let n = words.0 as usize;
     let size = packet_size(layout, words);
     if !zero_end(octets, words_at(layout) + WORD_BITS * (n + 1), size) {
-        return Part::Refused(Refusal {
-            number: Refusal::ALIGNMENT_BIT_SET,
-            index,
-        });
+        return refuse_at(Refusal::ALIGNMENT_BIT_SET, index);
     }
-    Part::Taken { words, own: false }
+    Ok(Part { words, own: false })
 }
 
 // The packet at the front of the octets, the run's packet `index`, in the strict way: a run of one.
-pub(crate) fn check_packet(layout: Layout, octets: &[u8], index: usize) -> Verdict
+pub(crate) fn check_packet(
+    layout: Layout,
+    octets: &[u8],
+    index: usize,
+) -> Result<WordCount, Refusal>
     ensures { result ≡ verdict_of (read_anc layout index octets.now) }
 {
     let run = check_run(layout, octets, 1);
     match run {
-        Run::Accepted {
-            octets: _,
-            cells: _,
-        } => Verdict::Accepted(data_count(layout, octets)),
-        Run::Refused(refusal) => Verdict::Refused(Refusal {
-            number: refusal.number,
-            index,
-        }),
+        Ok(_) => Ok(data_count(layout, octets)),
+        Err(refusal) => refuse_at(refusal.number, index),
     }
 }
 
 // The packet at the front of the octets, the run's packet `index`.
-pub(crate) fn take_packet(layout: Layout, octets: &[u8], index: usize) -> Part
+pub(crate) fn take_packet(layout: Layout, octets: &[u8], index: usize) -> Result<Part, Refusal>
     ensures { result ≡ part_of (data_count layout octets.now) (tolerate_anc layout index octets.now) }
 {
     let verdict = check_packet(layout, octets, index);
     match verdict {
-        Verdict::Accepted(words) => Part::Taken { words, own: true },
-        Verdict::Refused(refusal) => {
+        Ok(words) => Ok(Part { words, own: true }),
+        Err(refusal) => {
             if refusal.number != Refusal::CHECKSUM_WRONG {
-                return Part::Refused(refusal);
+                return Err(refusal);
             }
             left_out(layout, octets, index)
         }

@@ -8,7 +8,6 @@ ghost use Rattle.anc_tolerant_spec.specs.Tolerant.{tolerant_checks, tolerate_run
 ghost use Rattle.anc_tolerant_reader.specs.Answers.{own_cells, taken_cells};
 
 use crate::packet::{check_packet, data_count};
-use anc_reader::check::Verdict;
 use anc_record::header::Header;
 use wire_offsets::packet_size;
 use wire_spec::count::OctetCount;
@@ -30,7 +29,7 @@ fn read_own(layout: Layout, octets: &[u8], cells: &mut [u16]) -> Step
     ensures cells_after { cells.new ≡ overwrite (own_cells layout octets.now) cells.old }
 {
     let verdict = check_packet(layout, octets, 0);
-    let Verdict::Accepted(words) = verdict else {
+    let Ok(words) = verdict else {
         let words = data_count(layout, octets);
         return Step {
             octets: packet_size(layout, words),
@@ -52,12 +51,10 @@ pub fn read_run(layout: Layout, octets: &[u8], count: usize, cells: &mut [u16])
 {
     let mut rest = octets;
     let mut to: usize = 0;
-    let mut i: usize = 0;
-    while i < count {
+    for i in 0..count {
         let step = read_own(layout, rest, &mut cells[to..]);
         let size = step.octets.0;
         rest = &rest[size..];
         to += step.cells;
-        i += 1;
     }
 }

@@ -7,7 +7,7 @@ use lib.ListN.{take, set}
 use Rattle.wire_spec.specs.Bits.{to_bits, num, bits, bits_at, row_at}
 use Rattle.wire_spec.specs.Words.{header_word, checksum_word}
 use Rattle.wire_spec.specs.Layout.{rfc8331, draft2015}
-use Rattle.wire_spec.specs.Result.{accepted, refuse}
+use Rattle.wire_spec.specs.Result.{Ok, refuse}
 use Rattle.wire_spec.specs.Anc.{Record, anc_size, anc_record, headers_ok, r_ok, words_ok, checksum_ok, alignment_ok, anc_checks, read_anc, read_run}
 use Rattle.wire_spec.specs.Packet.{packet_read, header_checks, padding_checks, payload_checks, read_records, read_packet, read_content}
 use Rattle.wire_spec.specs.Writing.{with_records}
@@ -31,10 +31,10 @@ abbrev giving : List Record → ℕ → Tolerated
 giving rs n = record { says = with_records both rs; left_out = n }
 
 -- none, each and both of the two left out; all left out is accepted with no records
-pub left_out_lem : (tolerate_content rfc8331 (packet a_octets b_octets) ≡ accepted (giving (a ∷ b ∷ []) 0))
-    × (tolerate_content rfc8331 (packet bad_a b_octets) ≡ accepted (giving (b ∷ []) 1))
-    × (tolerate_content rfc8331 (packet a_octets bad_b) ≡ accepted (giving (a ∷ []) 1))
-    × (tolerate_content rfc8331 (packet bad_a bad_b) ≡ accepted (giving [] 2))
+pub left_out_lem : (tolerate_content rfc8331 (packet a_octets b_octets) ≡ Ok (giving (a ∷ b ∷ []) 0))
+    × (tolerate_content rfc8331 (packet bad_a b_octets) ≡ Ok (giving (b ∷ []) 1))
+    × (tolerate_content rfc8331 (packet a_octets bad_b) ≡ Ok (giving (a ∷ []) 1))
+    × (tolerate_content rfc8331 (packet bad_a bad_b) ≡ Ok (giving [] 2))
     × (read_content rfc8331 (packet a_octets bad_b) ≡ refuse 11 1)
 unfolding to_bits num bits bits_at row_at header_word checksum_word anc_size anc_record headers_ok r_ok words_ok checksum_ok alignment_ok anc_checks read_anc read_run packet_read header_checks padding_checks payload_checks read_records read_packet read_content tolerant_checks tolerate_run tolerated tolerate_content
 left_out_lem = (refl, refl, refl, refl, refl)
@@ -58,15 +58,15 @@ unfolding to_bits num bits bits_at row_at header_word checksum_word anc_size anc
 not-only = (refl, refl, refl, refl, refl)
 
 -- "14 goes by the records that come through": A takes 9 cells and B 11
-pub refused-14 : (tolerate_into rfc8331 (packet bad_a b_octets) 11 ≡ accepted (giving (b ∷ []) 1))
+pub refused-14 : (tolerate_into rfc8331 (packet bad_a b_octets) 11 ≡ Ok (giving (b ∷ []) 1))
     × (tolerate_into rfc8331 (packet bad_a b_octets) 10 ≡ refuse 14 0)
-    × (tolerate_into rfc8331 (packet bad_a bad_b) 0 ≡ accepted (giving [] 2))
+    × (tolerate_into rfc8331 (packet bad_a bad_b) 0 ≡ Ok (giving [] 2))
     × (tolerate_into rfc8331 (packet a_octets b_octets) 19 ≡ refuse 14 0)
 unfolding to_bits num bits bits_at row_at header_word checksum_word anc_size anc_record headers_ok r_ok words_ok checksum_ok alignment_ok packet_read header_checks padding_checks payload_checks tolerant_checks tolerate_run tolerated tolerate_content tolerate_into
 refused-14 = (refl, refl, refl, refl)
 
 -- the drafts' layout: A left out; 15, and 12 in the place of 11
-pub drafts : (i : ℕ) → (tolerate_run draft2015 i 2 (set draft_a 7 0x90 ++ (plain_b_octets ++ (7 ∷ []))) ≡ accepted (record { records = plain_b ∷ []; left_out = 1; rest = 7 ∷ [] }))
+pub drafts : (i : ℕ) → (tolerate_run draft2015 i 2 (set draft_a 7 0x90 ++ (plain_b_octets ++ (7 ∷ []))) ≡ Ok (record { records = plain_b ∷ []; left_out = 1; rest = 7 ∷ [] }))
     × (tolerate_run draft2015 i 1 (set (set draft_a 6 0x01) 7 0x90) ≡ refuse 15 i)
     × (read_run draft2015 i 1 (set (set draft_a 7 0x90) 8 0x81) ≡ refuse 11 i)
     × (tolerate_run draft2015 i 1 (set (set draft_a 7 0x90) 8 0x81) ≡ refuse 12 i)

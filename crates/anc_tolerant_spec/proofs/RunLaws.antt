@@ -4,16 +4,14 @@ use mathlib.Core.Path.{◌≡◌, refl, ap, ap₂, sym, ◌∙◌, subst}
 use mathlib.Core.Bool.{Bool, true, false, cond}
 use mathlib.Core.Logic.{◌↔◌}
 use mathlib.Core.List.{List, [], ◌∷◌, ◌++◌, append_assoc}
-use Prim.Native.Nat.{ℕ, zero, suc, ◌+◌, ◌^◌, ◌<◌}
+use Prim.Native.Nat.{ℕ, zero, suc, ◌+◌}
 use native.Mathlib.Nat.{suc_inj}
 use native.Mathlib.Omega.{arith}
-use lib.Dec.{eqb}
 use lib.ListN.{length, take, drop, length-append, take-append-drop}
 use lib.Seq.{take_at, drop_at}
 use Rattle.wire_spec.specs.Bits.{Below}
-use Rattle.wire_spec.specs.Words.{word_bits}
 use Rattle.wire_spec.specs.Layout.{Layout}
-use Rattle.wire_spec.specs.Result.{Result, accepted, judge, ◌then◌}
+use Rattle.wire_spec.specs.Result.{Result, Ok, judge, ◌then◌}
 use Rattle.wire_spec.specs.Anc.{Each, Record, WellFormed, checksum, anc_octets_with, run_octets, anc_size, data_count, anc_record, sum_field, checksum_ok, behind}
 use Rattle.wire_spec.proofs.BitLaws.{below-drop}
 use Rattle.wire_spec.proofs.ResultLaws.{Passed, accepted-inj, judge-accepts, judge-passes, then-accepts}
@@ -47,7 +45,7 @@ front L s = record { says = anc_record L s; word = sum_field L s }
 -- A RUN of n ANC packets is accepted in the tolerant way exactly when its octets are n packets, each the octets of a well-formed record with some
 -- ten-bit word in the place of its checksum; those whose word is the record's own come through, in order, and the others are counted
 pub run-through : (L : Layout) (i n : ℕ) (s : List ℕ) → Below 256 s → (q : Taken)
-    → (tolerate_run L i n s ≡ accepted q) ↔ ((ps : List Received) × Gives L n s ps q)
+    → (tolerate_run L i n s ≡ Ok q) ↔ ((ps : List Received) × Gives L n s ps q)
 unfolding tolerate_run
 run-through L i zero s b q = (
   λ e.
@@ -64,8 +62,8 @@ run-through L i zero s b q = (
   λ p. none p.0 p.1,
 )
   where
-    none : (ps : List Received) → Gives L 0 s ps q → accepted (record { records = []; left_out = 0; rest = s }) ≡ accepted q
-    none [] h = ap accepted (λ j. record { records = sym h.through j; left_out = sym h.left_out j; rest = h.octets j })
+    none : (ps : List Received) → Gives L 0 s ps q → ◌≡◌ {A = Result Taken} (Ok (record { records = []; left_out = 0; rest = s })) (Ok q)
+    none [] h = ap Ok (λ j. record { records = sym h.through j; left_out = sym h.left_out j; rest = h.octets j })
     none (p ∷ ps) h = let o : suc (length ps) ≡ 0 = h.count in absurd (omega arith)
 run-through L i (suc n) s b q =
     let ih = run-through L (i + 1) n (behind L s) (below-drop 256 (anc_size L (data_count L s)) s b) in (
@@ -97,9 +95,9 @@ run-through L i (suc n) s b q =
       λ p. back (λ x g. (ih x).1 g) p.0 p.1,
     )
   where
-    back : ((x : Taken) → (ps : List Received) × Gives L n (behind L s) ps x → tolerate_run L (i + 1) n (behind L s) ≡ accepted x)
+    back : ((x : Taken) → (ps : List Received) × Gives L n (behind L s) ps x → tolerate_run L (i + 1) n (behind L s) ≡ Ok x)
         → (ps : List Received) → Gives L (suc n) s ps q
-        → judge i (tolerant_checks L s) (tolerate_run L (i + 1) n (behind L s) then λ q. accepted (through (checksum_ok L s) (anc_record L s) q)) ≡ accepted q
+        → judge i (tolerant_checks L s) (tolerate_run L (i + 1) n (behind L s) then λ q. Ok (through (checksum_ok L s) (anc_record L s) q)) ≡ Ok q
     back ih [] h = let o : 0 ≡ suc n = h.count in absurd (omega arith)
     back ih (p ∷ ps) h =
         let o = anc_octets_with L p.says p.word in
@@ -113,8 +111,8 @@ run-through L i (suc n) s b q =
         ∙ rw e (drop_at o _ size (length-with L p.says p.word)) in
         let more = ih (taken_of ps q.rest) (ps, record { count = suc_inj h.count; formed = h.formed.1; octets = d; through = refl; left_out = refl }) in
         judge-passes i (tolerant_checks L s) _ ((passed-sound L s).1 one.0)
-        ∙ ap (λ x. x then λ q. accepted (through (checksum_ok L s) (anc_record L s) q)) more
-        ∙ ap accepted (
+        ∙ ap (λ x. x then λ q. Ok (through (checksum_ok L s) (anc_record L s) q)) more
+        ∙ ap Ok (
         taken-cons (checksum_ok L s) (front L s) ps q.rest (sym (own-word L s one.0.headers))
         ∙ ap (λ (x : Received). taken_of (x ∷ ps) q.rest) here
         ∙ λ j. record { records = sym h.through j; left_out = sym h.left_out j; rest = q.rest }
@@ -148,7 +146,7 @@ length-records [] = refl
 length-records (p ∷ ps) = ap suc (length-records ps)
 
 -- each packet of an accepted run comes through or is left out
-pub run-counted : (L : Layout) (i n : ℕ) (s : List ℕ) (q : Taken) → tolerate_run L i n s ≡ accepted q → length q.records + q.left_out ≡ n
+pub run-counted : (L : Layout) (i n : ℕ) (s : List ℕ) (q : Taken) → tolerate_run L i n s ≡ Ok q → length q.records + q.left_out ≡ n
 unfolding tolerate_run
 run-counted L i zero s q e = let h = accepted-inj e in subst (λ (x : Taken). length x.records + x.left_out ≡ 0) h refl
 run-counted L i (suc n) s q e =

@@ -1,32 +1,31 @@
 -- Which packets the tolerant way accepts, and what comes through, said of the octets.
 -- From the run's law, and from the laws of a packet around its ANC packets' octets.
-use mathlib.Core.Path.{◌≡◌, refl, ap, sym, ◌∙◌, subst}
-use mathlib.Core.Bool.{true}
+use mathlib.Core.Path.{◌≡◌, refl, ap, sym, ◌∙◌}
 use mathlib.Core.Logic.{◌↔◌}
 use mathlib.Core.List.{List, [], ◌∷◌, ◌++◌, append-nil}
 use Prim.Native.Nat.{ℕ}
 use lib.Dec.{eqb}
-use lib.ListN.{length, take, drop}
-use borrow.Author.Tests.{eqb-true, eq-eqb}
+use lib.ListN.{length, drop}
+use borrow.Author.Tests.{eqb-true}
 use Rattle.wire_spec.specs.Bits.{Below}
 use Rattle.wire_spec.specs.Layout.{Layout}
-use Rattle.wire_spec.specs.Result.{accepted, judge, ◌then◌}
+use Rattle.wire_spec.specs.Result.{Ok, ◌then◌}
 use Rattle.wire_spec.specs.Anc.{Record, run_octets}
-use Rattle.wire_spec.specs.Packet.{Packet, packet_read, WellFormedPacket, length_field, anc_count, run_at, packet_around, header_checks, padding_checks, payload_checks, Content, content}
+use Rattle.wire_spec.specs.Packet.{Packet, packet_read, length_field, anc_count, run_at, header_checks, padding_checks, payload_checks, content}
 use Rattle.wire_spec.specs.Writing.{with_records}
 use Rattle.wire_spec.proofs.BitLaws.{below-take, below-drop}
 use Rattle.wire_spec.proofs.ResultLaws.{accepted-inj, judge-accepts, judge-passes, then-accepts}
 use Rattle.wire_spec.proofs.PacketLaws.{no_length, around-stands}
 use Rattle.wire_spec.proofs.PacketIff.{found, header-found, padding-found, payload-found, region-found, read_found}
-use Rattle.anc_tolerant_spec.specs.Tolerant.{Taken, tolerate_run, Tolerated, tolerated, tolerate_content}
-use Rattle.anc_tolerant_spec.specs.Received.{Received, WellReceived, received_octets, records_of, through_of, left_out_of, Gives, Comes}
+use Rattle.anc_tolerant_spec.specs.Tolerant.{tolerate_run, Tolerated, tolerated, tolerate_content}
+use Rattle.anc_tolerant_spec.specs.Received.{Received, received_octets, records_of, through_of, left_out_of, Comes}
 use Rattle.anc_tolerant_spec.proofs.RunLaws.{run-through, taken_of, length-received, length-records, received-formed}
 use Rattle.anc_tolerant_spec.proofs.PacketLaws.{region}
 
 -- THE TOLERANT WAY ACCEPTS A PACKET exactly when it is the octets of a well-formed packet, but that each of its ANC packets may have any ten-bit
 -- word in the place of its checksum; those whose word is the record's own come through, in order, and the others are counted
 pub comes-through : (L : Layout) (s : List ℕ) → Below 256 s → (t : Tolerated)
-    → (tolerate_content L s ≡ accepted t) ↔ ((p : Packet) × (ps : List Received) × Comes L s p ps t)
+    → (tolerate_content L s ≡ Ok t) ↔ ((p : Packet) × (ps : List Received) × Comes L s p ps t)
 unfolding tolerate_content tolerated packet_read
 comes-through L s below t =
     let reg = region L s in
@@ -73,5 +72,5 @@ comes-through L s below t =
           ∙ judge-passes 0 (padding_checks L s) _ (padding-found L s p o c.formed same c.octets g)
           ∙ judge-passes 0 (payload_checks L s) _ (payload-found L s p o c.formed same c.octets g)
           ∙ ap (λ r. r then tolerated L s) ran
-          ∙ ap accepted (λ j. record { says = says j; left_out = c.left_out j }),
+          ∙ ap Ok (λ j. record { says = says j; left_out = c.left_out j }),
     )

@@ -1,7 +1,7 @@
 -- The tolerant way of reading (02, K9): "a record that fails only its checksum is left out and counted, the rest come through in order".
 use Rattle.std.specs.Prelude.{◌≡◌, Bool, true, false, not, cond, ◌⊎◌, List, [], ◌∷◌, ℕ, zero, suc, ◌+◌, ◌<◌, eqb, leb, length, take, drop}
 use Rattle.wire_spec.specs.Layout.{Layout, least_size}
-use Rattle.wire_spec.specs.Result.{Result, accepted, Checks, judge, ◌then◌}
+use Rattle.wire_spec.specs.Result.{Result, Ok, Checks, judge, ◌then◌}
 use Rattle.wire_spec.specs.Anc.{Record, data_count, anc_size, anc_record, headers_ok, r_ok, words_ok, checksum_ok, alignment_ok, behind}
 use Rattle.wire_spec.specs.Cells.{list_of}
 use Rattle.wire_spec.specs.Packet.{length_field, anc_count, run_at, packet_read, header_checks, padding_checks, payload_checks, Content, content}
@@ -35,10 +35,10 @@ through false r q = record { records = q.records; left_out = suc q.left_out; res
 
 -- `n` packets at the front of the octets `s`, the first with index `i`
 unfoldable pub tolerate_run : Layout → ℕ → ℕ → List ℕ → Result Taken
-tolerate_run L i zero s = accepted (record { records = []; left_out = 0; rest = s })
+tolerate_run L i zero s = Ok (record { records = []; left_out = 0; rest = s })
 tolerate_run L i (suc n) s =
     judge i (tolerant_checks L s)
-    (tolerate_run L (i + 1) n (behind L s) then λ q. accepted (through (checksum_ok L s) (anc_record L s) q))
+    (tolerate_run L (i + 1) n (behind L s) then λ q. Ok (through (checksum_ok L s) (anc_record L s) q))
 
 -- What a packet gives: what it says, with the records that came through, and how many were left out.
 pub record Tolerated : Type 0 where
@@ -49,7 +49,7 @@ pub record Tolerated : Type 0 where
 unfoldable pub tolerated : Layout → List ℕ → Taken → Result Tolerated
 tolerated L s q =
     judge 0 ((eqb (length q.rest) 0, 13) ∷ [])
-    (accepted (record { says = content (packet_read L q.records s); left_out = q.left_out }))
+    (Ok (record { says = content (packet_read L q.records s); left_out = q.left_out }))
 
 -- a packet, in 01's "Order of reading"
 unfoldable pub tolerate_content : Layout → List ℕ → Result Tolerated
@@ -62,7 +62,7 @@ tolerate_content L s =
 -- "14 goes by the records that come through"
 unfoldable pub tolerate_into : Layout → List ℕ → ℕ → Result Tolerated
 tolerate_into L s room =
-    tolerate_content L s then λ t. judge 0 ((leb (length (list_of t.says.records)) room, 14) ∷ []) (accepted t)
+    tolerate_content L s then λ t. judge 0 ((leb (length (list_of t.says.records)) room, 14) ∷ []) (Ok t)
 
 -- 01's table and order without 11: "11 isn't given in the tolerant way, and 12 still is for every record"
 abbrev pub without : ℕ → Faults → Faults
@@ -76,7 +76,7 @@ tolerant_faults L s = without 11 (anc_faults L s)
 abbrev pub ToleratedNot : Layout → List ℕ → (room n i : ℕ) → Type 0
 ToleratedNot L s room n i =
     RefusedBy tolerant_faults L s n i
-    ⊎ ((t : Tolerated) × (tolerate_content L s ≡ accepted t) × (room < length (list_of t.says.records)) × (n ≡ 14) × (i ≡ 0))
+    ⊎ ((t : Tolerated) × (tolerate_content L s ≡ Ok t) × (room < length (list_of t.says.records)) × (n ≡ 14) × (i ≡ 0))
 
 -- the index of a refusal: the ANC packet's for 9, 10, 12, 15 and 16, otherwise 0
 abbrev pub TolerantIndex : (count n i : ℕ) → Type 0

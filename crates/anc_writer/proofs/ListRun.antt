@@ -1,5 +1,6 @@
 -- A list checked record by record: what was counted, and what the cells that are left will add; 16 once all of it passed 20.
 -- By the record at the front of the cells: its checks decide, and its words give its cells and its size.
+use Rattle.std.specs.Prelude.{Option, Some, None}
 use mathlib.Core.Path.{◌≡◌, refl, ap, ap₂, sym, ◌∙◌}
 use mathlib.Core.Bool.{Bool, true, false, cond}
 use mathlib.Core.List.{List, [], ◌∷◌}
@@ -8,8 +9,8 @@ use native.Mathlib.Nat.{zero-add, add-zero}
 use native.Mathlib.Omega.{arith}
 use lib.Dec.{eqb}
 use lib.ListN.{length, length-drop}
-use borrow.Author.Tests.{eqb-true, eqb-false, eq-eqb, ne_eqb}
-use Rattle.wire_spec.specs.Result.{Result, refused, accepted, refuse, ◌then◌}
+use borrow.Author.Tests.{eqb-true, eq-eqb, ne_eqb}
+use Rattle.wire_spec.specs.Result.{Result, Err, Ok, refuse, ◌then◌}
 use Rattle.wire_spec.specs.Words.{all_clear}
 use Rattle.wire_spec.specs.Layout.{Layout}
 use Rattle.wire_spec.specs.Anc.{Record, anc_size, run_size}
@@ -17,12 +18,9 @@ use Rattle.wire_spec.specs.Cells.{head_cells, cell_count, cell_record, cell_chec
 use Rattle.wire_spec.proofs.ResultLaws.{Passed, judge-passes}
 use Rattle.wire_spec.proofs.CellLaws.{records-bound}
 use Rattle.anc_record.specs.declared.check.Front.{Front}
-use Rattle.anc_record.specs.declared.check.Front.TheVariants as front
 use Rattle.anc_record.specs.Answers.{front_of, is_clear_front}
 use Rattle.anc_record.proofs.FrontLaws.{Taken, lies, malformed, taken, clear-taken}
 use Rattle.anc_writer.specs.declared.check.Listed.{Listed}
-use Rattle.anc_writer.specs.declared.check.Listed.TheVariants as listed
-use Rattle.anc_writer.specs.declared.check.Measured.TheVariants as measured
 use Rattle.anc_writer.specs.Answers.{listed_of, measured_of}
 use Rattle.anc_writer.specs.Clear.{clear_before}
 
@@ -41,24 +39,24 @@ before-most first count true h = go (eqb first count)
 
 module _ (L : Layout) where
   -- `count` records of `octets` octets before those that are read
-  abbrev pub tally : ℕ → ℕ → Result (List Record) → Listed
-  tally count octets (refused x) = listed.Refused x
-  tally count octets (accepted rs) = listed.Records (count + length rs) (record { 0 = octets + run_size L rs })
+  abbrev pub tally : ℕ → ℕ → Result (List Record) → Result Listed
+  tally count octets (Err x) = Err x
+  tally count octets (Ok rs) = Ok (record { count = count + length rs; octets = record { 0 = octets + run_size L rs } })
 
   tallied : (count count' octets octets' : ℕ) → count ≡ count' → octets ≡ octets'
-      → listed.Records count (record { 0 = octets }) ≡ listed.Records count' (record { 0 = octets' })
-  tallied count count' octets octets' p q = ap₂ (λ (a b : ℕ). listed.Records a (record { 0 = b })) p q
+      → ◌≡◌ {A = Result Listed} (Ok (record { count = count; octets = record { 0 = octets } })) (Ok (record { count = count'; octets = record { 0 = octets' } }))
+  tallied count count' octets octets' p q = ap₂ (λ (a b : ℕ). Ok (record { count = a; octets = record { 0 = b } })) p q
 
   -- none before
   pub tally-none : (x : Result (List Record)) → tally 0 0 x ≡ listed_of L x
-  tally-none (refused x) = refl
-  tally-none (accepted rs) = tallied _ _ _ _ (zero-add (length rs)) (zero-add (run_size L rs))
+  tally-none (Err x) = refl
+  tally-none (Ok rs) = tallied _ _ _ _ (zero-add (length rs)) (zero-add (run_size L rs))
 
   -- one more
   tally-one : (count octets : ℕ) (r : Record) (y : Result (List Record))
-      → tally count octets (y then λ rs. accepted (r ∷ rs)) ≡ tally (count + 1) (octets + anc_size L (length r.words)) y
-  tally-one count octets r (refused x) = refl
-  tally-one count octets r (accepted rs) = tallied _ _ _ _ (omega arith) (omega arith)
+      → tally count octets (y then λ rs. Ok (r ∷ rs)) ≡ tally (count + 1) (octets + anc_size L (length r.words)) y
+  tally-one count octets r (Err x) = refl
+  tally-one count octets r (Ok rs) = tallied _ _ _ _ (omega arith) (omega arith)
 
   -- one more under 16: a protected word in it decides, where none came before
   verdict-one : (first count octets : ℕ) (r : Record) (rs : List Record) → first ≤ count
@@ -73,15 +71,15 @@ module _ (L : Layout) where
       go true true p q = rw (p, q, eq-eqb (count + 1) (count + 1) refl) (tally-one count octets r (clear_from (count + 1) rs))
       go false true p q =
           let s = eqb-true first count q in
-          rw (p, q, ne_eqb first (count + 1) (λ e. omega arith)) (ap (λ (k : ℕ). listed.Refused (record { number = 16; index = k })) (sym s))
+          rw (p, q, ne_eqb first (count + 1) (λ e. omega arith)) (ap (λ (k : ℕ). Err (record { number = 16; index = k })) (sym s))
       go true false p q = rw (p, q, ne_eqb first (count + 1) (λ e. omega arith)) refl
       go false false p q = rw (p, q, ne_eqb first (count + 1) (λ e. omega arith)) refl
 
   verdict-next : (first count octets : ℕ) (r : Record) (y : Result (List Record)) → first ≤ count
-      → tally count octets ((y then λ rs. accepted (r ∷ rs)) then verdict first count)
+      → tally count octets ((y then λ rs. Ok (r ∷ rs)) then verdict first count)
       ≡ tally (count + 1) (octets + anc_size L (length r.words)) (y then verdict (clear_before first count (all_clear r.words)) (count + 1))
-  verdict-next first count octets r (refused x) h = refl
-  verdict-next first count octets r (accepted rs) h = verdict-one first count octets r rs h
+  verdict-next first count octets r (Err x) h = refl
+  verdict-next first count octets r (Ok rs) h = verdict-one first count octets r rs h
 
   -- a record that passes is counted
   pub tally-next : (first count octets : ℕ) (l : List ℕ) → first ≤ count → 0 < length l → Passed (cell_checks l)
@@ -94,13 +92,13 @@ module _ (L : Layout) where
       let d : length (rest (x ∷ l)) ≤ length l = rw (length-drop (head_cells + cell_count (x ∷ l)) (x ∷ l)) (omega arith) in
       ap (λ (y : Result (List Record)). tally count octets (y then verdict first count))
       (judge-passes count (cell_checks (x ∷ l)) _ p
-      ∙ ap (λ (y : Result (List Record)). y then λ rs. accepted (cell_record (x ∷ l) ∷ rs)) (records-bound (length l) (count + 1) (rest (x ∷ l)) d))
+      ∙ ap (λ (y : Result (List Record)). y then λ rs. Ok (cell_record (x ∷ l) ∷ rs)) (records-bound (length l) (count + 1) (rest (x ∷ l)) d))
       ∙ verdict-next first count octets (cell_record (x ∷ l)) (records_from (length (rest (x ∷ l))) (count + 1) (rest (x ∷ l))) f
       ∙ rw (lies (x ∷ l) p).words
 
   -- one that does not pass is refused with its index
-  pub tally-stops : (first count octets : ℕ) (l : List ℕ) → 0 < length l → front_of l ≡ front.Malformed
-      → tally count octets (records_from (length l) count l then verdict first count) ≡ listed.Refused (record { number = 20; index = count })
+  pub tally-stops : (first count octets : ℕ) (l : List ℕ) → 0 < length l → front_of l ≡ None
+      → tally count octets (records_from (length l) count l then verdict first count) ≡ Err (record { number = 20; index = count })
   unfolding records_from
   tally-stops first count octets [] h e = absurd (omega arith)
   tally-stops first count octets (x ∷ l) h e =
@@ -114,12 +112,12 @@ module _ (L : Layout) where
   tally-ends first count octets (x ∷ l) h = absurd (omega arith)
 
   pub ends-protected : (first count octets : ℕ) → first < count
-      → listed.Refused (record { number = 16; index = first }) ≡ tally count octets (verdict first count [])
+      → Err (record { number = 16; index = first }) ≡ tally count octets (verdict first count [])
   unfolding verdict
   ends-protected first count octets h = rw (ne_eqb first count (λ e. omega arith)) refl
 
   pub ends-clear : (first count octets : ℕ) → first ≤ count → count ≤ first
-      → listed.Records count (record { 0 = octets }) ≡ tally count octets (verdict first count [])
+      → Ok (record { count = count; octets = record { 0 = octets } }) ≡ tally count octets (verdict first count [])
   unfolding verdict clear_from
   ends-clear first count octets h k =
       rw (eq-eqb first count (omega arith)) (tallied _ _ _ _ (sym (add-zero count)) (sym (add-zero octets)))
@@ -135,21 +133,21 @@ module _ (L : Layout) where
       ∙ ap (λ (k : ℕ). tally (count + 1) (octets + anc_size L (cell_count l)) (records_from (length (rest l)) (count + 1) (rest l) then verdict k (count + 1))) b
 
   -- one protected word before them refuses all that follow
-  refused-behind : (count octets : ℕ) (y : Result (List Record)) → measured_of (tally (count + 1) octets (y then verdict count (count + 1))) ≡ measured.Refused
+  refused-behind : (count octets : ℕ) (y : Result (List Record)) → measured_of (tally (count + 1) octets (y then verdict count (count + 1))) ≡ None
   unfolding verdict
-  refused-behind count octets (refused x) = refl
-  refused-behind count octets (accepted rs) = rw (ne_eqb count (count + 1) (λ e. omega arith)) refl
+  refused-behind count octets (Err x) = refl
+  refused-behind count octets (Ok rs) = rw (ne_eqb count (count + 1) (λ e. omega arith)) refl
 
   -- and one that is not clear refuses the list
   pub tally-unclear : (count octets : ℕ) (l : List ℕ) → 0 < length l → is_clear_front (front_of l) ≡ false
-      → measured_of (tally count octets (records_from (length l) count l then verdict count count)) ≡ measured.Refused
+      → measured_of (tally count octets (records_from (length l) count l then verdict count count)) ≡ None
   tally-unclear count octets l h e = go (front_of l) refl e
     where
-      go : (f : Front) → front_of l ≡ f → is_clear_front f ≡ false
-          → measured_of (tally count octets (records_from (length l) count l then verdict count count)) ≡ measured.Refused
-      go front.Malformed m e = ap measured_of (tally-stops count count octets l h m)
-      go (front.Record w clear) m e =
-          let t : Taken l w clear = taken l w clear m in
+      go : (f : Option Front) → front_of l ≡ f → is_clear_front f ≡ false
+          → measured_of (tally count octets (records_from (length l) count l then verdict count count)) ≡ None
+      go None m e = ap measured_of (tally-stops count count octets l h m)
+      go (Some p) m e =
+          let t : Taken l p.words p.clear = taken l p.words p.clear m in
           let b : clear_before count count (all_clear (cell_record l).words) ≡ count = rw (sym t.told ∙ e) refl in
           ap measured_of (tally-next count count octets l (omega arith) h t.passed
           ∙ ap (λ (k : ℕ). tally (count + 1) (octets + anc_size L (cell_count l)) (records_from (length (rest l)) (count + 1) (rest l) then verdict k (count + 1))) b)

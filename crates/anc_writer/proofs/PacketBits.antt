@@ -2,14 +2,14 @@
 -- Each store is a splice of bits behind the one before, over octets whose end was cleared.
 use mathlib.Core.Path.{◌≡◌, refl, ap, sym, ◌∙◌}
 use mathlib.Core.Bool.{Bool}
-use mathlib.Core.List.{List, [], ◌∷◌, ◌++◌, append_assoc}
-use Prim.Native.Nat.{ℕ, suc, ◌+◌, ◌-◌, ◌*◌, ◌/◌, ◌%◌, ◌<◌, ◌≤◌}
+use mathlib.Core.List.{List, [], ◌∷◌, ◌++◌}
+use Prim.Native.Nat.{ℕ, ◌+◌, ◌-◌, ◌*◌, ◌%◌, ◌≤◌}
 use native.Mathlib.Omega.{arith}
-use lib.ListN.{length, get_or, set}
+use lib.ListN.{length, set}
 use Rattle.wire_spec.specs.Bits.{to_bits, bits, Fields, width, row, field_bits, pack, Below, overwrite, splice}
-use Rattle.wire_spec.specs.Words.{word_bits, HeaderTable, sum_low, checksum_word}
+use Rattle.wire_spec.specs.Words.{word_bits, sum_low, checksum_word}
 use Rattle.wire_spec.specs.Layout.{Layout, rfc8331, draft2015}
-use Rattle.wire_spec.specs.Anc.{Record, WellFormed, checksum, location_fields, header_fields, body_fields, anc_fields, anc_octets, anc_size, did_at, words_at}
+use Rattle.wire_spec.specs.Anc.{Record, checksum, location_fields, header_fields, body_fields, anc_fields, anc_octets, anc_size, did_at, words_at}
 use Rattle.wire_spec.proofs.BitLaws.{length-bits, length-field_bits, bits-octets, width-row}
 use Rattle.wire_spec.proofs.ListLaws.{splice-append, set-splice}
 use Rattle.wire_spec.proofs.PacketStore.{field_bits-append, field_bits-one, store-behind, zeros-behind, location-behind, aligned}
@@ -22,11 +22,6 @@ use Rattle.anc_writer.specs.Packet.{head_words, summed}
 pub summed-low : (words : List ℕ) (sum : ℕ) → summed words (sum % 512) ≡ summed words sum
 summed-low words sum =
     ap (λ (w : ℕ). row word_bits words ++ (word_bits, w) ∷ []) (checksum-agree (sum % 512 + sum_low words) (sum + sum_low words) (low_first sum (sum_low words)))
-
--- the table's entries for DID, SDID and Data_Count are their header words
-pub entries-are : (table : List ℕ) (r : Record) → HeaderTable table → WellFormed rfc8331 r
-    → get_or table r.did 0 ∷ get_or table r.sdid 0 ∷ get_or table (length r.words) 0 ∷ [] ≡ head_words r
-entries-are table r t f = λ i. t.entry r.did f.fits.did i ∷ t.entry r.sdid f.fits.sdid i ∷ t.entry (length r.words) f.fits.count i ∷ []
 
 -- the words, and the checksum word stored behind them
 pub summed-stored : (b : List Bool) (at : ℕ) (words : List ℕ) (sum : ℕ) → at ≤ length b

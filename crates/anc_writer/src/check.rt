@@ -3,53 +3,21 @@ ghost use Rattle.std.specs.Prelude.{◌≡◌, ◌+◌, ◌^◌, ◌<◌, leb};
 ghost use Rattle.wire_spec.specs.Cells.{read_list};
 ghost use Rattle.wire_spec.specs.Result.{IsAccepted};
 ghost use Rattle.wire_spec.specs.Writing.{no_stream};
-ghost use Rattle.anc_writer.specs.Answers.{list_records, list_refusal, listed_of, measured_of};
+ghost use Rattle.anc_writer.specs.Answers.{list_records, listed_of, measured_of};
 ghost use Rattle.anc_writer.specs.Clear.{clear_before};
 
-use anc_record::check::{Front, check_record, is_clear_record};
+use anc_record::check::{check_record, is_clear_record};
 use anc_record::header::Header;
 use wire_offsets::{packet_size, plus};
 use wire_spec::count::{OctetCount, WordCount};
 use wire_spec::layout::Layout;
-use wire_spec::refusal::Refusal;
+use wire_spec::refusal::{Refusal, refuse_at};
 
 // What a list is: its records, and the octets that they take as ANC data packets.
 #[derive(Clone, Copy)]
-pub enum Listed {
-    Records { count: usize, octets: OctetCount },
-    Refused(Refusal),
-}
-
-impl Listed {
-    // A refusal of the whole list.
-    pub fn refuse(number: u8) -> Listed
-        ensures { result ≡ Listed.Refused (record { number = number; index = 0 }) }
-    {
-        Listed::Refused(Refusal { number, index: 0 })
-    }
-
-    // The refusal of a list.
-    pub fn refusal(self) -> Refusal
-        ensures { result ≡ list_refusal self }
-    {
-        match self {
-            Listed::Refused(refusal) => refusal,
-            Listed::Records {
-                count: _,
-                octets: _,
-            } => Refusal {
-                number: 0,
-                index: 0,
-            },
-        }
-    }
-}
-
-// The same, without saying why a list is refused.
-#[derive(Clone, Copy)]
-pub enum Measured {
-    Records { count: usize, octets: OctetCount },
-    Refused,
+pub struct Listed {
+    pub count: usize,
+    pub octets: OctetCount,
 }
 
 // How many records stand before the first that has a protected word: `first` of `count`, and one record more.
@@ -64,51 +32,42 @@ fn clear_before(first: usize, count: usize, clear: bool) -> usize
 }
 
 // All records of the list, and the octets that they take in the layout: 20 over the whole list, and then 16.
-pub fn check_list(layout: Layout, cells: &[u16]) -> Listed
+pub fn check_list(layout: Layout, cells: &[u16]) -> Result<Listed, Refusal>
     ensures { result ≡ listed_of layout (read_list cells.now) }
 {
     let mut rest = cells;
     let mut octets = OctetCount(0);
     let mut count: usize = 0;
     let mut first: usize = 0;
+    // Kept as a while: how many cells a turn takes is read from them.
     while rest.len() > 0 {
-        let front = check_record(rest);
-        match front {
-            Front::Malformed => {
-                return Listed::Refused(Refusal {
-                    number: Refusal::LIST_MALFORMED,
-                    index: count,
-                });
-            }
-            Front::Record { words, clear } => {
-                let size = packet_size(layout, words);
-                let step = Header::CELLS + (words.0 as usize);
-                rest = &rest[step..];
-                octets = plus(octets, size);
-                first = clear_before(first, count, clear);
-            }
-        }
+        let Some(front) = check_record(rest) else {
+            return refuse_at(Refusal::LIST_MALFORMED, count);
+        };
+        let size = packet_size(layout, front.words);
+        let step = Header::CELLS + (front.words.0 as usize);
+        rest = &rest[step..];
+        octets = plus(octets, size);
+        first = clear_before(first, count, front.clear);
         count += 1;
     }
     if first < count {
-        return Listed::Refused(Refusal {
-            number: Refusal::PROTECTED_WORD,
-            index: first,
-        });
+        return refuse_at(Refusal::PROTECTED_WORD, first);
     }
-    Listed::Records { count, octets }
+    Ok(Listed { count, octets })
 }
 
 // A list that is written, measured in one short pass. Only where it is refused does `check_list` go through it again, to say why.
-pub fn measure_list(layout: Layout, cells: &[u16]) -> Measured
+pub fn measure_list(layout: Layout, cells: &[u16]) -> Option<Listed>
     ensures { result ≡ measured_of (listed_of layout (read_list cells.now)) }
 {
     let mut rest = cells;
     let mut octets = OctetCount(0);
     let mut count: usize = 0;
+    // Kept as a while: how many cells a turn takes is read from them.
     while rest.len() > 0 {
         if !is_clear_record(rest) {
-            return Measured::Refused;
+            return None;
         }
         let n = rest[Header::COUNT_CELL];
         let size = packet_size(layout, WordCount(n as u8));
@@ -117,7 +76,7 @@ pub fn measure_list(layout: Layout, cells: &[u16]) -> Measured
         octets = plus(octets, size);
         count += 1;
     }
-    Measured::Records { count, octets }
+    Some(Listed { count, octets })
 }
 
 // No record of the list has S or StreamNum. It asks for a list that was checked.
@@ -127,6 +86,7 @@ pub fn no_stream(cells: &[u16]) -> bool
 {
     let mut none = true;
     let mut rest = cells;
+    // Kept as a while: how many cells a turn takes is read from them.
     while rest.len() > 0 {
         none = none & ((rest[3] == 0) & (rest[4] == 0));
         let step = Header::CELLS + (rest[Header::COUNT_CELL] as usize);

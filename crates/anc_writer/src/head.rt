@@ -4,7 +4,7 @@ ghost use Rattle.wire_spec.specs.Anc.{WellFormed, header_fields, location_fields
 ghost use Rattle.wire_spec.specs.Bits.{bits, field_bits, overwrite, pack, row, splice};
 ghost use Rattle.wire_spec.specs.Cells.{cell_count, cell_record, head_cells};
 ghost use Rattle.wire_spec.specs.Layout.{least_size, rfc8331};
-ghost use Rattle.wire_spec.specs.Words.{HeaderTable, sum_low, word_bits};
+ghost use Rattle.wire_spec.specs.Words.{sum_low, word_bits};
 ghost use Rattle.wire_words.specs.Word.{WordsFit};
 ghost use Rattle.anc_writer.specs.Packet.{head_words};
 
@@ -12,6 +12,7 @@ use anc_record::header::Header;
 use wire_row_writer::row::write_few;
 use wire_row_writer::sum::sum_cells;
 use wire_spec::layout::{DID_AT, DRAFT_DID_AT, DRAFT_R_AT, Layout};
+use wire_words::table::HeaderWords;
 
 // Writes the four octets before DID as RFC 8331 has them. The drafts have no S and StreamNum: there DID is stored over the fourth.
 fn write_location(cells: &[u16], octets: &mut [u8])
@@ -27,16 +28,16 @@ fn write_location(cells: &[u16], octets: &mut [u8])
 }
 
 // Stores DID, SDID and Data_Count as header words from the bit `at` on; the sum of their low nine bits, modulo 512.
-fn write_header_words(cells: &[u16], octets: &mut [u8], at: usize, table: &[u16; 256]) -> u16
-    requires header_table { HeaderTable table.now × WellFormed rfc8331 (cell_record cells.now) }
+fn write_header_words(cells: &[u16], octets: &mut [u8], at: usize, table: &HeaderWords) -> u16
+    requires well_formed { WellFormed rfc8331 (cell_record cells.now) }
     requires cells_in_bounds { (head_cells + cell_count cells.now ≤ length cells.now) × WordsFit octets.old at 3 }
     ensures value { result ≡ sum_low (head_words (cell_record cells.now)) % 512 }
     ensures octets_after { bits octets.new ≡ splice (bits octets.old) at (field_bits (row word_bits (head_words (cell_record cells.now)))) }
 {
-    let did = cells[5] as usize;
-    let sdid = cells[6] as usize;
-    let n = cells[Header::COUNT_CELL] as usize;
-    let head = [table[did], table[sdid], table[n]];
+    let did = cells[5] as u8;
+    let sdid = cells[6] as u8;
+    let n = cells[Header::COUNT_CELL] as u8;
+    let head = [table.of(did), table.of(sdid), table.of(n)];
     write_few(&head, octets, at);
     sum_cells(&head)
 }
@@ -47,9 +48,9 @@ pub(crate) fn write_head(
     layout: Layout,
     cells: &[u16],
     octets: &mut [u8],
-    table: &[u16; 256],
+    table: &HeaderWords,
 ) -> u16
-    requires header_table { HeaderTable table.now × WellFormed rfc8331 (cell_record cells.now) }
+    requires well_formed { WellFormed rfc8331 (cell_record cells.now) }
     requires cells_in_bounds { (head_cells + cell_count cells.now ≤ length cells.now) × (least_size layout ≤ length octets.old) }
     ensures value { result ≡ sum_low (head_words (cell_record cells.now)) % 512 }
     ensures octets_after { bits octets.new ≡ splice (bits octets.old) 0 (field_bits (header_fields layout (cell_record cells.now))) }

@@ -5,7 +5,7 @@ ghost use Rattle.wire_spec.specs.Bits.{Below, bits, field_bits, overwrite, splic
 ghost use Rattle.wire_spec.specs.Cells.{cell_count, cell_record, head_cells, read_list};
 ghost use Rattle.wire_spec.specs.Layout.{rfc8331};
 ghost use Rattle.wire_spec.specs.Result.{IsAccepted};
-ghost use Rattle.wire_spec.specs.Words.{HeaderTable, checksum_word, header_numbers, sum_low, word_bits};
+ghost use Rattle.wire_spec.specs.Words.{checksum_word, header_numbers, sum_low, word_bits};
 ghost use Rattle.wire_words.specs.Word.{WordsFit};
 ghost use Rattle.anc_writer.specs.Answers.{list_octets};
 ghost use Rattle.anc_writer.specs.Packet.{summed};
@@ -18,6 +18,7 @@ use wire_row_writer::sum::sum_cells;
 use wire_spec::count::WordCount;
 use wire_spec::layout::{DRAFT_WORDS_AT, Layout, WORD_BITS, WORDS_AT};
 use wire_words::checksum::checksum_word;
+use wire_words::table::{HeaderWords, header_words};
 use wire_words::word::store;
 
 // Clears the last four octets of a packet, where its alignment bits stand.
@@ -63,8 +64,8 @@ fn write_user_words(layout: Layout, words: &[u16], octets: &mut [u8], sum: u16)
 }
 
 // Writes the record at the front of the cells as the packet at the front of the octets; its Data_Count.
-fn write_packet(layout: Layout, cells: &[u16], octets: &mut [u8], table: &[u16; 256]) -> WordCount
-    requires header_table { HeaderTable table.now × WellFormed rfc8331 (cell_record cells.now) }
+fn write_packet(layout: Layout, cells: &[u16], octets: &mut [u8], table: &HeaderWords) -> WordCount
+    requires well_formed { WellFormed rfc8331 (cell_record cells.now) }
     requires cells_in_bounds { head_cells + cell_count cells.now ≤ length cells.now }
     requires cells_in_bounds_2 { anc_size layout (cell_count cells.now) ≤ length octets.old }
     ensures result_value { result.0 ≡ cell_count cells.now }
@@ -84,9 +85,10 @@ pub fn write_run(layout: Layout, cells: &[u16], octets: &mut [u8])
     requires { IsAccepted (read_list cells.now) × (length (list_octets layout (read_list cells.now)) ≤ length octets.old) }
     ensures { octets.new ≡ overwrite (list_octets layout (read_list cells.now)) octets.old }
 {
-    let table = wire_words::table::header_words();
+    let table = header_words();
     let mut rest = cells;
     let mut to: usize = 0;
+    // Kept as a while: how many cells a turn takes is read from them.
     while rest.len() > 0 {
         let words = write_packet(layout, rest, &mut octets[to..], &table);
         let size = packet_size(layout, words);

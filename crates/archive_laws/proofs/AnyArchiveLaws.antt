@@ -1,5 +1,6 @@
 -- Nothing in an archive is invented.
 -- The session's packets keep what every step keeps (`AnyLaws`); all that is handed out is filed, and its cells tell its records.
+use Rattle.depacketizer.specs.declared.state.Depacketizer.{Depacketizer}
 use mathlib.Core.Path.{◌≡◌, refl, ap, sym, subst, ◌∙◌}
 use mathlib.Core.Bool.{Bool, true, false}
 use mathlib.Core.List.{List, [], ◌∷◌, ◌++◌, append_assoc}
@@ -8,7 +9,7 @@ use native.Mathlib.Omega.{arith}
 use lib.Dec.{leb}
 use Rattle.wire_spec.specs.Bits.{Below}
 use Rattle.wire_spec.specs.Layout.{Layout}
-use Rattle.wire_spec.specs.Result.{Result, refused, accepted, judge}
+use Rattle.wire_spec.specs.Result.{Result, Err, Ok, judge}
 use Rattle.wire_spec.specs.Anc.{Each}
 use Rattle.wire_spec.specs.Cells.{Lists}
 use Rattle.wire_spec.specs.Packet.{Content, read_content}
@@ -16,7 +17,6 @@ use Rattle.wire_spec.specs.Writing.{max_type}
 use Rattle.wire_spec.proofs.ListLaws.{each_append}
 use Rattle.fieldfile_spec.specs.File.{FieldContent, FileRead}
 use Rattle.rtp_frames.specs.Frames.{frames}
-use Rattle.depacketizer.specs.declared.state.Opened.{Opened}
 use Rattle.depacketizer.specs.Answers.{opened_of}
 use Rattle.depacketizer_spec.specs.declared.state.State.{State}
 use Rattle.depacketizer_spec.specs.Step.{Step, gathered, open_state, step}
@@ -60,20 +60,20 @@ Vouches L store ps = (source type : ℕ) × Each (VouchedIn source type (fresh_i
 
 module _ (L : Layout) (store p : List ℕ) (ps : List (List ℕ)) (b : Each (Below 256) (p ∷ ps)) (later : Vouches L store ps) where
   -- by what the packet opens
-  abbrev ByOpened : Opened → Type 0
+  abbrev ByOpened : Result Depacketizer → Type 0
   ByOpened o =
       (source type : ℕ)
       × Each (VouchedIn source type (fresh_at L p store o ++ fresh_in (turn_by (session.Waiting L) (number_of (read_content L p)) p store o).session (turn_by (session.Waiting L) (number_of (read_content L p)) p store o).store ps))
       (whole_at L p store o ++ wholes_of (turn_by (session.Waiting L) (number_of (read_content L p)) p store o).session (turn_by (session.Waiting L) (number_of (read_content L p)) p store o).store ps)
 
-  judged : (x : Bool) (source type : ℕ) → ByOpened (opened_of (judge 0 ((x, 24) ∷ []) (accepted (open_state source type))))
+  judged : (x : Bool) (source type : ℕ) → ByOpened (opened_of (judge 0 ((x, 24) ∷ []) (Ok (open_state source type))))
   unfolding turn
   judged true source type = (source, type, open-vouches source type L [] (p ∷ ps) b (open_state source type) store refl refl tt)
   judged false source type = later
 
   read : (k : Result Content) → ByOpened (opening k)
-  read (refused x) = later
-  read (accepted k) = judged (leb k.type max_type) k.source k.type
+  read (Err x) = later
+  read (Ok k) = judged (leb k.type max_type) k.source k.type
 
   first-vouches : Vouches L store (p ∷ ps)
   unfolding turn

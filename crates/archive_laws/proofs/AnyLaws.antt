@@ -10,7 +10,7 @@ use lib.Dec.{eqb}
 use lib.ListN.{length}
 use Rattle.wire_spec.specs.Bits.{Below, splice}
 use Rattle.wire_spec.specs.Layout.{Layout}
-use Rattle.wire_spec.specs.Result.{Result, refused, accepted}
+use Rattle.wire_spec.specs.Result.{Result, Err, Ok}
 use Rattle.wire_spec.specs.Anc.{Each}
 use Rattle.wire_spec.specs.Cells.{list_in}
 use Rattle.wire_spec.specs.Packet.{Content, read_content}
@@ -143,7 +143,7 @@ module _ (source type : ℕ) (fresh : List Heard) (L : Layout) (octets store : L
   keeps_on : (z : Step) → ((l : List Heard) → if_fresh z.answer l ≡ []) → Keeps source type fresh z → Kept z
   keeps_on z none k = subst (λ (l : List Heard). Keeps source type l z) (sym (ap (λ (l : List Heard). fresh ++ l) (none (said_by L octets (read_content L octets))) ∙ append-nil fresh)) k
 
-  module _ (k : Content) (admits : admit L st.source st.payload_type octets ≡ accepted k) (reads : read_content L octets ≡ accepted k) where
+  module _ (k : Content) (admits : admit L st.source st.payload_type octets ≡ Ok k) (reads : read_content L octets ≡ Ok k) where
     abbrev h : Heard
     h = record { layout = L; octets = octets; says = k }
 
@@ -185,8 +185,8 @@ module _ (source type : ℕ) (fresh : List Heard) (L : Layout) (octets store : L
     packet-keeps true = class-keeps (classify (distance st.last.0 k.number)) refl
 
   admitted-keeps : (r : Result Content) → admission st L (length store) octets ≡ r → Kept (admitted_step st r store)
-  admitted-keeps (refused x) e = keeps_on (admitted_step st (refused x) store) (λ l. refl) (record { opened = is-source; typed = is-type; gathers = g; vouches = tt })
-  admitted-keeps (accepted k) e =
+  admitted-keeps (Err x) e = keeps_on (admitted_step st (Err x) store) (λ l. refl) (record { opened = is-source; typed = is-type; gathers = g; vouches = tt })
+  admitted-keeps (Ok k) e =
       packet-keeps k (judge-accepts 0 ((sound st (length store), 35) ∷ []) (admit L st.source st.payload_type octets) k e).1 (passed st L (length store) octets k e).1 st.heard
 
   pub step_keeps : Kept (step st L octets store)

@@ -1,5 +1,6 @@
 -- The archive of any recording is exactly what its fresh packets tell.
 -- Packet by packet: what each hands out is what it completes of them (`ExactLaws`); all of it is filed.
+use Rattle.depacketizer.specs.declared.state.Depacketizer.{Depacketizer}
 use mathlib.Core.Path.{◌≡◌, refl, ap, ap₂, sym, subst, ◌∙◌}
 use mathlib.Core.Bool.{Bool, true, false, cond, ◌&&◌}
 use mathlib.Core.List.{List, [], ◌∷◌, ◌++◌, append-nil, map, nil≢cons}
@@ -12,7 +13,7 @@ use lib.ListN.{length}
 use Rattle.wire_spec.specs.declared.refusal.Refusal.{Refusal}
 use Rattle.wire_spec.specs.Bits.{Below}
 use Rattle.wire_spec.specs.Layout.{Layout}
-use Rattle.wire_spec.specs.Result.{Result, refused, accepted, judge}
+use Rattle.wire_spec.specs.Result.{Result, Err, Ok, judge}
 use Rattle.wire_spec.specs.Anc.{Each}
 use Rattle.wire_spec.specs.Packet.{Content, read_content}
 use Rattle.wire_spec.specs.Writing.{max_field_cells, max_field_packets, max_field_records, max_type}
@@ -20,7 +21,6 @@ use Rattle.wire_spec.proofs.ResultLaws.{and-true, judge-accepts}
 use Rattle.wire_spec.proofs.ListLaws.{each_append, map-append}
 use Rattle.fieldfile_spec.specs.File.{FieldContent, end_of_file}
 use Rattle.rtp_frames.specs.Frames.{frames}
-use Rattle.depacketizer.specs.declared.state.Opened.{Opened}
 use Rattle.depacketizer.specs.Answers.{opened_of}
 use Rattle.depacketizer_spec.specs.declared.state.State.{State}
 use Rattle.depacketizer_spec.specs.declared.state.Answer.{Answer}
@@ -71,7 +71,7 @@ is_refused (answer.Whole x) = 0
 is_refused (answer.Refused x) = 1
 
 module _ (source type : ℕ) (L : Layout) (octets store : List ℕ) (below : Below 256 octets) (st : State) (is-source : st.source ≡ source) (is-type : st.payload_type ≡ type) where
-  answered : (z : Step) (k : Content) → admit L st.source st.payload_type octets ≡ accepted k → read_content L octets ≡ accepted k → (y : Answer) → z.answer ≡ y
+  answered : (z : Step) (k : Content) → admit L st.source st.payload_type octets ≡ Ok k → read_content L octets ≡ Ok k → (y : Answer) → z.answer ≡ y
       → News source type (heard_by L octets y) (record { answer = y; state = z.state; store = z.store })
   answered z k a r y e = go y
     where
@@ -97,8 +97,8 @@ module _ (source type : ℕ) (L : Layout) (octets store : List ℕ) (below : Bel
   news = go (admission st L (length store) octets) refl
     where
       go : (r : Result Content) → admission st L (length store) octets ≡ r → News source type (heard_by L octets (step st L octets store).answer) (step st L octets store)
-      go (refused x) e = subst (λ (z : Step). News source type (heard_by L octets z.answer) z) (sym (step-refused st L octets store x e)) (inl (refl, refl))
-      go (accepted k) e =
+      go (Err x) e = subst (λ (z : Step). News source type (heard_by L octets z.answer) z) (sym (step-refused st L octets store x e)) (inl (refl, refl))
+      go (Ok k) e =
           answered (step st L octets store) k (judge-accepts 0 ((sound st (length store), 35) ∷ []) (admit L st.source st.payload_type octets) k e).1 (passed st L (length store) octets k e).1 (step st L octets store).answer refl
 
 -- AN OPEN SESSION
@@ -188,20 +188,20 @@ abbrev Exactly : Layout → List ℕ → List (List ℕ) → Type 0
 Exactly L store ps = wholes_of (session.Waiting L) store ps ≡ told [] (fresh_in (session.Waiting L) store ps)
 
 module _ (L : Layout) (store p : List ℕ) (room : max_field_cells ≤ length store) (ps : List (List ℕ)) (b : Each (Below 256) (p ∷ ps)) (later : Exactly L store ps) where
-  abbrev after : Opened → Session × List ℕ
+  abbrev after : Result Depacketizer → Session × List ℕ
   after o = ((turn_by (session.Waiting L) (number_of (read_content L p)) p store o).session, (turn_by (session.Waiting L) (number_of (read_content L p)) p store o).store)
 
-  abbrev ByOpened : Opened → Type 0
+  abbrev ByOpened : Result Depacketizer → Type 0
   ByOpened o = whole_at L p store o ++ wholes_of (after o).0 (after o).1 ps ≡ told [] (fresh_at L p store o ++ fresh_in (after o).0 (after o).1 ps)
 
-  judged : (x : Bool) (source type : ℕ) → ByOpened (opened_of (judge 0 ((x, 24) ∷ []) (accepted (open_state source type))))
+  judged : (x : Bool) (source type : ℕ) → ByOpened (opened_of (judge 0 ((x, 24) ∷ []) (Ok (open_state source type))))
   unfolding turn
   judged true source type = open-exact source type L [] (p ∷ ps) b (open_state source type) store (opened-known source type store room)
   judged false source type = later
 
   read : (k : Result Content) → ByOpened (opening k)
-  read (refused x) = later
-  read (accepted k) = judged (leb k.type max_type) k.source k.type
+  read (Err x) = later
+  read (Ok k) = judged (leb k.type max_type) k.source k.type
 
   first-exact : Exactly L store (p ∷ ps)
   unfolding turn

@@ -11,7 +11,7 @@ use lib.IntN.{ℤ, pos, negsuc}
 use lib.ListN.{length, take, length-append}
 use Rattle.wire_spec.specs.Bits.{Below, splice}
 use Rattle.wire_spec.specs.Layout.{Layout}
-use Rattle.wire_spec.specs.Result.{accepted}
+use Rattle.wire_spec.specs.Result.{Ok}
 use Rattle.wire_spec.specs.Anc.{Each}
 use Rattle.wire_spec.specs.Cells.{list_in}
 use Rattle.wire_spec.specs.Packet.{Content, Packet, WellFormedPacket, read_content}
@@ -30,10 +30,10 @@ abbrev pub Unmarked : Heard → Type 0
 Unmarked p = p.says.marker ≡ 0
 
 -- WHAT PASSES 30 AND 31 is of the opened source and type
-pub takes-own : (L : Layout) (source type : ℕ) (o : List ℕ) (k : Content) → admit L source type o ≡ accepted k → Accepted source type (record { layout = L; octets = o; says = k })
+pub takes-own : (L : Layout) (source type : ℕ) (o : List ℕ) (k : Content) → admit L source type o ≡ Ok k → Accepted source type (record { layout = L; octets = o; says = k })
 takes-own L source type o k h =
     let a = then-accepts (read_content L o) _ k h in
-    let b = judge-accepts 0 (opened_checks source type a.0.source a.0.type) (accepted a.0) k a.2 in
+    let b = judge-accepts 0 (opened_checks source type a.0.source a.0.type) (Ok a.0) k a.2 in
     let is : a.0 ≡ k = accepted-inj b.1 in
     (a.1 ∙ b.1, ap (λ (x : Content). x.source) (sym is) ∙ eqb-true a.0.source source b.0.0, ap (λ (x : Content). x.type) (sym is) ∙ eqb-true a.0.type type b.0.1.0)
 
@@ -104,7 +104,7 @@ Sized k = (k.number < 2 ^ 32) × (k.marker < 2)
 packet-sized : (L : Layout) (k : Packet) → WellFormedPacket L k → (k.extended * 65536 + k.sequence < 2 ^ 32) × (k.marker < 2)
 packet-sized L k h = omega (arith, h.fit, payload-fit L k h.fit)
 
-pub read-sized : (L : Layout) (o : List ℕ) → Below 256 o → (k : Content) → read_content L o ≡ accepted k → Sized k
+pub read-sized : (L : Layout) (o : List ℕ) → Below 256 o → (k : Content) → read_content L o ≡ Ok k → Sized k
 read-sized L o below k e =
     let a = (acceptance L o below k).0 e in
     subst Sized a.3 (packet-sized L a.0 a.1)

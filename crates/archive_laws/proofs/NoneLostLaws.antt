@@ -11,7 +11,7 @@ use lib.ListN.{length, take, length-append}
 use Rattle.wire_spec.specs.declared.refusal.Refusal.{Refusal}
 use Rattle.wire_spec.specs.Bits.{Below, splice}
 use Rattle.wire_spec.specs.Layout.{Layout}
-use Rattle.wire_spec.specs.Result.{Result, refused, accepted}
+use Rattle.wire_spec.specs.Result.{Result, Err, Ok}
 use Rattle.wire_spec.specs.Anc.{Each}
 use Rattle.wire_spec.specs.Cells.{list_in}
 use Rattle.wire_spec.specs.Packet.{Content, read_content}
@@ -371,7 +371,7 @@ module _ (source type : ℕ) (fresh : List Heard) (L : Layout) (octets store : L
       let w = last_view lead held in
       v.latest (before ++ w.0) (last_of lead held) (e ∙ ap (λ (l : List Heard). before ++ l) w.1 ∙ sym (append_assoc before w.0 (last_of lead held ∷ [])))
 
-  module _ (k : Content) (admits : admit L st.source st.payload_type octets ≡ accepted k) (reads : read_content L octets ≡ accepted k) where
+  module _ (k : Content) (admits : admit L st.source st.payload_type octets ≡ Ok k) (reads : read_content L octets ≡ Ok k) where
     abbrev heard : Heard
     heard = record { layout = L; octets = octets; says = k }
 
@@ -407,8 +407,8 @@ module _ (source type : ℕ) (fresh : List Heard) (L : Layout) (octets store : L
     packet-step true e = class-step (classify (distance st.last.0 k.number)) refl
 
   admitted-step : (r : Result Content) → admission st L (length store) octets ≡ r → Filled (admitted_step st r store)
-  admitted-step (refused x) e = refused_full (admitted_step st (refused x) store) (λ l. refl) x refl v
-  admitted-step (accepted k) e =
+  admitted-step (Err x) e = refused_full (admitted_step st (Err x) store) (λ l. refl) x refl v
+  admitted-step (Ok k) e =
       packet-step k (judge-accepts 0 ((sound st (length store), 35) ∷ []) (admit L st.source st.payload_type octets) k e).1 (passed st L (length store) octets k e).1 st.heard refl
 
   pub step-full : Filled (step st L octets store)

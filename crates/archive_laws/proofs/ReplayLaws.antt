@@ -11,7 +11,7 @@ use lib.Dec.{eqb, leb}
 use lib.ListN.{length, get_or, length-append, length-map}
 use Rattle.wire_spec.specs.Bits.{Below}
 use Rattle.wire_spec.specs.Layout.{rfc8331}
-use Rattle.wire_spec.specs.Result.{Result, accepted, ◌then◌}
+use Rattle.wire_spec.specs.Result.{Result, Ok, ◌then◌}
 use Rattle.wire_spec.specs.Anc.{Record, Each, WellFormed}
 use Rattle.wire_spec.specs.Cells.{list_of, read_list}
 use Rattle.wire_spec.specs.Packet.{Content, max_packet, read_content}
@@ -52,18 +52,18 @@ f-fits (suc (suc (suc (suc f)))) h =
     absurd (true≢false (sym h ∙ e))
 
 reads-own : (k : Content) → HeadFits k → k.type ≤ 127 → file_f_ok k.f ≡ true → Each (WellFormed rfc8331) k.records → length k.records ≤ 255 → length (list_of k.records) ≤ max_cells
-    → read_content rfc8331 (content_octets rfc8331 k) ≡ accepted k
+    → read_content rfc8331 (content_octets rfc8331 k) ≡ Ok k
 unfolding write_content
 reads-own k h t f w few short =
     let rs = k.records in
     let cells = list_of rs in
-    let reads : read_list cells ≡ accepted rs = (list-iff cells rs).1 (w, lists-own rs) in
-    let taken : packet_records rfc8331 k cells max_packet ≡ accepted rs =
+    let reads : read_list cells ≡ Ok rs = (list-iff cells rs).1 (w, lists-own rs) in
+    let taken : packet_records rfc8331 k cells max_packet ≡ Ok rs =
     all_pass (head_checks k) (λ (qs : List Record). limit_checks rfc8331 (with_records k qs) (length cells) max_packet) cells (and_both (le-leb k.type max_type t) (f-fits k.f f), tt) rs reads
     (and_both (le-leb (length rs) 255 few) (le-leb (length cells) max_cells short), (refl, (le-leb _ max_packet (fits-packet rfc8331 k short), tt))) in
-    let writes : write_content rfc8331 k cells max_packet ≡ accepted (content_octets rfc8331 k) = ap (λ (q : Result (List Record)). q then λ qs. accepted (content_octets rfc8331 (with_records k qs))) taken in
+    let writes : write_content rfc8331 k cells max_packet ≡ Ok (content_octets rfc8331 k) = ap (λ (q : Result (List Record)). q then λ qs. Ok (content_octets rfc8331 (with_records k qs))) taken in
     let q = written_read rfc8331 k cells max_packet (content_octets rfc8331 k) h writes in
-    q.5 ∙ ap (λ (qs : List Record). accepted (with_records k qs)) (one_list q.0 rs cells q.1 (lists-own rs))
+    q.5 ∙ ap (λ (qs : List Record). Ok (with_records k qs)) (one_list q.0 rs cells q.1 (lists-own rs))
 
 -- THE STREAM: a field for each cut, behind the empty one
 module _ (source type start : ℕ) (is-source : source < 2 ^ 32) (is-type : type ≤ 127) where
@@ -139,7 +139,7 @@ module _ (source type start : ℕ) (is-source : source < 2 ^ 32) (is-type : type
 
   -- EACH PACKET IS ACCEPTED
   abbrev Taken : Stream → ℕ → Sent → Type 0
-  Taken s n y = read_content rfc8331 y.part.octets ≡ accepted (content_at s n y)
+  Taken s n y = read_content rfc8331 y.part.octets ≡ Ok (content_at s n y)
 
   abbrev EachFrom : (ℕ → Sent → Type 0) → ℕ → List Sent → Type 0
   EachFrom P n [] = Unit {0}
@@ -156,7 +156,7 @@ module _ (source type start : ℕ) (is-source : source < 2 ^ 32) (is-type : type
       (h.0, from-append P (suc n) xs ys h.1 (subst (λ (m : ℕ). EachFrom P m ys) (let e : n + suc (length xs) ≡ suc n + length xs = omega arith in e) k))
 
   takes : (n t f : ℕ) (last : Bool) (rs : List Record) → t < 2 ^ 32 → file_f_ok f ≡ true → Each (WellFormed rfc8331) rs → length rs ≤ 255 → length (list_of rs) ≤ max_cells
-      → read_content rfc8331 (content_octets rfc8331 (says_at source type start n t f last rs)) ≡ accepted (says_at source type start n t f last rs)
+      → read_content rfc8331 (content_octets rfc8331 (says_at source type start n t f last rs)) ≡ Ok (says_at source type start n t f last rs)
   takes n t f last rs time is_f w few short =
       reads-own (says_at source type start n t f last rs) (record { marker = mark last; number = omega arith; timestamp = time; source = is-source }) is-type is_f w few short
     where
@@ -179,7 +179,7 @@ module _ (source type start : ℕ) (is-source : source < 2 ^ 32) (is-type : type
     field-taken x before n (rs ∷ l) time is_f w few short =
         let e = each-split (WellFormed rfc8331) rs (all_of l) w in
         let c = cells-split rs (all_of l) in (
-          takes n x.timestamp x.f (is_none source type start l) rs time is_f e.0 few.0 (omega (arith, c, short)) ∙ ap accepted (says_so n x before l rs),
+          takes n x.timestamp x.f (is_none source type start l) rs time is_f e.0 few.0 (omega (arith, c, short)) ∙ ap Ok (says_so n x before l rs),
           field-taken x (before ++ (part_at n x.timestamp x.f (is_none source type start l) rs ∷ [])) (suc n) l time is_f e.1 few.1 (omega (arith, c, short)),
         )
 

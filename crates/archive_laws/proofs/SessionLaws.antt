@@ -9,14 +9,12 @@ use lib.ListN.{length}
 use Rattle.wire_spec.specs.declared.refusal.Refusal.{Refusal}
 use Rattle.wire_spec.specs.Bits.{Below}
 use Rattle.wire_spec.specs.Layout.{Layout}
-use Rattle.wire_spec.specs.Result.{refused, accepted}
+use Rattle.wire_spec.specs.Result.{Err, Ok, Result}
 use Rattle.wire_spec.specs.Anc.{Each}
 use Rattle.wire_spec.specs.Packet.{Content, Packet, WellFormedPacket, read_content}
 use Rattle.wire_spec.specs.Writing.{max_field_cells, max_type}
 use Rattle.wire_spec.proofs.Demand2.{acceptance}
 use Rattle.depacketizer.specs.declared.state.Depacketizer.{Depacketizer}
-use Rattle.depacketizer.specs.declared.state.Opened.{Opened}
-use Rattle.depacketizer.specs.declared.state.Opened.TheVariants as opened
 use Rattle.depacketizer.specs.Answers.{opened_of}
 use Rattle.depacketizer_spec.specs.Step.{Gathered, lost, ready, filling, Step, admission, gathered, open_of, open_state, step}
 use Rattle.depacketizer_spec.specs.Stream.{Field, Stream, content_at, nth, Within, Fits, WellFormedStream, Arriving, other, packet, OfStream, Call, Calls, none, ◌before◌, Handed, handed_by, Run, store_for, octets_of, layout_of, done, call_step, open_run, arrived, fresh, expected, Near}
@@ -44,29 +42,29 @@ open_turn L d p store ps = refl
 packet-type : (L : Layout) (k : Packet) → WellFormedPacket L k → k.type ≤ max_type
 packet-type L k h = omega (arith, h.fit)
 
-read-type : (L : Layout) (o : List ℕ) → Below 256 o → (k : Content) → read_content L o ≡ accepted k → k.type ≤ max_type
+read-type : (L : Layout) (o : List ℕ) → Below 256 o → (k : Content) → read_content L o ≡ Ok k → k.type ≤ max_type
 read-type L o below k e =
     let a = (acceptance L o below k).0 e in
     subst (λ (y : Content). y.type ≤ max_type) a.3 (packet-type L a.0 a.1)
 
 -- A WAITING SESSION at a packet that is refused, and at one that opens it
-wait-refused : (L : Layout) (source type : ℕ) (p store : List ℕ) (ps : List (List ℕ)) (x : Refusal) → read_content L p ≡ refused x
+wait-refused : (L : Layout) (source type : ℕ) (p store : List ℕ) (ps : List (List ℕ)) (x : Refusal) → read_content L p ≡ Err x
     → (wholes_of (session.Waiting L) store (p ∷ ps) ≡ wholes_of (session.Waiting L) store ps)
     × (wholes_of (open_at L source type) store (p ∷ ps) ≡ wholes_of (open_at L source type) store ps)
 unfolding turn
 wait-refused L source type p store ps x e =
-    let refuses : admission (open_state source type) L (length store) p ≡ refused x = rw (e, le-leb 0 (length store) (omega arith)) in
+    let refuses : admission (open_state source type) L (length store) p ≡ Err x = rw (e, le-leb 0 (length store) (omega arith)) in
     let unmoved : step (open_state source type) L p store ≡ unchanged (open_state source type) store x = step-refused (open_state source type) L p store x refuses in
     (rw e, open_turn L (record { state = open_state source type }) p store ps ∙ rw unmoved)
 
-wait-opens : (L : Layout) (source type : ℕ) (p store : List ℕ) (ps : List (List ℕ)) (k : Content) → read_content L p ≡ accepted k → k.source ≡ source → k.type ≡ type → type ≤ max_type
+wait-opens : (L : Layout) (source type : ℕ) (p store : List ℕ) (ps : List (List ℕ)) (k : Content) → read_content L p ≡ Ok k → k.source ≡ source → k.type ≡ type → type ≤ max_type
     → wholes_of (session.Waiting L) store (p ∷ ps) ≡ wholes_of (open_at L source type) store (p ∷ ps)
 unfolding turn
 wait-opens L source type p store ps k e a b h =
     let n = number_of (read_content L p) in
-    let opens : entered (session.Waiting L) (read_content L p) ≡ opened.Open (record { state = open_state source type }) =
+    let opens : entered (session.Waiting L) (read_content L p) ≡ Ok (record { state = open_state source type }) =
     ap (entered (session.Waiting L)) e ∙ ap₂ (λ (x y : ℕ). opened_of (open_of x y)) a b ∙ rw (le-leb type max_type h) in
-    ap (λ (o : Opened). whole_at L p store o ++ wholes_of (turn_by (session.Waiting L) n p store o).session (turn_by (session.Waiting L) n p store o).store ps) opens
+    ap (λ (o : Result Depacketizer). whole_at L p store o ++ wholes_of (turn_by (session.Waiting L) n p store o).session (turn_by (session.Waiting L) n p store o).store ps) opens
 
 module _ (s : Stream) (w : WellFormedStream s) where
   -- a session that the stream opens hands out what one that was open for it does

@@ -3,7 +3,7 @@
 use Rattle.std.specs.Prelude.{◌≡◌, List, [], ◌∷◌, ◌++◌, ℕ, ◌+◌, ◌^◌, ◌%◌, ◌≤◌, length}
 use Rattle.wire_spec.specs.Bits.{Below}
 use Rattle.wire_spec.specs.Layout.{Layout}
-use Rattle.wire_spec.specs.Result.{Result, refused, accepted}
+use Rattle.wire_spec.specs.Result.{Result, Err, Ok}
 use Rattle.wire_spec.specs.Anc.{Each}
 use Rattle.wire_spec.specs.Packet.{Content, read_content}
 use Rattle.wire_spec.specs.Writing.{max_field_records, max_field_cells, max_field_packets}
@@ -36,12 +36,12 @@ pub record Heard : Type 0 where
 
 -- "accepted", "of the opened source and type": by the reader, without the depacketizer's own checks
 abbrev pub Accepted : (source type : ℕ) → Heard → Type 0
-Accepted source type p = (read_content p.layout p.octets ≡ accepted p.says) × (p.says.source ≡ source) × (p.says.type ≡ type)
+Accepted source type p = (read_content p.layout p.octets ≡ Ok p.says) × (p.says.source ≡ source) × (p.says.type ≡ type)
 
 -- what octets say
 abbrev pub said_by : Layout → List ℕ → Result Content → List Heard
-said_by L o (refused x) = []
-said_by L o (accepted k) = record { layout = L; octets = o; says = k } ∷ []
+said_by L o (Err x) = []
+said_by L o (Ok k) = record { layout = L; octets = o; says = k } ∷ []
 
 -- a fresh packet's answer is not a refusal
 abbrev pub if_fresh : Answer → List Heard → List Heard

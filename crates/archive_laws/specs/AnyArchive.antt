@@ -1,4 +1,6 @@
 -- THE ARCHIVE OF ANY RECORDING, whoever sent it, whatever the octets are.
+use Rattle.wire_spec.specs.Result.{Result, Ok, Err}
+use Rattle.depacketizer.specs.declared.state.Depacketizer.{Depacketizer}
 use Rattle.std.specs.Prelude.{◌≡◌, List, [], ◌∷◌, ◌++◌, ℕ}
 use Rattle.wire_spec.specs.Bits.{Below}
 use Rattle.wire_spec.specs.Layout.{Layout}
@@ -6,8 +8,6 @@ use Rattle.wire_spec.specs.Anc.{Each}
 use Rattle.wire_spec.specs.Packet.{read_content}
 use Rattle.fieldfile_spec.specs.File.{FieldContent, read_file}
 use Rattle.rtp_frames.specs.Frames.{frames}
-use Rattle.depacketizer.specs.declared.state.Opened.{Opened}
-use Rattle.depacketizer.specs.declared.state.Opened.TheVariants as opened
 use Rattle.depacketizer_spec.specs.Step.{step}
 use Rattle.depacketizer_spec.specs.Delivery.{joined}
 use Rattle.fieldlist_session.specs.declared.session.Session.{Session}
@@ -17,9 +17,9 @@ use Rattle.fieldsave_session.specs.Filing.{filing}
 use Rattle.archive_laws.specs.Any.{Heard, OneField, heard_by, parts_of}
 
 -- the fresh packets of a recording, in order, as `fieldlist` and `fieldsave` hear them
-abbrev pub fresh_at : Layout → List ℕ → List ℕ → Opened → List Heard
-fresh_at L octets store (opened.Refused x) = []
-fresh_at L octets store (opened.Open d) = heard_by L octets (step d.state L octets store).answer
+abbrev pub fresh_at : Layout → List ℕ → List ℕ → Result Depacketizer → List Heard
+fresh_at L octets store (Err x) = []
+fresh_at L octets store (Ok d) = heard_by L octets (step d.state L octets store).answer
 
 abbrev pub fresh_in : Session → List ℕ → List (List ℕ) → List Heard
 fresh_in s store [] = []

@@ -2,7 +2,7 @@
 use Rattle.std.specs.Prelude.{◌≡◌, Bool, true, false, ◌&&◌, List, [], ◌∷◌, ◌++◌, map, ℕ, ◌+◌, ◌≤◌, length}
 use Rattle.wire_spec.specs.declared.refusal.Refusal.{Refusal}
 use Rattle.wire_spec.specs.Bits.{Below}
-use Rattle.wire_spec.specs.Result.{refused}
+use Rattle.wire_spec.specs.Result.{Err}
 use Rattle.wire_spec.specs.Anc.{Each}
 use Rattle.wire_spec.specs.Packet.{read_content}
 use Rattle.wire_spec.specs.Writing.{max_field_cells}
@@ -21,7 +21,7 @@ Recorded s (packet i) = OfStream s (packet i)
 -- 16, not only by 30 or 31.
 abbrev pub OpenedByStream : Stream → List Arriving → Type 0
 OpenedByStream s [] = Unit {0}
-OpenedByStream s (other L o ∷ tape) = (x : Refusal) × (read_content s.layout o ≡ refused x) × OpenedByStream s tape
+OpenedByStream s (other L o ∷ tape) = (x : Refusal) × (read_content s.layout o ≡ Err x) × OpenedByStream s tape
 OpenedByStream s (packet i ∷ tape) = Unit {0}
 
 -- the same in demand 3's words: calls in order, behind others. What is fresh, and what is near, does not look at the stores

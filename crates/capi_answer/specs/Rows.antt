@@ -1,8 +1,8 @@
 -- What a call returns as numbers: its own, and those that it writes to the first numbers of the answer's row.
+use Rattle.wire_spec.specs.Result.{Result, Ok, Err}
+use Rattle.wire_spec.specs.declared.count.OctetCount.{OctetCount}
 use Rattle.std.specs.Prelude.{cond, Bool, List, [], ◌∷◌, ℕ, leb, eqb, length}
 use Rattle.wire_spec.specs.declared.refusal.Refusal.{Refusal}
-use Rattle.wire_spec.specs.declared.written.Written.{Written}
-use Rattle.wire_spec.specs.declared.written.Written.TheVariants as written
 use Rattle.wire_spec.specs.Layout.{Layout, rfc8331, draft2015}
 
 -- numbers that an answer needs
@@ -35,9 +35,9 @@ abbrev pub row_reply : Reply
 row_reply = record { number = row_too_short; row = [] }
 
 -- octets written: how many
-abbrev pub written_reply : Written → Reply
-written_reply (written.Refused x) = refused_reply x
-written_reply (written.Octets n) = size_reply n.0
+abbrev pub written_reply : Result OctetCount → Reply
+written_reply (Err x) = refused_reply x
+written_reply (Ok n) = size_reply n.0
 
 -- what a call gives where the answer is long enough, and otherwise
 abbrev pub given : {A : Type 0} → List ℕ → A → A → A

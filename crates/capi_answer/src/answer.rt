@@ -5,7 +5,8 @@ ghost use Rattle.wire_spec.specs.Bits.{overwrite};
 
 use crate::row::{ACCEPTED, refuse};
 use capi_state::row::put;
-use wire_spec::written::Written;
+use wire_spec::count::OctetCount;
+use wire_spec::refusal::Refusal;
 
 // Accepts a call that returns one size.
 pub fn accept_size(size: usize, answer: &mut [u64]) -> u8
@@ -19,13 +20,13 @@ pub fn accept_size(size: usize, answer: &mut [u64]) -> u8
 }
 
 // What a writer answers: how many octets, or the refusal.
-pub fn reply_written(written: Written, answer: &mut [u64]) -> u8
+pub fn reply_written(written: Result<OctetCount, Refusal>, answer: &mut [u64]) -> u8
     requires { answer_size ≤ length answer.old }
     ensures value { result ≡ (written_reply written).number }
     ensures answer_after { answer.new ≡ overwrite (written_reply written).row answer.old }
 {
     match written {
-        Written::Refused(refusal) => refuse(refusal, answer),
-        Written::Octets(octets) => accept_size(octets.0, answer),
+        Err(refusal) => refuse(refusal, answer),
+        Ok(octets) => accept_size(octets.0, answer),
     }
 }

@@ -1,10 +1,10 @@
 -- The numbers of the boundary on examples: rows that are too short, states, rows that are none.
 -- By computation.
+use Rattle.std.specs.Prelude.{Some, None}
 use mathlib.Core.Path.{◌≡◌, refl}
 use mathlib.Core.List.{[], ◌∷◌, ◌++◌}
 use lib.ListN.{replicate}
 use Rattle.depacketizer_spec.specs.Step.{open_state}
-use Rattle.capi_state.specs.declared.state.Restored.TheVariants as restored
 use Rattle.capi_state.specs.State.{is_state, state_in}
 use Rattle.capi_depacketizer.specs.Calls.{arrive, open_numbers, open_reply}
 
@@ -20,7 +20,7 @@ type-over = refl
 opened : open_numbers 5 100 (replicate 15 1) (replicate 9 0) ≡ 5 ∷ 100 ∷ 0 ∷ 0 ∷ 0 ∷ 0 ∷ 0 ∷ 0 ∷ 0 ∷ 0 ∷ 0 ∷ 0 ∷ 0 ∷ 0 ∷ 0 ∷ []
 opened = refl
 
-read_back : state_in (open_numbers 5 100 (replicate 15 1) (replicate 9 0)) ≡ restored.State (open_state 5 100)
+read_back : state_in (open_numbers 5 100 (replicate 15 1) (replicate 9 0)) ≡ Some (open_state 5 100)
 unfolding is_state
 read_back = refl
 
@@ -29,14 +29,14 @@ heard-2 : (arrive 1 (5 ∷ 100 ∷ 0 ∷ 2 ∷ replicate 11 0) [] [] (replicate 
 unfolding is_state
 heard-2 = refl
 
-source-over : state_in (4294967296 ∷ replicate 14 0) ≡ restored.Unsound
+source-over : state_in (4294967296 ∷ replicate 14 0) ≡ None
 unfolding is_state
 source-over = refl
 
-remembers-2 : state_in (replicate 12 0 ++ (2 ∷ 0 ∷ 0 ∷ [])) ≡ restored.Unsound
+remembers-2 : state_in (replicate 12 0 ++ (2 ∷ 0 ∷ 0 ∷ [])) ≡ None
 unfolding is_state
 remembers-2 = refl
 
-remembered-over : state_in (replicate 12 0 ++ (0 ∷ 4294967296 ∷ 0 ∷ [])) ≡ restored.Unsound
+remembered-over : state_in (replicate 12 0 ++ (0 ∷ 4294967296 ∷ 0 ∷ [])) ≡ None
 unfolding is_state
 remembered-over = refl

@@ -1,8 +1,9 @@
 -- A refused arrival leaves the state's row and the store as they were, but for the late count (32) and the remembered number (36).
 -- By the library's law of a refused step, and because the numbers of the state in a row are the row's own.
+use Rattle.std.specs.Prelude.{Some, None}
 use mathlib.Core.Path.{◌≡◌, refl, ap, ◌∙◌}
 use mathlib.Core.Bool.{Bool, true, false, cond}
-use mathlib.Core.List.{List, []}
+use mathlib.Core.List.{List}
 use Prim.Native.Nat.{ℕ, ◌≤◌}
 use lib.ListN.{length}
 use Rattle.wire_spec.specs.Bits.{overwrite}
@@ -10,7 +11,6 @@ use Rattle.depacketizer_spec.specs.declared.state.Answer.{Answer}
 use Rattle.depacketizer_spec.specs.declared.state.Answer.TheVariants as answer
 use Rattle.depacketizer_spec.specs.Step.{Step, step}
 use Rattle.depacketizer_spec.proofs.StepLaws.{refused-keeps}
-use Rattle.capi_state.specs.declared.state.Restored.TheVariants as restored
 use Rattle.capi_answer.specs.Rows.{is_layout, layout_of, layout_reply, row_reply}
 use Rattle.capi_depacketizer.specs.Calls.{Arrived, arrive, arrived_at, no_arrival, rows_fit}
 use Rattle.capi_depacketizer.specs.Rows.{arrival_reply}
@@ -42,7 +42,7 @@ module _ (layout : ℕ) (state octets store given : List ℕ) where
   answer_keeps is long (answer.Whole x) e accepted late far = absurd (accepted refl)
 
   state-keeps : (b : Bool) → is_state state ≡ b → state_size ≤ length state
-      → Keeps (arrived_at (layout_of layout) (cond b (restored.State (state_at state)) restored.Unsound) octets store)
+      → Keeps (arrived_at (layout_of layout) (cond b (Some (state_at state)) None) octets store)
   state-keeps true is long = answer_keeps is long next.answer refl
   state-keeps false is long = λ accepted late far. (refl, refl)
 

@@ -1,12 +1,11 @@
 -- What each call gives, and what the lent memory holds then: as the library's definitions say, where the rows are long enough.
-use Rattle.std.specs.Prelude.{Bool, cond, ◌&&◌, List, [], ℕ, leb, length}
+use Rattle.wire_spec.specs.Result.{Result, Ok, Err}
+use Rattle.depacketizer.specs.declared.state.Depacketizer.{Depacketizer}
+use Rattle.depacketizer_spec.specs.declared.state.State.{State}
+use Rattle.std.specs.Prelude.{Bool, cond, ◌&&◌, List, [], ℕ, leb, length, Option, Some, None}
 use Rattle.wire_spec.specs.Layout.{Layout}
-use Rattle.depacketizer.specs.declared.state.Opened.{Opened}
-use Rattle.depacketizer.specs.declared.state.Opened.TheVariants as opened
 use Rattle.depacketizer.specs.Answers.{opened_of}
 use Rattle.depacketizer_spec.specs.Step.{Step, step, open_of}
-use Rattle.capi_state.specs.declared.state.Restored.{Restored}
-use Rattle.capi_state.specs.declared.state.Restored.TheVariants as restored
 use Rattle.capi_state.specs.State.{state_size}
 use Rattle.capi_state.specs.State.{numbers_of, state_in}
 use Rattle.capi_answer.specs.Rows.{Reply, accepted_reply, answer_size, is_layout, layout_of, layout_reply, refused_reply, row_reply}
@@ -21,19 +20,19 @@ abbrev pub given_both : {A : Type 0} → (state answer : List ℕ) → A → A �
 given_both state answer x y = cond (rows_fit (length state) (length answer)) x y
 
 -- opened: nothing in the answer
-abbrev pub opened_reply : Opened → Reply
-opened_reply (opened.Refused x) = refused_reply x
-opened_reply (opened.Open d) = accepted_reply []
+abbrev pub opened_reply : Result Depacketizer → Reply
+opened_reply (Err x) = refused_reply x
+opened_reply (Ok d) = accepted_reply []
 
 -- opened: the numbers of the state
-abbrev pub opened_numbers : Opened → List ℕ
-opened_numbers (opened.Refused x) = []
-opened_numbers (opened.Open d) = numbers_of d.state
+abbrev pub opened_numbers : Result Depacketizer → List ℕ
+opened_numbers (Err x) = []
+opened_numbers (Ok d) = numbers_of d.state
 
 -- opened: the state in the row, where another stood before
-abbrev pub opened_in : Opened → Restored → Restored
-opened_in (opened.Refused x) old = old
-opened_in (opened.Open d) old = restored.State d.state
+abbrev pub opened_in : Result Depacketizer → Option State → Option State
+opened_in (Err x) old = old
+opened_in (Ok d) old = Some d.state
 
 -- `jibhotran_open`: its reply
 abbrev pub open_reply : (source type : ℕ) → (state answer : List ℕ) → Reply
@@ -44,7 +43,7 @@ abbrev pub open_numbers : (source type : ℕ) → (state answer : List ℕ) → 
 open_numbers source type state answer = given_both state answer (opened_numbers (opened_of (open_of source type))) []
 
 -- the state that then stands in the row
-abbrev pub state_opened : (source type : ℕ) → (state answer : List ℕ) → Restored
+abbrev pub state_opened : (source type : ℕ) → (state answer : List ℕ) → Option State
 state_opened source type state answer = given_both state answer (opened_in (opened_of (open_of source type)) (state_in state)) (state_in state)
 
 -- what an arrival gives: the reply, the numbers that it writes to the state's row, and the store
@@ -58,14 +57,14 @@ abbrev pub stepped : Step → Arrived
 stepped x = record { reply = arrival_reply x.answer; numbers = numbers_of x.state; store = x.store }
 
 -- an arrival at the state that stands in a row; 35 where there is none
-abbrev pub arrived_at : Layout → Restored → (octets store : List ℕ) → Arrived
-arrived_at L restored.Unsound octets store = record { reply = refused_reply (record { number = 35; index = 0 }); numbers = []; store = store }
-arrived_at L (restored.State s) octets store = stepped (step s L octets store)
+abbrev pub arrived_at : Layout → Option State → (octets store : List ℕ) → Arrived
+arrived_at L None octets store = record { reply = refused_reply (record { number = 35; index = 0 }); numbers = []; store = store }
+arrived_at L (Some s) octets store = stepped (step s L octets store)
 
 -- the state after an arrival
-abbrev pub state_after : Layout → Restored → (octets store : List ℕ) → Restored
-state_after L restored.Unsound octets store = restored.Unsound
-state_after L (restored.State s) octets store = restored.State (step s L octets store).state
+abbrev pub state_after : Layout → Option State → (octets store : List ℕ) → Option State
+state_after L None octets store = None
+state_after L (Some s) octets store = Some (step s L octets store).state
 
 -- nothing arrived
 abbrev pub no_arrival : Reply → (store : List ℕ) → Arrived
@@ -77,6 +76,6 @@ arrive layout state octets store answer =
     given_both state answer (cond (is_layout layout) (arrived_at (layout_of layout) (state_in state) octets store) (no_arrival layout_reply store)) (no_arrival row_reply store)
 
 -- the state that then stands in the row: the library's next one
-abbrev pub state_arrived : (layout : ℕ) (state octets store answer : List ℕ) → Restored
+abbrev pub state_arrived : (layout : ℕ) (state octets store answer : List ℕ) → Option State
 state_arrived layout state octets store answer =
     given_both state answer (cond (is_layout layout) (state_after (layout_of layout) (state_in state) octets store) (state_in state)) (state_in state)

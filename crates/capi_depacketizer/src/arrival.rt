@@ -8,8 +8,8 @@ use crate::answer::reply_arrival;
 use capi_answer::layout::{LAST_LAYOUT, layout_of};
 use capi_answer::length::{ANSWER_SIZE, LAYOUT_UNKNOWN, ROW_TOO_SHORT};
 use capi_answer::row::{ACCEPTED, refuse};
-use capi_state::state::{Restored, put_state, state_in};
-use depacketizer::state::{Depacketizer, Opened};
+use capi_state::state::{put_state, state_in};
+use depacketizer::state::Depacketizer;
 use wire_spec::refusal::Refusal;
 
 // Numbers that a state needs.
@@ -34,8 +34,8 @@ pub fn jibhotran_open(source: u32, payload_type: u8, state: &mut [u64], answer: 
     }
     let opened = Depacketizer::open(source, payload_type);
     match opened {
-        Opened::Refused(refusal) => refuse(refusal, answer),
-        Opened::Open(depacketizer) => {
+        Err(refusal) => refuse(refusal, answer),
+        Ok(depacketizer) => {
             put_state(depacketizer.state, state);
             ACCEPTED
         }
@@ -64,14 +64,14 @@ pub fn jibhotran_arrive(
     }
     let restored = state_in(state);
     match restored {
-        Restored::Unsound => refuse(
+        None => refuse(
             Refusal {
                 number: Refusal::STATE_UNSOUND,
                 index: 0,
             },
             answer,
         ),
-        Restored::State(kept) => {
+        Some(kept) => {
             let depacketizer = Depacketizer { state: kept };
             let arrival = depacketizer.arrive(layout_of(layout), octets, store);
             let next = arrival.state;

@@ -1,6 +1,7 @@
 -- What a call gives: by the rows' lengths, by whether the numbers are a state, and by what the library gives of that state.
+use Rattle.egress_spec.specs.declared.state.HandedOut.{HandedOut}
 use mathlib.Core.Path.{◌≡◌, refl, sym, ◌∙◌, ap, subst}
-use mathlib.Core.Bool.{Bool, true, false, true≢false, cond, ◌&&◌}
+use mathlib.Core.Bool.{Bool, true, false, true≢false, cond}
 use mathlib.Core.List.{List, [], ◌∷◌}
 use Prim.Native.Nat.{ℕ, ◌≤◌, ◌<◌}
 use native.Mathlib.Omega.{arith}
@@ -8,15 +9,11 @@ use lib.Dec.{eqb, leb}
 use lib.ListN.{length, get_or}
 use borrow.Author.Tests.{leb-true, ltb-true}
 use Rattle.wire_spec.specs.declared.count.OctetCount.{OctetCount}
-use Rattle.wire_spec.specs.Result.{Checks, Result, refused, accepted}
+use Rattle.wire_spec.specs.Result.{Checks, Result, Err, Ok}
 use Rattle.wire_spec.proofs.ResultLaws.{accepted-inj, and-true, judge-accepts}
 use Rattle.egress_spec.specs.declared.state.State.{State}
 use Rattle.egress_spec.specs.declared.state.Offered.{Offered}
-use Rattle.egress_spec.specs.declared.state.OfferAnswer.{OfferAnswer}
-use Rattle.egress_spec.specs.declared.state.OfferAnswer.TheVariants as offer_answer
 use Rattle.egress_spec.specs.declared.state.Taken.{Taken}
-use Rattle.egress_spec.specs.declared.state.TakeAnswer.{TakeAnswer}
-use Rattle.egress_spec.specs.declared.state.TakeAnswer.TheVariants as take_answer
 use Rattle.egress_spec.specs.Queues.{memory_size, offer_checks}
 use Rattle.egress_spec.specs.Places.{sound}
 use Rattle.egress_spec.specs.Step as step
@@ -55,45 +52,45 @@ module _ (state answer lent : List ℕ) (x : Given) where
 -- what the library gave, of the state in the row
 pub offered-at : (in_row st : State) → st ≡ in_row → (c : ℕ) (p m : List ℕ) (o : Offered) (left : List ℕ)
     → o ≡ step.offered_of st (step.offer_of st c (length p) (length m)) → left ≡ step.memory_after st (step.offer_of st c (length p) (length m)) p m
-    → (y : OfferAnswer) → o.answer ≡ y → offered_by y o.state left ≡ offered_at in_row c p m
+    → (y : Result (Unit {0})) → o.answer ≡ y → offered_by y o.state left ≡ offered_at in_row c p m
 offered-at in_row st s c p m o left e d y f =
-    ap (λ (z : OfferAnswer). offered_by z o.state left) (sym f) ∙ (λ i. offered_by (e i).answer (e i).state (d i)) ∙ ap (λ (q : State). offered_at q c p m) s
+    ap (λ (z : Result (Unit {0})). offered_by z o.state left) (sym f) ∙ (λ i. offered_by (e i).answer (e i).state (d i)) ∙ ap (λ (q : State). offered_at q c p m) s
 
 pub taken_at_lem : (in_row st : State) → st ≡ in_row → (m out : List ℕ) (o : Taken) (left : List ℕ)
     → o ≡ step.taken_of st (step.take_of st (length m) (length out)) → left ≡ step.out_after st m (step.take_of st (length m) (length out)) out
-    → (y : TakeAnswer) → o.answer ≡ y → taken_by y o.state left ≡ taken_at in_row m out
+    → (y : Result HandedOut) → o.answer ≡ y → taken_by y o.state left ≡ taken_at in_row m out
 taken_at_lem in_row st s m out o left e d y f =
-    ap (λ (z : TakeAnswer). taken_by z o.state left) (sym f) ∙ (λ i. taken_by (e i).answer (e i).state (d i)) ∙ ap (λ (q : State). taken_at q m out) s
+    ap (λ (z : Result HandedOut). taken_by z o.state left) (sym f) ∙ (λ i. taken_by (e i).answer (e i).state (d i)) ∙ ap (λ (q : State). taken_at q m out) s
 
 -- what an offer that is copied in and a take that hands out a packet change of the row
-abbrev is_copied : OfferAnswer → Bool
-is_copied offer_answer.Copied = true
-is_copied (offer_answer.Refused x) = false
+abbrev is_copied : Result (Unit {0}) → Bool
+is_copied (Ok _) = true
+is_copied (Err x) = false
 
-abbrev is_handed : TakeAnswer → Bool
-is_handed (take_answer.HandedOut c n) = true
-is_handed (take_answer.Refused x) = false
+abbrev is_handed : Result HandedOut → Bool
+is_handed (Ok p) = true
+is_handed (Err x) = false
 
-abbrev channel_of : TakeAnswer → ℕ
-channel_of (take_answer.HandedOut c n) = c
-channel_of (take_answer.Refused x) = 0
+abbrev channel_of : Result HandedOut → ℕ
+channel_of (Ok p) = p.channel
+channel_of (Err x) = 0
 
 module _ (row : List ℕ) (long : row_size ≤ length row) where
   abbrev st : State
   st = state_at row
 
   pub copied-changed : (c : ℕ) (p m : List ℕ) (o : Offered)
-      → o ≡ step.offered_of st (step.offer_of st c (length p) (length m)) → o.answer ≡ offer_answer.Copied
+      → o ≡ step.offered_of st (step.offer_of st c (length p) (length m)) → o.answer ≡ Ok tt
       → ChangedAt row o.state c
   copied-changed c p m o e y = go (step.offer_of st c (length p) (length m)) refl e
     where
       go : (r : Result State) → step.offer_of st c (length p) (length m) ≡ r → o ≡ step.offered_of st r
           → ChangedAt row o.state c
-      go (refused x) f i = absurd (true≢false (ap is_copied (sym y ∙ ap (λ (z : Offered). z.answer) i)))
-      go (accepted n) f i =
+      go (Err x) f i = absurd (true≢false (ap is_copied (sym y ∙ ap (λ (z : Offered). z.answer) i)))
+      go (Ok n) f i =
           let held = get_or st.counts c 0 in
           let checks : Checks = (step.admits st (length m), 64) ∷ offer_checks c (length p) held in
-          let j = judge-accepts 0 checks (accepted (step.kept_state st c (step.free_slot st) (length p))) n f in
+          let j = judge-accepts 0 checks (Ok (step.kept_state st c (step.free_slot st) (length p))) n f in
           let t = j.0 in
           let l = leb-true c 7 t.1.0 in
           let few = ltb-true held 8 t.1.1.1.0 in
@@ -105,17 +102,17 @@ module _ (row : List ℕ) (long : row_size ≤ length row) where
 
   pub handed-changed : (m out : List ℕ) (o : Taken)
       → o ≡ step.taken_of st (step.take_of st (length m) (length out))
-      → (c : ℕ) (n : OctetCount) → o.answer ≡ take_answer.HandedOut c n → ChangedAt row o.state c
+      → (c : ℕ) (n : OctetCount) → o.answer ≡ Ok (record { channel = c; octets = n }) → ChangedAt row o.state c
   handed-changed m out o e c n y = go (step.take_of st (length m) (length out)) refl e
     where
       go : (r : Result ℕ) → step.take_of st (length m) (length out) ≡ r → o ≡ step.taken_of st r
           → ChangedAt row o.state c
-      go (refused x) f i = absurd (true≢false (ap is_handed (sym y ∙ ap (λ (z : Taken). z.answer) i)))
-      go (accepted d) f i =
+      go (Err x) f i = absurd (true≢false (ap is_handed (sym y ∙ ap (λ (z : Taken). z.answer) i)))
+      go (Ok d) f i =
           let turn = step.turn_for st in
           let fits = leb (step.head_length st turn) (length out) in
           let checks : Checks = (step.admits st (length m), 64) ∷ (leb turn 7, 63) ∷ (fits, 23) ∷ [] in
-          let j = judge-accepts 0 checks (accepted turn) d f in
+          let j = judge-accepts 0 checks (Ok turn) d f in
           let t = j.0 in
           let l = leb-true turn 7 t.1.0 in
           let k : turn ≡ d = accepted-inj j.1 in

@@ -1,12 +1,8 @@
 -- What each call of the outlet's C boundary gives: as the library's definitions say, where the rows are long enough and the state's numbers are a state.
+use Rattle.wire_spec.specs.Result.{Result, Ok, Err}
+use Rattle.egress_spec.specs.declared.state.HandedOut.{HandedOut}
 use Rattle.std.specs.Prelude.{Bool, cond, ◌&&◌, List, [], ◌∷◌, ℕ, leb, length}
 use Rattle.egress_spec.specs.declared.state.State.{State}
-use Rattle.egress_spec.specs.declared.state.Offered.{Offered}
-use Rattle.egress_spec.specs.declared.state.OfferAnswer.{OfferAnswer}
-use Rattle.egress_spec.specs.declared.state.OfferAnswer.TheVariants as offer_answer
-use Rattle.egress_spec.specs.declared.state.Taken.{Taken}
-use Rattle.egress_spec.specs.declared.state.TakeAnswer.{TakeAnswer}
-use Rattle.egress_spec.specs.declared.state.TakeAnswer.TheVariants as take_answer
 use Rattle.egress_spec.specs.Places.{open_state}
 use Rattle.egress_spec.specs.Step as step
 use Rattle.capi_egress_state.specs.Row.{is_state, numbers_of, row_size, state_at}
@@ -39,9 +35,9 @@ at_state state answer lent x =
     cond (rows_fit (length state) (length answer)) (cond (is_state state) x (unchanged (refused_reply (record { number = 64; index = 0 })) lent)) (unchanged row_reply lent)
 
 -- an offer copied in, or refused; `memory` is what the library leaves
-abbrev pub offered_by : OfferAnswer → State → (memory : List ℕ) → Given
-offered_by offer_answer.Copied next memory = record { reply = accepted_reply []; numbers = numbers_of next; lent = memory }
-offered_by (offer_answer.Refused x) next memory = unchanged (refused_reply x) memory
+abbrev pub offered_by : Result (Unit {0}) → State → (memory : List ℕ) → Given
+offered_by (Ok _) next memory = record { reply = accepted_reply []; numbers = numbers_of next; lent = memory }
+offered_by (Err x) next memory = unchanged (refused_reply x) memory
 
 abbrev pub offered_at : State → (channel : ℕ) (packet memory : List ℕ) → Given
 offered_at st c p m =
@@ -56,9 +52,9 @@ offer state c p m answer = at_state state answer m (offered_at (state_at state) 
 abbrev pub taken_reply : (channel octets : ℕ) → Reply
 taken_reply c n = accepted_reply (c ∷ n ∷ [])
 
-abbrev pub taken_by : TakeAnswer → State → (out : List ℕ) → Given
-taken_by (take_answer.HandedOut c n) next out = record { reply = taken_reply c n.0; numbers = numbers_of next; lent = out }
-taken_by (take_answer.Refused x) next out = unchanged (refused_reply x) out
+abbrev pub taken_by : Result HandedOut → State → (out : List ℕ) → Given
+taken_by (Ok p) next out = record { reply = taken_reply p.channel p.octets.0; numbers = numbers_of next; lent = out }
+taken_by (Err x) next out = unchanged (refused_reply x) out
 
 abbrev pub taken_at : State → (memory out : List ℕ) → Given
 taken_at st m out =

@@ -12,7 +12,7 @@ use capi_answer::length::{ANSWER_SIZE, ROW_TOO_SHORT};
 use capi_answer::row::{ACCEPTED, refuse};
 use capi_egress_state::state::{is_state, put_channel, put_state, state_in};
 use capi_state::row::put;
-use egress_spec::state::{OfferAnswer, TakeAnswer};
+use egress_spec::state::HandedOut;
 use wire_spec::refusal::Refusal;
 
 // Numbers that a state needs.
@@ -72,8 +72,8 @@ pub fn jibhotran_outlet_offer(
     let next = offered.state;
     let outcome = offered.answer;
     match outcome {
-        OfferAnswer::Refused(refusal) => refuse(refusal, answer),
-        OfferAnswer::Copied => {
+        Err(refusal) => refuse(refusal, answer),
+        Ok(()) => {
             put_channel(next, channel as usize, state);
             ACCEPTED
         }
@@ -114,8 +114,8 @@ pub fn jibhotran_outlet_take(
     let next = taken.state;
     let outcome = taken.answer;
     match outcome {
-        TakeAnswer::Refused(refusal) => refuse(refusal, answer),
-        TakeAnswer::HandedOut { channel, octets } => {
+        Err(refusal) => refuse(refusal, answer),
+        Ok(HandedOut { channel, octets }) => {
             put_channel(next, channel as usize, state);
             accept_taken(channel, octets.0, answer)
         }

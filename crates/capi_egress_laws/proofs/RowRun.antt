@@ -4,7 +4,7 @@ use mathlib.Core.Path.{◌≡◌, refl, ap, ap₂, sym, ◌∙◌, subst}
 use mathlib.Core.Bool.{Bool, true, false, not, cond, true≢false}
 use mathlib.Core.Logic.{◌↔◌}
 use mathlib.Core.List.{List, [], ◌∷◌, ◌++◌}
-use Prim.Native.Nat.{ℕ, suc, ◌+◌, ◌<◌, ◌≤◌}
+use Prim.Native.Nat.{ℕ, suc, ◌<◌, ◌≤◌}
 use native.Mathlib.Omega.{arith}
 use lib.Dec.{eqb, leb}
 use lib.ListN.{length, drop, get_or, length-append}
@@ -12,7 +12,7 @@ use borrow.Author.Tests.{le-leb, eq-eqb, eqb-true, not-true}
 use Rattle.wire_spec.specs.declared.refusal.Refusal.{Refusal}
 use Rattle.wire_spec.specs.Bits.{overwrite}
 use Rattle.wire_spec.specs.Anc.{Each}
-use Rattle.wire_spec.specs.Result.{Result, refused, accepted}
+use Rattle.wire_spec.specs.Result.{Result, Err, Ok}
 use Rattle.wire_spec.proofs.ResultLaws.{Numbered, and_both, and-true, judge-numbered}
 use Rattle.egress_spec.specs.declared.state.State.{State}
 use Rattle.egress_spec.specs.Queues.{Call, offering, taking, Answer, copied, no, memory_size, opened, answers, offer_checks}
@@ -35,11 +35,11 @@ abbrev is_not0 : ℕ → Bool
 is_not0 n = not (eqb n 0)
 
 offer-numbered : (st : State) (c n m : ℕ) → Numbered is_not0 (offer_of st c n m)
-offer-numbered st c n m = judge-numbered is_not0 0 ((admits st m, 64) ∷ offer_checks c n (get_or st.counts c 0)) (accepted (kept_state st c (free_slot st) n)) refl tt
+offer-numbered st c n m = judge-numbered is_not0 0 ((admits st m, 64) ∷ offer_checks c n (get_or st.counts c 0)) (Ok (kept_state st c (free_slot st) n)) refl tt
 
 take-numbered : (st : State) (m room : ℕ) → Numbered is_not0 (take_of st m room)
 take-numbered st m room =
-    judge-numbered is_not0 0 ((admits st m, 64) ∷ (leb (turn_for st) 7, 63) ∷ (leb (head_length st (turn_for st)) room, 23) ∷ []) (accepted (turn_for st)) refl tt
+    judge-numbered is_not0 0 ((admits st m, 64) ∷ (leb (turn_for st) 7, 63) ∷ (leb (head_length st (turn_for st)) room, 23) ∷ []) (Ok (turn_for st)) refl tt
 
 -- what a call through a row has given, against the library's call
 record Alike (state m : List ℕ) (k : Call) (answer : List ℕ) (g : Given) (r : Called) : Type 0 where
@@ -78,8 +78,8 @@ module _ (state m answer : List ℕ) (long : row_size ≤ length state) (is : is
   offer-alike : (c : ℕ) (p : List ℕ) (r : Result State) → Numbered is_not0 r → Holds (offered_of st r).state
       → Alike state m (offering c p) answer (offered_by (offered_of st r).answer (offered_of st r).state (memory_after st r p m))
       (record { state = (offered_of st r).state; memory = memory_after st r p m; lent = p; answer = offer_heard (offered_of st r).answer })
-  offer-alike c p (refused x) h s = record { hears = refusal_is x c h copied; memory = refl; lent = refl; next = refl; is = is; long = long }
-  offer-alike c p (accepted n) h s =
+  offer-alike c p (Err x) h s = record { hears = refusal_is x c h copied; memory = refl; lent = refl; next = refl; is = is; long = long }
+  offer-alike c p (Ok n) h s =
       record {
         hears = refl;
         memory = refl;
@@ -92,9 +92,9 @@ module _ (state m answer : List ℕ) (long : row_size ≤ length state) (is : is
   take-alike : (out : List ℕ) (r : Result ℕ) → Numbered is_not0 r → Holds (taken_of st r).state
       → Alike state m (taking out) answer (taken_by (taken_of st r).answer (taken_of st r).state (out_after st m r out))
       (record { state = (taken_of st r).state; memory = m; lent = out_after st m r out; answer = take_heard (taken_of st r).answer (out_after st m r out) })
-  take-alike out (refused x) h s = record { hears = refusal_is x 0 h _; memory = refl; lent = refl; next = refl; is = is; long = long }
-  take-alike out (accepted c) h s =
-      let n = (taken_of st (accepted c)).state in
+  take-alike out (Err x) h s = record { hears = refusal_is x 0 h _; memory = refl; lent = refl; next = refl; is = is; long = long }
+  take-alike out (Ok c) h s =
+      let n = (taken_of st (Ok c)).state in
       record {
         hears = refl;
         memory = refl;
@@ -162,8 +162,8 @@ module _ (state m answer : List ℕ) where
       (unchanged (refused_reply (record { number = 64; index = 0 })) m)) (unchanged row_reply m))).memory ≡ m)
   offer-stays c p false b r h = (refl, refl)
   offer-stays c p true false r h = (refl, refl)
-  offer-stays c p true true (refused x) h = (refl, refl)
-  offer-stays c p true true (accepted n) h = absurd (h refl)
+  offer-stays c p true true (Err x) h = (refl, refl)
+  offer-stays c p true true (Ok n) h = absurd (h refl)
 
   take-stays : (out : List ℕ) (a b : Bool) (r : Result ℕ)
       → ((leaves state m (taking out) answer
@@ -177,8 +177,8 @@ module _ (state m answer : List ℕ) where
       (unchanged (refused_reply (record { number = 64; index = 0 })) out)) (unchanged row_reply out))).lent ≡ out)
   take-stays out false b r h = (refl, refl)
   take-stays out true false r h = (refl, refl)
-  take-stays out true true (refused x) h = (refl, refl)
-  take-stays out true true (accepted n) h = absurd (h refl)
+  take-stays out true true (Err x) h = (refl, refl)
+  take-stays out true true (Ok n) h = absurd (h refl)
 
 pub row-refusal-changes-nothing : (state m : List ℕ) (k : RowCall) → ((row_call state m k).number ≡ 0 → ⊥) → Unchanged state m k
 row-refusal-changes-nothing state m k h = go k.call h
@@ -238,12 +238,12 @@ module _ (state m answer : List ℕ) (long : row_size ≤ length state) (room : 
       later =
           rw a
           (judge-numbered (λ (n : ℕ). not (eqb n 64)) 0 (offer_checks c (length p) (get_or (state_at state).counts c 0))
-          (accepted (kept_state (state_at state) c (free_slot (state_at state)) (length p))) refl tt)
+          (Ok (kept_state (state_at state) c (free_slot (state_at state)) (length p))) refl tt)
 
       other : (r : Result State) → Numbered (λ (n : ℕ). not (eqb n 64)) r
           → (offered_by (offered_of (state_at state) r).answer (offered_of (state_at state) r).state (memory_after (state_at state) r p m)).reply.number ≡ 64 → ⊥
-      other (refused x) h z = true≢false (sym h ∙ ap (λ (n : ℕ). not (eqb n 64)) z)
-      other (accepted n) h z = omega arith
+      other (Err x) h z = true≢false (sym h ∙ ap (λ (n : ℕ). not (eqb n 64)) z)
+      other (Ok n) h z = omega arith
 
   take-number : (out : List ℕ) (x : Bool) (y : Bool) → is_state state ≡ x → admits (state_at state) (length m) ≡ y
       → ((calls.take state m out answer).reply.number ≡ 64) ↔ (RowSound state m → ⊥)
@@ -259,12 +259,12 @@ module _ (state m answer : List ℕ) (long : row_size ≤ length state) (room : 
       later =
           rw a
           (judge-numbered (λ (n : ℕ). not (eqb n 64)) 0
-          ((leb (turn_for (state_at state)) 7, 63) ∷ (leb (head_length (state_at state) (turn_for (state_at state))) (length out), 23) ∷ []) (accepted (turn_for (state_at state))) refl tt)
+          ((leb (turn_for (state_at state)) 7, 63) ∷ (leb (head_length (state_at state) (turn_for (state_at state))) (length out), 23) ∷ []) (Ok (turn_for (state_at state))) refl tt)
 
       other : (r : Result ℕ) → Numbered (λ (n : ℕ). not (eqb n 64)) r
           → (taken_by (taken_of (state_at state) r).answer (taken_of (state_at state) r).state (out_after (state_at state) m r out)).reply.number ≡ 64 → ⊥
-      other (refused x) h z = true≢false (sym h ∙ ap (λ (n : ℕ). not (eqb n 64)) z)
-      other (accepted n) h z = omega arith
+      other (Err x) h z = true≢false (sym h ∙ ap (λ (n : ℕ). not (eqb n 64)) z)
+      other (Ok n) h z = omega arith
 
   pub row-64-iff : (k : Call) → ((row_call state m (record { call = k; answer = answer })).number ≡ 64) ↔ (RowSound state m → ⊥)
   row-64-iff (offering c p) = offer-number c p (is_state state) (admits (state_at state) (length m)) refl refl

@@ -1,9 +1,9 @@
 -- A call changes few of a row's numbers: with these written, the row has the numbers of the state that it leaves.
 use mathlib.Core.Path.{◌≡◌, refl, sym, ◌∙◌, ap, subst}
 use mathlib.Core.List.{List, [], ◌∷◌, ◌++◌, append_assoc}
-use Prim.Native.Nat.{ℕ, zero, suc, ◌+◌, ◌-◌, ◌*◌, ◌%◌, ◌≤◌, ◌<◌}
+use Prim.Native.Nat.{ℕ, zero, suc, ◌+◌, ◌-◌, ◌≤◌, ◌<◌}
 use native.Mathlib.Omega.{arith}
-use lib.ListN.{length, get_or, set, take, drop, length-set, length-append, take-append-drop}
+use lib.ListN.{length, get_or, set, drop, length-set, length-append, take-append-drop}
 use lib.Seq.{drop-cons, drop-drop, get_or-set_same, set-append_left, set-get_or}
 use Rattle.wire_spec.specs.Bits.{overwrite}
 use Rattle.egress_spec.specs.declared.state.State.{State}

@@ -1,14 +1,14 @@
 -- "Memory and state are handed on unaltered from call to call": a state that came out of a row fits a row again after any call.
 use mathlib.Core.Path.{◌≡◌, refl, ◌∙◌, subst}
-use mathlib.Core.Bool.{Bool, true, ◌&&◌}
+use mathlib.Core.Bool.{true}
 use mathlib.Core.List.{List, ◌∷◌}
-use Prim.Native.Nat.{ℕ, ◌+◌, ◌-◌, ◌≤◌, ◌<◌}
+use Prim.Native.Nat.{ℕ, ◌+◌, ◌-◌, ◌≤◌}
 use native.Mathlib.Omega.{arith}
 use lib.Dec.{eqb, leb}
-use lib.ListN.{length, drop, get_or, set, length-set}
+use lib.ListN.{length, drop, get_or, length-set}
 use borrow.Author.Tests.{leb-true, le-leb, ltb-true}
 use Rattle.wire_spec.specs.Bits.{overwrite}
-use Rattle.wire_spec.specs.Result.{Result, refused, accepted}
+use Rattle.wire_spec.specs.Result.{Result, Err, Ok}
 use Rattle.wire_spec.proofs.ResultLaws.{accepted-inj, and-true, judge-accepts}
 use Rattle.egress_spec.specs.declared.state.State.{State}
 use Rattle.egress_spec.specs.Queues.{Call, offering, taking, behind, channels, memory_size, offer_checks, slot_count, slot_size}
@@ -76,9 +76,9 @@ pub call-holds : (st : State) (m : List ℕ) (k : Call) → Holds st → Holds (
 call-holds st m (offering c p) h = go (offer_of st c (length p) (length m)) refl
   where
     go : (r : Result State) → offer_of st c (length p) (length m) ≡ r → Holds (offered_of st r).state
-    go (refused x) e = h
-    go (accepted n) e =
-        let j = judge-accepts 0 ((admits st (length m), 64) ∷ offer_checks c (length p) (get_or st.counts c 0)) (accepted (kept_state st c (free_slot st) (length p))) n e in
+    go (Err x) e = h
+    go (Ok n) e =
+        let j = judge-accepts 0 ((admits st (length m), 64) ∷ offer_checks c (length p) (get_or st.counts c 0)) (Ok (kept_state st c (free_slot st) (length p))) n e in
         let t = j.0 in
         let l = leb-true c 7 t.1.0 in
         let few = ltb-true (get_or st.counts c 0) 8 t.1.1.1.0 in
@@ -88,8 +88,8 @@ call-holds st m (offering c p) h = go (offer_of st c (length p) (length m)) refl
 call-holds st m (taking out) h = go (take_of st (length m) (length out))
   where
     go : (r : Result ℕ) → Holds (taken_of st r).state
-    go (refused x) = h
-    go (accepted c) = left-holds st c h
+    go (Err x) = h
+    go (Ok c) = left-holds st c h
 
 -- the numbers of a row that is a state
 pub row-holds : (row : List ℕ) → row_size ≤ length row → is_state row ≡ true → Holds (state_at row)

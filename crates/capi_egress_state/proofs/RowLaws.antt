@@ -1,8 +1,8 @@
 -- The parts of a state put one behind the other are its numbers; read again they are the state, and the other way about.
-use mathlib.Core.Path.{◌≡◌, refl, sym, ◌∙◌, ap, ap₂}
-use mathlib.Core.Bool.{Bool, true, ◌&&◌}
+use mathlib.Core.Path.{◌≡◌, sym, ◌∙◌, ap}
+use mathlib.Core.Bool.{true}
 use mathlib.Core.List.{List, [], ◌∷◌, ◌++◌, append_assoc, head-eq_of_cons-eq}
-use Prim.Native.Nat.{ℕ, ◌+◌, ◌≤◌, ◌<◌, zero-le}
+use Prim.Native.Nat.{ℕ, ◌+◌, ◌<◌, zero-le}
 use native.Mathlib.Omega.{arith}
 use lib.ListN.{length, take, drop, set, get_or, length-append}
 use lib.Seq.{drop-cons, take_at, drop_at}
@@ -10,7 +10,7 @@ use Rattle.wire_spec.specs.Bits.{overwrite, splice}
 use Rattle.wire_spec.proofs.ListLaws.{splice-append, set-splice}
 use Rattle.egress_spec.specs.declared.state.State.{State}
 use Rattle.egress_spec.specs.Queues.{channels, slot_count}
-use Rattle.capi_egress_state.specs.Row.{counts_at, fits, is_state, lengths_at, next_at, numbers_of, part, row_size, slots_at, state_at}
+use Rattle.capi_egress_state.specs.Row.{counts_at, fits, is_state, lengths_at, next_at, numbers_of, part, slots_at, state_at}
 
 -- one part more
 more : (row l piece new : List ℕ) (at : ℕ) → l ≡ splice row 0 piece → at ≡ 0 + length piece → splice l at new ≡ splice row 0 (piece ++ new)

@@ -8,24 +8,22 @@ ghost use Rattle.capi_egress_state.specs.Row.{Joined, all_fit, max16, max8};
 pub fn joined(numbers: &[u64]) -> u64
     ensures { Joined numbers.now result }
 {
-    let mut all: u64 = 0;
-    let mut k: usize = 0;
-    while k < numbers.len() {
-        all = all | numbers[k];
-        k += 1;
+    let mut all = 0;
+    for n in numbers {
+        all |= *n;
     }
     all
 }
+
+// Kept as two functions for each way: generic over the width, they would need a trait of the library's own with its laws, longer than the four loops.
 
 // Takes numbers of 8 bits out of a row.
 pub fn take_octets(numbers: &[u64], out: &mut [u8])
     requires { (all_fit max8 numbers.now ≡ true) × (length numbers.now ≤ length out.old) }
     ensures { out.new ≡ overwrite numbers.now out.old }
 {
-    let mut k: usize = 0;
-    while k < numbers.len() {
-        out[k] = numbers[k] as u8;
-        k += 1;
+    for (k, n) in numbers.iter().enumerate() {
+        out[k] = *n as u8;
     }
 }
 
@@ -34,10 +32,8 @@ pub fn take_lengths(numbers: &[u64], out: &mut [u16])
     requires { (all_fit max16 numbers.now ≡ true) × (length numbers.now ≤ length out.old) }
     ensures { out.new ≡ overwrite numbers.now out.old }
 {
-    let mut k: usize = 0;
-    while k < numbers.len() {
-        out[k] = numbers[k] as u16;
-        k += 1;
+    for (k, n) in numbers.iter().enumerate() {
+        out[k] = *n as u16;
     }
 }
 
@@ -46,10 +42,8 @@ pub fn put_octets(octets: &[u8], at: usize, row: &mut [u64])
     requires { at + length octets.now ≤ length row.old }
     ensures { row.new ≡ splice row.old at octets.now }
 {
-    let mut k: usize = 0;
-    while k < octets.len() {
-        row[at + k] = octets[k] as u64;
-        k += 1;
+    for (k, n) in octets.iter().enumerate() {
+        row[at + k] = u64::from(*n);
     }
 }
 
@@ -58,9 +52,7 @@ pub fn put_lengths(lengths: &[u16], at: usize, row: &mut [u64])
     requires { at + length lengths.now ≤ length row.old }
     ensures { row.new ≡ splice row.old at lengths.now }
 {
-    let mut k: usize = 0;
-    while k < lengths.len() {
-        row[at + k] = lengths[k] as u64;
-        k += 1;
+    for (k, n) in lengths.iter().enumerate() {
+        row[at + k] = u64::from(*n);
     }
 }

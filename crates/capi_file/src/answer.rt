@@ -8,8 +8,9 @@ ghost use Rattle.wire_spec.specs.Bits.{overwrite};
 use capi_answer::answer::accept_size;
 use capi_answer::row::{ACCEPTED, refuse};
 use capi_state::row::put;
-use fieldfile_reader::field::{FieldRead, Summary as FieldSummary};
-use sdi_spec::answer::{ReadLine, WrittenLine};
+use fieldfile_reader::field::Summary as FieldSummary;
+use sdi_spec::answer::ReadLine;
+use wire_spec::refusal::Refusal;
 
 // Timestamp, F, records, cells, the offset after the field.
 fn put_field(field: FieldSummary, answer: &mut [u64])
@@ -29,14 +30,14 @@ fn put_field(field: FieldSummary, answer: &mut [u64])
 }
 
 // A field of a file read.
-pub(crate) fn reply_field(read: FieldRead, answer: &mut [u64]) -> u8
+pub(crate) fn reply_field(read: Result<FieldSummary, Refusal>, answer: &mut [u64]) -> u8
     requires { answer_size ≤ length answer.old }
     ensures value { result ≡ (field_reply read).number }
     ensures answer_after { answer.new ≡ overwrite (field_reply read).row answer.old }
 {
     match read {
-        FieldRead::Refused(refusal) => refuse(refusal, answer),
-        FieldRead::Field(field) => {
+        Err(refusal) => refuse(refusal, answer),
+        Ok(field) => {
             put_field(field, answer);
             ACCEPTED
         }
@@ -44,26 +45,26 @@ pub(crate) fn reply_field(read: FieldRead, answer: &mut [u64]) -> u8
 }
 
 // What the writer of lines answers: the word behind the written stretch.
-pub(crate) fn reply_line_written(written: WrittenLine, answer: &mut [u64]) -> u8
+pub(crate) fn reply_line_written(written: Result<usize, Refusal>, answer: &mut [u64]) -> u8
     requires { answer_size ≤ length answer.old }
     ensures value { result ≡ (line_written_reply written).number }
     ensures answer_after { answer.new ≡ overwrite (line_written_reply written).row answer.old }
 {
     match written {
-        WrittenLine::Refused(refusal) => refuse(refusal, answer),
-        WrittenLine::End(end) => accept_size(end, answer),
+        Err(refusal) => refuse(refusal, answer),
+        Ok(end) => accept_size(end, answer),
     }
 }
 
 // A line read: records, cells, the word behind the last packet.
-pub(crate) fn reply_line_read(read: ReadLine, answer: &mut [u64]) -> u8
+pub(crate) fn reply_line_read(read: Result<ReadLine, Refusal>, answer: &mut [u64]) -> u8
     requires { answer_size ≤ length answer.old }
     ensures value { result ≡ (line_found_reply read).number }
     ensures answer_after { answer.new ≡ overwrite (line_found_reply read).row answer.old }
 {
     match read {
-        ReadLine::Refused(refusal) => refuse(refusal, answer),
-        ReadLine::Records { count, cells, end } => {
+        Err(refusal) => refuse(refusal, answer),
+        Ok(ReadLine { count, cells, end }) => {
             let values = [count as u64, cells as u64, end as u64];
             put(&values, answer);
             ACCEPTED

@@ -1,5 +1,6 @@
 -- What a refused arrival leaves of the rows.
 -- By the library's law of a refused step, and because the numbers of the state in a row are the row's own.
+use Rattle.std.specs.Prelude.{Some, None}
 use mathlib.Core.Path.{◌≡◌, refl, ap, ◌∙◌}
 use mathlib.Core.Bool.{Bool, true, false, cond}
 use mathlib.Core.List.{List}
@@ -7,13 +8,12 @@ use Prim.Native.Nat.{ℕ, ◌+◌, ◌-◌, ◌^◌, ◌%◌, ◌≤◌, min}
 use native.Mathlib.Omega.{arith}
 use lib.ListN.{length, get_or, set}
 use Rattle.wire_spec.specs.Bits.{overwrite}
-use Rattle.wire_spec.specs.Result.{accepted}
+use Rattle.wire_spec.specs.Result.{Ok}
 use Rattle.wire_spec.specs.Packet.{Content, read_content}
 use Rattle.depacketizer_spec.specs.declared.state.Answer.{Answer}
 use Rattle.depacketizer_spec.specs.declared.state.Answer.TheVariants as answer
 use Rattle.depacketizer_spec.specs.Step.{Step, step}
 use Rattle.depacketizer_spec.proofs.StepLaws.{refused-keeps, passed}
-use Rattle.capi_state.specs.declared.state.Restored.TheVariants as restored
 use Rattle.capi_answer.specs.Rows.{is_layout, layout_of, layout_reply, row_reply}
 use Rattle.capi_depacketizer.specs.Calls.{Arrived, arrive, arrived_at, no_arrival, rows_fit}
 use Rattle.capi_depacketizer.specs.Rows.{arrival_reply}
@@ -32,12 +32,12 @@ module _ (layout : ℕ) (state octets store given : List ℕ) where
   Moves a =
       (a.reply.number ≡ 32 → (overwrite a.numbers state ≡ set state 10 (min (get_or state 10 0 + 1) (2 ^ 64 - 1))) × (a.store ≡ store))
       × (a.reply.number ≡ 36
-      → (k : Content) × (read_content (layout_of layout) octets ≡ accepted k) × (overwrite a.numbers state ≡ set (set state 12 1) 13 ((k.number + 1) % 2 ^ 32)) × (a.store ≡ store))
+      → (k : Content) × (read_content (layout_of layout) octets ≡ Ok k) × (overwrite a.numbers state ≡ set (set state 12 1) 13 ((k.number + 1) % 2 ^ 32)) × (a.store ≡ store))
 
   refused-moves : is_state state ≡ true → state_size ≤ length state → (x : Answer) → next.answer ≡ x
       → ((arrival_reply x).number ≡ 32 → (overwrite (numbers_of next.state) state ≡ set state 10 (min (get_or state 10 0 + 1) (2 ^ 64 - 1))) × (next.store ≡ store))
       × ((arrival_reply x).number ≡ 36
-      → (k : Content) × (read_content (layout_of layout) octets ≡ accepted k) × (overwrite (numbers_of next.state) state ≡ set (set state 12 1) 13 ((k.number + 1) % 2 ^ 32)) × (next.store ≡ store))
+      → (k : Content) × (read_content (layout_of layout) octets ≡ Ok k) × (overwrite (numbers_of next.state) state ≡ set (set state 12 1) 13 ((k.number + 1) % 2 ^ 32)) × (next.store ≡ store))
   refused-moves is long (answer.Refused x) e =
       let r = refused-keeps (state_at state) (layout_of layout) octets store x e in
       let row = row-again state is long in (
@@ -62,7 +62,7 @@ module _ (layout : ℕ) (state octets store given : List ℕ) where
   refused-moves is long (answer.Whole x) e = (λ n. absurd (omega arith), λ n. absurd (omega arith))
 
   state-moves : (b : Bool) → is_state state ≡ b → state_size ≤ length state
-      → Moves (arrived_at (layout_of layout) (cond b (restored.State (state_at state)) restored.Unsound) octets store)
+      → Moves (arrived_at (layout_of layout) (cond b (Some (state_at state)) None) octets store)
   state-moves true is long = refused-moves is long next.answer refl
   state-moves false is long = (λ n. absurd (omega arith), λ n. absurd (omega arith))
 

@@ -1,5 +1,6 @@
 -- DEMAND 3 OF THE C CALLS.
 -- The state in the row is that of the library's run, call after call.
+use Rattle.std.specs.Prelude.{Some, None}
 use mathlib.Core.Path.{◌≡◌, refl, ap, ap₂, sym, ◌∙◌, subst}
 use mathlib.Core.Bool.{Bool, true, false, cond, true≢false}
 use mathlib.Core.List.{List, ◌++◌}
@@ -23,7 +24,6 @@ use Rattle.depacketizer_spec.proofs.NumberLaws.{is_reading, content-numbered}
 use Rattle.depacketizer_spec.proofs.StepLaws.{refusal-inj}
 use Rattle.depacketizer_spec.proofs.TableLaws.{told, exactly}
 use Rattle.depacketizer_spec.proofs.Demand3.{demand3}
-use Rattle.capi_state.specs.declared.state.Restored.TheVariants as restored
 use Rattle.capi_state.specs.State.{is_state, phase_in, state_at, state_in}
 use Rattle.capi_state.proofs.StateLaws.{fitting}
 use Rattle.capi_answer.specs.Rows as rows
@@ -59,14 +59,14 @@ refusal-some st L octets store small r e z = go (told st L octets store small)
     go (table.ahead k o h d l m p c w) = fresh (k, o, table.ahead h d (omega arith) m p)
     go (table.restarts k o h p m c d) = fresh (k, o, table.restart h p m)
 
-state-inj : {a b : State} → restored.State a ≡ restored.State b → a ≡ b
+state-inj : {a b : State} → Some a ≡ Some b → a ≡ b
 state-inj e = cc
 
 -- the state that stands in a row
-stands_at : (row : List ℕ) (st : State) → state_in row ≡ restored.State st → (is_state row ≡ true) × (state_at row ≡ st)
+stands_at : (row : List ℕ) (st : State) → state_in row ≡ Some st → (is_state row ≡ true) × (state_at row ≡ st)
 stands_at row st e = go (is_state row) refl e
   where
-    go : (b : Bool) → is_state row ≡ b → cond b (restored.State (state_at row)) restored.Unsound ≡ restored.State st → (is_state row ≡ true) × (state_at row ≡ st)
+    go : (b : Bool) → is_state row ≡ b → cond b (Some (state_at row)) None ≡ Some st → (is_state row ≡ true) × (state_at row ≡ st)
     go true h e = (h, state-inj e)
     go false h e = let o : ◌≡◌ {A = ℕ} 0 1 = cc in absurd (omega arith)
 
@@ -89,16 +89,16 @@ fits row given l m = and_both (le-leb 15 (length row) l) (le-leb 9 (length given
 
 -- the library's run stands in the rows
 record Stands (row store : List ℕ) (handed : List Handed) (r : Run) : Type 0 where
-  state : state_in row ≡ restored.State r.state
+  state : state_in row ≡ Some r.state
   left : store ≡ r.store
   out : handed ≡ r.handed
 
 module _ (row octets store given : List ℕ) (layout : ℕ) (st : State) (l : layout ≤ 1) (long : 15 ≤ length row) (answers : 9 ≤ length given)
-    (is : state_in row ≡ restored.State st) where
+    (is : state_in row ≡ Some st) where
   arrive-is : arrive layout row octets store given ≡ stepped (step st (rows.layout_of layout) octets store)
   arrive-is = rw (fits row given long answers, le-leb layout 1 l, is)
 
-  state-is : state_arrived layout row octets store given ≡ restored.State (step st (rows.layout_of layout) octets store).state
+  state-is : state_arrived layout row octets store given ≡ Some (step st (rows.layout_of layout) octets store).state
   state-is = rw (fits row given long answers, le-leb layout 1 l, is)
 
 stands : (s : Stream) → s.type ≤ 127 → {cs : Calls} {row store : List ℕ} {handed : List Handed} → Ran s cs row store handed → Stands row store handed (run s cs)
@@ -121,7 +121,7 @@ stands s t (ran.arrives {cs} {row} {store} {handed} p c layout given l told-layo
     let a : arrive layout row o lend given ≡ stepped z = arrive-is row o lend given layout st l long answers ih.state ∙ ap stepped steps in
     let small : st.last.0 < 2 ^ 32 = (let m : get_or row 4 0 ≡ st.last.0 = ap (λ (x : State). x.last.0) at.1 in omega (arith, m, v.last)) in
     record {
-      state = e ∙ state-is row o lend given layout st l long answers ih.state ∙ ap (λ (x : Step). restored.State x.state) steps;
+      state = e ∙ state-is row o lend given layout st l long answers ih.state ∙ ap (λ (x : Step). Some x.state) steps;
       left = ap (λ (x : Arrived). x.store) a;
       out =
           ap₂ (λ (x y : List Handed). x ++ y) ih.out

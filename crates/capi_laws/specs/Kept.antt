@@ -3,7 +3,7 @@
 use Rattle.std.specs.Prelude.{◌≡◌, List, ℕ, ◌+◌, ◌-◌, ◌^◌, ◌%◌, min, get_or, set}
 use Rattle.wire_spec.specs.Bits.{overwrite}
 use Rattle.wire_spec.specs.Layout.{Layout}
-use Rattle.wire_spec.specs.Result.{accepted}
+use Rattle.wire_spec.specs.Result.{Ok}
 use Rattle.wire_spec.specs.Packet.{Content, read_content}
 use Rattle.capi_depacketizer.specs.Calls.{Arrived}
 
@@ -12,6 +12,6 @@ pub record Keeps (L : Layout) (state octets lent : List ℕ) (a : Arrived) : Typ
   pub late : a.reply.number ≡ 32
       → (overwrite a.numbers state ≡ set state 10 (min (get_or state 10 0 + 1) (2 ^ 64 - 1))) × (a.store ≡ lent)
   pub far : a.reply.number ≡ 36
-      → (k : Content) × (read_content L octets ≡ accepted k) × (overwrite a.numbers state ≡ set (set state 12 1) 13 ((k.number + 1) % 2 ^ 32)) × (a.store ≡ lent)
+      → (k : Content) × (read_content L octets ≡ Ok k) × (overwrite a.numbers state ≡ set (set state 12 1) 13 ((k.number + 1) % 2 ^ 32)) × (a.store ≡ lent)
   pub other : (a.reply.number ≡ 0 → ⊥) → (a.reply.number ≡ 32 → ⊥) → (a.reply.number ≡ 36 → ⊥)
       → (overwrite a.numbers state ≡ state) × (a.store ≡ lent)

@@ -9,6 +9,7 @@ use capi_answer::row::{ACCEPTED, refuse};
 use capi_state::row::{flag, put};
 use rtp_reader::packet::TolerantRead;
 use rtp_strict_reader::packet::Summary;
+use wire_spec::refusal::Refusal;
 
 // Source, payload type, marker, packet number, timestamp, F, records, cells, records left out.
 fn put_summary(summary: Summary, omitted: u8, answer: &mut [u64])
@@ -33,14 +34,14 @@ fn put_summary(summary: Summary, omitted: u8, answer: &mut [u64])
 }
 
 // A packet read.
-pub(crate) fn reply_read(read: TolerantRead, answer: &mut [u64]) -> u8
+pub(crate) fn reply_read(read: Result<TolerantRead, Refusal>, answer: &mut [u64]) -> u8
     requires { answer_size ≤ length answer.old }
     ensures value { result ≡ (packet_reply read).number }
     ensures answer_after { answer.new ≡ overwrite (packet_reply read).row answer.old }
 {
     match read {
-        TolerantRead::Refused(refusal) => refuse(refusal, answer),
-        TolerantRead::Packet { summary, omitted } => {
+        Err(refusal) => refuse(refusal, answer),
+        Ok(TolerantRead { summary, omitted }) => {
             put_summary(summary, omitted, answer);
             ACCEPTED
         }

@@ -11,7 +11,7 @@ use rtp_reader::outlined::read_outlined;
 use rtp_reader::packet::TolerantRead;
 use rtp_reader::through::read_refused;
 use rtp_strict_reader::check::check;
-use rtp_strict_reader::packet::{Checked, Head};
+use rtp_strict_reader::packet::Head;
 use wire_spec::number::{PacketNumber, Timestamp};
 
 // Reads a packet of the layout in the tolerant way, the records that come through into cells. As `rtp_reader::read`, with an answer in each arm: what a
@@ -35,11 +35,11 @@ pub extern "C" fn jibhotran_read(
     }
     let told = layout_of(layout);
     match check(told, octets) {
-        Checked::Packet(outline) => {
+        Ok(outline) => {
             let read = read_outlined(told, octets, outline, cells);
             reply_read(read, answer)
         }
-        Checked::Refused(refusal) => {
+        Err(refusal) => {
             let read = read_refused(told, octets, refusal, cells);
             reply_read(read, answer)
         }

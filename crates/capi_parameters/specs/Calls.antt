@@ -1,9 +1,7 @@
 -- What each call gives, and what the lent memory holds then: as the library's definitions say, where the rows are long enough.
-use Rattle.std.specs.Prelude.{cond, List, ℕ, leb, length}
+use Rattle.std.specs.Prelude.{cond, List, ℕ, leb, length, Option, Some, None}
 use Rattle.wire_spec.specs.Bits.{overwrite}
 use Rattle.wire_spec.specs.Written.{octets_after, written_of}
-use Rattle.sdp_spec.specs.declared.parameters.Vpid.{Vpid}
-use Rattle.sdp_spec.specs.declared.parameters.Vpid.TheVariants as vpid
 use Rattle.sdp_spec.specs.Text.{max_code}
 use Rattle.sdp_spec.specs.Reading as reading
 use Rattle.sdp_spec.specs.Writing.{write_text}
@@ -20,8 +18,8 @@ abbrev pub sdp_pairs : (text pairs answer : List ℕ) → List ℕ
 sdp_pairs text pairs answer = given answer (overwrite (fmtp.content_pairs (reading.read_into text (length pairs))) pairs) pairs
 
 -- a number up to the largest code is a VPID code; any other is none
-abbrev pub vpid_of : ℕ → Vpid
-vpid_of n = cond (leb n max_code) (vpid.Code n) vpid.Absent
+abbrev pub vpid_of : ℕ → Option ℕ
+vpid_of n = cond (leb n max_code) (Some n) None
 
 -- `jibhotran_sdp_write`: its reply
 abbrev pub sdp_write_reply : (pairs : List ℕ) → (vpid : ℕ) → (out answer : List ℕ) → Reply

@@ -7,26 +7,26 @@ ghost use Rattle.wire_spec.specs.Bits.{overwrite};
 
 use capi_answer::row::{ACCEPTED, refuse};
 use capi_state::row::put;
-use sdp_reader::Reading;
-use sdp_spec::parameters::{Parameters, Vpid};
+use sdp_spec::parameters::Parameters;
+use wire_spec::refusal::Refusal;
 
 // 1 where there is a code.
-fn has_code(vpid: Vpid) -> u64
+fn has_code(vpid: Option<u8>) -> u64
     ensures { result ≡ has_code vpid }
 {
     match vpid {
-        Vpid::Code(_) => 1,
-        Vpid::Absent => 0,
+        Some(_) => 1,
+        None => 0,
     }
 }
 
 // The code, or 0 where there is none.
-fn code_or_0(vpid: Vpid) -> u64
+fn code_or_0(vpid: Option<u8>) -> u64
     ensures { result ≡ code_or0 vpid }
 {
     match vpid {
-        Vpid::Code(code) => code as u64,
-        Vpid::Absent => 0,
+        Some(code) => code as u64,
+        None => 0,
     }
 }
 
@@ -41,14 +41,14 @@ fn put_parameters(parameters: Parameters, answer: &mut [u64])
 }
 
 // A text of parameters read.
-pub(crate) fn reply_reading(reading: Reading, answer: &mut [u64]) -> u8
+pub(crate) fn reply_reading(reading: Result<Parameters, Refusal>, answer: &mut [u64]) -> u8
     requires { answer_size ≤ length answer.old }
     ensures value { result ≡ (parameters_reply reading).number }
     ensures answer_after { answer.new ≡ overwrite (parameters_reply reading).row answer.old }
 {
     match reading {
-        Reading::Refused(refusal) => refuse(refusal, answer),
-        Reading::Accepted(parameters) => {
+        Err(refusal) => refuse(refusal, answer),
+        Ok(parameters) => {
             put_parameters(parameters, answer);
             ACCEPTED
         }

@@ -8,7 +8,7 @@ use crate::answer::reply_reading;
 use anc_filter::DidSdid;
 use capi_answer::answer::reply_written;
 use capi_answer::length::{ANSWER_SIZE, ROW_TOO_SHORT};
-use sdp_spec::parameters::Vpid;
+use sdp_spec::parameters::Parameters;
 
 // Reads SDP format parameters, the pairs into octets, DID then SDID.
 #[unsafe(no_mangle)]
@@ -25,13 +25,13 @@ pub extern "C" fn jibhotran_sdp_read(text: &[u8], pairs: &mut [u8], answer: &mut
 }
 
 // A number up to the largest code is a VPID code; any other is none.
-fn vpid_of(code: u16) -> Vpid
+fn vpid_of(code: u16) -> Option<u8>
     ensures { result ≡ vpid_of code }
 {
-    if code <= Vpid::MAX_CODE {
-        Vpid::Code(code as u8)
+    if code <= Parameters::MAX_CODE {
+        Some(code as u8)
     } else {
-        Vpid::Absent
+        None
     }
 }
 

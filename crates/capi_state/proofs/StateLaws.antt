@@ -1,5 +1,6 @@
 -- A row that is a state has numbers that fit their values; the numbers of a state are that state again, and the other way about.
 -- By the tests in their order, by the phase, whether a packet was heard and whether a number is remembered.
+use Rattle.std.specs.Prelude.{Some}
 use mathlib.Core.Path.{◌≡◌, refl, sym}
 use mathlib.Core.Bool.{Bool, true, false, ◌&&◌}
 use mathlib.Core.List.{List, ◌++◌}
@@ -15,7 +16,6 @@ use Rattle.wire_spec.proofs.ResultLaws.{and-true}
 use Rattle.depacketizer_spec.specs.declared.state.State.{State}
 use Rattle.depacketizer_spec.specs.declared.state.Phase.{Phase}
 use Rattle.depacketizer_spec.specs.declared.state.Phase.TheVariants as phase
-use Rattle.capi_state.specs.declared.state.Restored.TheVariants as restored
 use Rattle.capi_state.specs.State.{state_size}
 use Rattle.capi_state.specs.State.{at, is_state, max32, max8, numbers_of, phase_in, phase_number, state_at, state_in}
 
@@ -72,7 +72,7 @@ heard-again true = refl
 heard-again false = refl
 
 -- whatever follows them in a row, the numbers of a state are that state again
-pub state-again : (s : State) (rest : List ℕ) → RowFits (numbers_of s) → state_in (numbers_of s ++ rest) ≡ restored.State s
+pub state-again : (s : State) (rest : List ℕ) → RowFits (numbers_of s) → state_in (numbers_of s ++ rest) ≡ Some s
 unfolding is_state
 state-again s rest v =
     rw

@@ -1,12 +1,10 @@
 -- A depacketizer's state as a row of fifteen numbers: source, payload type, phase, heard, last, timestamp, F, records, cells, fresh, late,
 -- missing, whether a number is remembered, that number, and packets (02, K13).
-use Rattle.std.specs.Prelude.{Bool, cond, ◌&&◌, List, [], ◌∷◌, ℕ, ◌-◌, ◌^◌, eqb, leb, get_or}
+use Rattle.std.specs.Prelude.{Bool, cond, ◌&&◌, List, [], ◌∷◌, ℕ, ◌-◌, ◌^◌, eqb, leb, get_or, Option, Some, None}
 use Rattle.wire_spec.specs.Bits.{bit}
 use Rattle.depacketizer_spec.specs.declared.state.State.{State}
 use Rattle.depacketizer_spec.specs.declared.state.Phase.{Phase}
 use Rattle.depacketizer_spec.specs.declared.state.Phase.TheVariants as phase
-use Rattle.capi_state.specs.declared.state.Restored.{Restored}
-use Rattle.capi_state.specs.declared.state.Restored.TheVariants as restored
 
 -- numbers that a state needs
 abbrev pub state_size : ℕ
@@ -84,5 +82,5 @@ state_at row =
     }
 
 -- the state that stands in a row, if one does
-abbrev pub state_in : List ℕ → Restored
-state_in row = cond (is_state row) (restored.State (state_at row)) restored.Unsound
+abbrev pub state_in : List ℕ → Option State
+state_in row = cond (is_state row) (Some (state_at row)) None

@@ -7,11 +7,7 @@ pub fn put(values: &[u64], row: &mut [u64])
     requires { length values.now ≤ length row.old }
     ensures { row.new ≡ overwrite values.now row.old }
 {
-    let mut k: usize = 0;
-    while k < values.len() {
-        row[k] = values[k];
-        k += 1;
-    }
+    row[..values.len()].copy_from_slice(values);
 }
 
 // 1 for true and 0 for false.

@@ -14,12 +14,6 @@ const MAX_32: u64 = 0xffff_ffff;
 const MAX_8: u64 = 0xff;
 
 // What stands in a row: a state, or numbers that no state has.
-#[derive(Clone, Copy)]
-pub enum Restored {
-    State(State),
-    Unsound,
-}
-
 // Lost 0, ready 1, filling 2.
 fn phase_number(phase: Phase) -> u64
     ensures { result ≡ phase_number phase }
@@ -57,14 +51,14 @@ fn is_state(row: &[u64]) -> bool
 }
 
 // The state that stands in a row.
-pub fn state_in(row: &[u64]) -> Restored
+pub fn state_in(row: &[u64]) -> Option<State>
     requires { state_size ≤ length row.now }
     ensures { result ≡ state_in row.now }
 {
     if !is_state(row) {
-        return Restored::Unsound;
+        return None;
     }
-    Restored::State(State {
+    Some(State {
         source: row[0] as u32,
         payload_type: row[1] as u8,
         phase: phase_in(row[2]),
@@ -87,7 +81,7 @@ pub fn state_in(row: &[u64]) -> Restored
 pub fn put_state(state: State, row: &mut [u64])
     requires { state_size ≤ length row.old }
     ensures row_after { row.new ≡ overwrite (numbers_of state) row.old }
-    ensures row_after_2 { state_in row.new ≡ Restored.State state }
+    ensures row_after_2 { state_in row.new ≡ Some state }
 {
     let phase = state.phase;
     let last = state.last;

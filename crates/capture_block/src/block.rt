@@ -10,23 +10,23 @@ use capture_spec::format::{
     MAX_INTERFACES, MAX_ITEM, PACKET_TYPE, RECORD_HEAD, RECORD_LENGTH_AT, SIMPLE_AT, SIMPLE_TYPE,
     SNAP_AT, TOO_MANY_INTERFACES, WORD_SIZE,
 };
-use capture_spec::state::{Extent, Item, Order, Place, State};
+use capture_spec::state::{Item, Order, Place, State, Unread};
 
 // The record at the front.
-pub fn record_extent(order: Order, octets: &[u8]) -> Extent
+pub fn record_extent(order: Order, octets: &[u8]) -> Result<usize, Unread>
     ensures { result ≡ record_extent order octets.now }
 {
     if octets.len() < RECORD_HEAD {
-        return Extent::Short;
+        return Err(Unread::Short);
     }
     let n = RECORD_HEAD + word_at(order, octets, RECORD_LENGTH_AT);
     if MAX_ITEM < n {
-        return Extent::Refused(ITEM_TOO_LONG);
+        return Err(Unread::Refused(ITEM_TOO_LONG));
     }
     if octets.len() < n {
-        return Extent::Short;
+        return Err(Unread::Short);
     }
-    Extent::Whole(n)
+    Ok(n)
 }
 
 fn is_length(least: usize, n: usize) -> bool
@@ -36,24 +36,24 @@ fn is_length(least: usize, n: usize) -> bool
 }
 
 // The block at the front, of at least so many octets.
-pub fn block_extent(order: Order, least: usize, octets: &[u8]) -> Extent
+pub fn block_extent(order: Order, least: usize, octets: &[u8]) -> Result<usize, Unread>
     requires { (block_head ≤ least) × (block_head ≤ length octets.now) }
     ensures { result ≡ block_extent order least octets.now }
 {
     let n = word_at(order, octets, LENGTH_AT);
     if !is_length(least, n) {
-        return Extent::Refused(LENGTHS_DISAGREE);
+        return Err(Unread::Refused(LENGTHS_DISAGREE));
     }
     if MAX_ITEM < n {
-        return Extent::Refused(ITEM_TOO_LONG);
+        return Err(Unread::Refused(ITEM_TOO_LONG));
     }
     if octets.len() < n {
-        return Extent::Short;
+        return Err(Unread::Short);
     }
     if word_at(order, octets, n - WORD_SIZE) != n {
-        return Extent::Refused(LENGTHS_DISAGREE);
+        return Err(Unread::Refused(LENGTHS_DISAGREE));
     }
-    Extent::Whole(n)
+    Ok(n)
 }
 
 fn is_described(state: State, id: usize) -> bool
@@ -63,23 +63,30 @@ fn is_described(state: State, id: usize) -> bool
 }
 
 // A packet from an interface, in a block of `n` octets that has room for so many of it.
-fn packet_from(state: State, id: usize, at: usize, size: usize, room: usize, n: usize) -> Item
+fn packet_from(
+    state: State,
+    id: usize,
+    at: usize,
+    size: usize,
+    room: usize,
+    n: usize,
+) -> Result<Item, Unread>
     ensures { result ≡ packet_from state id at size room n }
 {
     if room < size {
-        return Item::Refused(LENGTHS_DISAGREE);
+        return Err(Unread::Refused(LENGTHS_DISAGREE));
     }
     if id >= state.described {
-        return Item::Refused(LINK_NOT_TAKEN);
+        return Err(Unread::Refused(LINK_NOT_TAKEN));
     }
     if id >= MAX_INTERFACES {
-        return Item::Refused(LINK_NOT_TAKEN);
+        return Err(Unread::Refused(LINK_NOT_TAKEN));
     }
     let link = state.links[id];
-    Item::Packet {
+    Ok(Item::Packet {
         place: Place { at, size, link },
         used: n,
-    }
+    })
 }
 
 fn simple_size(snap: usize, original: usize) -> usize
@@ -94,7 +101,7 @@ fn simple_size(snap: usize, original: usize) -> usize
     snap
 }
 
-fn simple_item(order: Order, state: State, n: usize, octets: &[u8]) -> Item
+fn simple_item(order: Order, state: State, n: usize, octets: &[u8]) -> Result<Item, Unread>
     requires { (least_simple ≤ n) × (n ≤ length octets.now) }
     ensures { result ≡ simple_item order state n octets.now }
 {
@@ -102,7 +109,13 @@ fn simple_item(order: Order, state: State, n: usize, octets: &[u8]) -> Item
     packet_from(state, 0, SIMPLE_AT, size, n - LEAST_SIMPLE, n)
 }
 
-fn enhanced_item(order: Order, state: State, id: usize, n: usize, octets: &[u8]) -> Item
+fn enhanced_item(
+    order: Order,
+    state: State,
+    id: usize,
+    n: usize,
+    octets: &[u8],
+) -> Result<Item, Unread>
     requires { (least_enhanced ≤ n) × (n ≤ length octets.now) }
     ensures { result ≡ enhanced_item order state id n octets.now }
 {
@@ -110,18 +123,18 @@ fn enhanced_item(order: Order, state: State, id: usize, n: usize, octets: &[u8])
     packet_from(state, id, ENHANCED_AT, size, n - LEAST_ENHANCED, n)
 }
 
-fn interface_item(order: Order, state: State, n: usize, octets: &[u8]) -> Item
+fn interface_item(order: Order, state: State, n: usize, octets: &[u8]) -> Result<Item, Unread>
     requires { (least_interface ≤ n) × (n ≤ length octets.now) }
     ensures { result ≡ interface_item order state n octets.now }
 {
     if state.described >= MAX_INTERFACES {
-        return Item::Refused(TOO_MANY_INTERFACES);
+        return Err(Unread::Refused(TOO_MANY_INTERFACES));
     }
-    Item::Interface {
+    Ok(Item::Interface {
         link: half_at(order, octets, FIELDS_AT),
         snap: word_at(order, octets, SNAP_AT),
         used: n,
-    }
+    })
 }
 
 // The fewest octets of a block of this type.
@@ -144,7 +157,13 @@ pub fn least_of(kind: usize) -> usize
 }
 
 // What a whole block of a section holds.
-pub fn body_item(kind: usize, order: Order, state: State, n: usize, octets: &[u8]) -> Item
+pub fn body_item(
+    kind: usize,
+    order: Order,
+    state: State,
+    n: usize,
+    octets: &[u8],
+) -> Result<Item, Unread>
     requires { (least_of kind ≤ n) × (n ≤ length octets.now) }
     ensures { result ≡ body_item kind order state n octets.now }
 {
@@ -162,5 +181,5 @@ pub fn body_item(kind: usize, order: Order, state: State, n: usize, octets: &[u8
         let id = half_at(order, octets, FIELDS_AT) as usize;
         return enhanced_item(order, state, id, n, octets);
     }
-    Item::Other(n)
+    Ok(Item::Other(n))
 }

@@ -4,7 +4,7 @@ ghost use Rattle.wire_spec.specs.Bits.{quad_of};
 ghost use Rattle.capture_spec.specs.Numbers.{block_head, half_at, head_order, is_magic, ordering, section_order, word_at, word_size};
 
 use capture_spec::format::{FIELDS_AT, MAGIC_MICRO, MAGIC_NANO, ORDER_MAGIC};
-use capture_spec::state::{Order, Ordered};
+use capture_spec::state::Order;
 
 fn pair(a: u8, b: u8) -> u32
     ensures { result ≡ a * 256 + b }
@@ -46,20 +46,20 @@ fn is_magic(x: usize) -> bool
     (x == MAGIC_MICRO) | (x == MAGIC_NANO)
 }
 
-fn order_by(big: bool, little: bool) -> Ordered
+fn order_by(big: bool, little: bool) -> Option<Order>
     ensures { result ≡ ordering big little }
 {
     if big {
-        return Ordered::As(Order::Big);
+        return Some(Order::Big);
     }
     if little {
-        return Ordered::As(Order::Little);
+        return Some(Order::Little);
     }
-    Ordered::Neither
+    None
 }
 
 // By the magic number of pcap.
-pub fn head_order(octets: &[u8]) -> Ordered
+pub fn head_order(octets: &[u8]) -> Option<Order>
     requires { word_size ≤ length octets.now }
     ensures { result ≡ head_order octets.now }
 {
@@ -69,7 +69,7 @@ pub fn head_order(octets: &[u8]) -> Ordered
 }
 
 // By the Byte-Order Magic of a section.
-pub fn section_order(octets: &[u8]) -> Ordered
+pub fn section_order(octets: &[u8]) -> Option<Order>
     requires { block_head ≤ length octets.now }
     ensures { result ≡ section_order octets.now }
 {

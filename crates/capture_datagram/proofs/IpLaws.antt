@@ -1,5 +1,6 @@
 -- What the checks of an IP header tell, and the headers of IPv6 one after the other.
 -- By the tests of each header; an extension header that is whole takes eight octets at the least.
+use Rattle.std.specs.Prelude.{Result, Ok, Err}
 use mathlib.Core.Path.{◌≡◌, refl, ap, sym, ◌∙◌}
 use mathlib.Core.Bool.{Bool, true, false, cond, ◌&&◌}
 use mathlib.Core.List.{List}
@@ -10,8 +11,6 @@ use lib.Dec.{leb, eqb}
 use lib.ListN.{length, drop, get_or, length-drop}
 use Rattle.wire_spec.proofs.ResultLaws.{and-true}
 use Rattle.capture_datagram.specs.declared.answer.Found.{Found}
-use Rattle.capture_datagram.specs.declared.answer.Extension.{Extension}
-use Rattle.capture_datagram.specs.declared.answer.Extension.TheVariants as extension
 use Rattle.capture_datagram.specs.Answer.{beyond}
 use Rattle.capture_datagram.specs.Ip.{
   is_ipv4_udp,
@@ -53,13 +52,13 @@ pub record Whole (next room : ℕ) (s : List ℕ) (n : ℕ) : Type 0 where
   pub leads : leads_to_udp (get_or s 0 0) ≡ true
   pub unbroken : is_ipv6_whole next s ≡ true
 
-abbrev is_whole_extension : Extension → Bool
-is_whole_extension (extension.Whole n) = true
-is_whole_extension (extension.Ends f) = false
+abbrev is_whole_extension : Result ℕ Found → Bool
+is_whole_extension (Ok n) = true
+is_whole_extension (Err f) = false
 
-abbrev moved : ℕ → Extension → Extension
-moved k (extension.Whole n) = extension.Whole n
-moved k (extension.Ends f) = extension.Ends (beyond k f)
+abbrev moved : ℕ → Result ℕ Found → Result ℕ Found
+moved k (Ok n) = Ok n
+moved k (Err f) = Err (beyond k f)
 
 extension-least : (next : ℕ) (s : List ℕ) → 8 ≤ extension_size next s
 unfolding extension_size
@@ -69,13 +68,13 @@ extension-least next s = go (eqb next fragment_header)
     go true = omega arith
     go false = omega arith
 
-pub whole-extension : (next room : ℕ) (s : List ℕ) (n : ℕ) → extension_in next room s ≡ extension.Whole n → Whole next room s n
+pub whole-extension : (next room : ℕ) (s : List ℕ) (n : ℕ) → extension_in next room s ≡ Ok n → Whole next room s n
 unfolding extension_in
 whole-extension next room s n e =
     let size = extension_size next s in
     let ts = extension_checks next room s in
-    let h = all_hold is_whole_extension ts (extension.Whole size) refl (ap is_whole_extension e) in
-    let k : n ≡ size = cc (judge-holds ts (extension.Whole size) h) in
+    let h = all_hold is_whole_extension ts (Ok size) refl (ap is_whole_extension e) in
+    let k : n ≡ size = cc (judge-holds ts (Ok size) h) in
     let t = and-true (leads_to_udp (get_or s 0 0)) (leb size room) h.1.1.0 in
     record {
       size = k;
@@ -87,11 +86,11 @@ whole-extension next room s n e =
     }
 
 -- an extension header that goes no further is no place
-pub ends_nowhere : (next room : ℕ) (s : List ℕ) (f : Found) → extension_in next room s ≡ extension.Ends f → (k : ℕ) → beyond k f ≡ f
+pub ends_nowhere : (next room : ℕ) (s : List ℕ) (f : Found) → extension_in next room s ≡ Err f → (k : ℕ) → beyond k f ≡ f
 unfolding extension_in
 ends_nowhere next room s f e k =
-    let m = judge-changed (moved k) (extension_checks next room s) (extension.Whole (extension_size next s)) in
-    let g : extension.Ends (beyond k f) ≡ extension.Ends f = ap (moved k) (sym e) ∙ m ∙ e in
+    let m = judge-changed (moved k) (extension_checks next room s) (Ok (extension_size next s)) in
+    let g : Err (beyond k f) ≡ Err f = ap (moved k) (sym e) ∙ m ∙ e in
     cc
 
 -- what the headers behind one of `n` octets say
@@ -100,10 +99,10 @@ following bound port room s n = headers_in bound port (get_or s 0 0) (room - n) 
 
 module _ (b c port next room : ℕ) (s : List ℕ) (h : length s ≤ b) (k : length s ≤ c) where
   -- two bounds agree on what follows a header, where they agree on what is shorter
-  onward-agrees : ((n : ℕ) → length (drop n s) < b → length (drop n s) < c → following b port room s n ≡ following c port room s n) → (x : Extension)
+  onward-agrees : ((n : ℕ) → length (drop n s) < b → length (drop n s) < c → following b port room s n ≡ following c port room s n) → (x : Result ℕ Found)
       → extension_in next room s ≡ x → onward (following b port room s) x ≡ onward (following c port room s) x
-  onward-agrees ih (extension.Ends f) e = refl
-  onward-agrees ih (extension.Whole n) e =
+  onward-agrees ih (Err f) e = refl
+  onward-agrees ih (Ok n) e =
       let w = whole-extension next room s n e in
       let l = length-drop n s in
       ap (beyond n) (ih n (omega (arith, w.some, w.inside, l)) (omega (arith, w.some, w.inside, l)))
@@ -125,12 +124,12 @@ pub headers-udp : (port next room : ℕ) (s : List ℕ) → is_extension next �
 unfolding headers_in
 headers-udp port next room s e = rw e
 
-pub headers-end : (port next room : ℕ) (s : List ℕ) (f : Found) → is_extension next ≡ true → extension_in next room s ≡ extension.Ends f
+pub headers-end : (port next room : ℕ) (s : List ℕ) (f : Found) → is_extension next ≡ true → extension_in next room s ≡ Err f
     → headers port next room s ≡ f
 unfolding headers_in
 headers-end port next room s f e x = rw (e, x)
 
-pub headers-next : (port next room : ℕ) (s : List ℕ) (n : ℕ) → is_extension next ≡ true → extension_in next room s ≡ extension.Whole n
+pub headers-next : (port next room : ℕ) (s : List ℕ) (n : ℕ) → is_extension next ≡ true → extension_in next room s ≡ Ok n
     → headers port next room s ≡ beyond n (headers port (get_or s 0 0) (room - n) (drop n s))
 unfolding headers_in
 headers-next port next room s n e x =

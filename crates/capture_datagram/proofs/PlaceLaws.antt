@@ -1,5 +1,6 @@
 -- A payload that was found lies within the captured octets, and is no longer than a UDP length tells.
 -- By the checks of each header, from the innermost out.
+use Rattle.std.specs.Prelude.{Result, Ok, Err}
 use mathlib.Core.Path.{◌≡◌, refl, subst}
 use mathlib.Core.Bool.{Bool, true, false, cond, ◌&&◌}
 use mathlib.Core.List.{List, [], ◌∷◌}
@@ -12,8 +13,6 @@ use lib.Seq.{get_or-drop}
 use Rattle.wire_spec.proofs.ResultLaws.{and-true}
 use Rattle.capture_datagram.specs.declared.answer.Found.{Found}
 use Rattle.capture_datagram.specs.declared.answer.Found.TheVariants as found
-use Rattle.capture_datagram.specs.declared.answer.Extension.{Extension}
-use Rattle.capture_datagram.specs.declared.answer.Extension.TheVariants as extension
 use Rattle.capture_datagram.specs.declared.link.Link.{Link}
 use Rattle.capture_datagram.specs.declared.link.Link.TheVariants as link
 use Rattle.capture_datagram.specs.Answer.{pair, beyond}
@@ -98,9 +97,9 @@ lies-nowhere s found.Fragment e = tt
 lies-nowhere s found.Cut e = tt
 
 module _ (port next room : ℕ) (s : List ℕ) (rest : ℕ → Found) (lie : (n : ℕ) → Lies (drop n s) (rest n)) where
-  onward-lies : (x : Extension) → extension_in next room s ≡ x → Lies s (onward rest x)
-  onward-lies (extension.Ends f) e = lies-nowhere s f (ends_nowhere next room s f e)
-  onward-lies (extension.Whole n) e = lies-beyond s n (rest n) (whole-extension next room s n e).inside (lie n)
+  onward-lies : (x : Result ℕ Found) → extension_in next room s ≡ x → Lies s (onward rest x)
+  onward-lies (Err f) e = lies-nowhere s f (ends_nowhere next room s f e)
+  onward-lies (Ok n) e = lies-beyond s n (rest n) (whole-extension next room s n e).inside (lie n)
 
 headers-lie : (bound port next room : ℕ) (s : List ℕ) → Octets s → Lies s (headers_in bound port next room s)
 unfolding headers_in

@@ -1,6 +1,7 @@
 -- What is decided stays, whatever octets follow: padding of the link, a check sequence, or what the capture cut off. So "Cut" alone comes from where
 -- the captured octets end, and every other answer from the octets that stand there.
 -- By the checks of each header: a test looks at octets that were captured, and a header that was captured stays so.
+use Rattle.std.specs.Prelude.{Ok}
 use mathlib.Core.Path.{◌≡◌, refl, ap, sym, ◌∙◌, subst}
 use mathlib.Core.Bool.{Bool, true, false, not, cond, and-false}
 use mathlib.Core.List.{List, [], ◌∷◌, ◌++◌}
@@ -13,8 +14,6 @@ use lib.ListN.{length, drop, get_or, length-append, get_or-append}
 use lib.Seq.{drop-append-le}
 use Rattle.capture_datagram.specs.declared.answer.Found.{Found}
 use Rattle.capture_datagram.specs.declared.answer.Found.TheVariants as found
-use Rattle.capture_datagram.specs.declared.answer.Extension.{Extension}
-use Rattle.capture_datagram.specs.declared.answer.Extension.TheVariants as extension
 use Rattle.capture_datagram.specs.declared.link.Link.{Link}
 use Rattle.capture_datagram.specs.declared.link.Link.TheVariants as link
 use Rattle.capture_datagram.specs.Answer.{pair, Checks, judge, beyond}
@@ -180,7 +179,7 @@ module _ (next room : ℕ) (s t : List ℕ) (rest rest' : ℕ → Found) where
       let m = extension_size next (s ++ t) in
       let ts = extension_checks next room s in
       let us = extension_checks next room (s ++ t) in
-      keeps-by (judge-changed (onward rest) ts (extension.Whole n)) (judge-changed (onward rest') us (extension.Whole m))
+      keeps-by (judge-changed (onward rest) ts (Ok n)) (judge-changed (onward rest') us (Ok m))
       (judge-keeps (changed (onward rest) ts) (changed (onward rest') us) (beyond n (rest n)) (beyond m (rest' m)) (
         refl,
         refl,

@@ -1,5 +1,6 @@
 -- A datagram that is wrapped is found again: each header tells what it carries, and how much.
 -- By the header's own octets; the numbers of 16 bits are what was written.
+use Rattle.std.specs.Prelude.{Ok}
 use mathlib.Core.Path.{◌≡◌, refl, ap, sym, ◌∙◌}
 use mathlib.Core.Bool.{Bool, true, false, cond, ◌&&◌, and-true, and-false, or-true}
 use mathlib.Core.List.{List, [], ◌∷◌, ◌++◌, append_assoc}
@@ -13,7 +14,6 @@ use lib.Seq.{drop_at, take_at}
 use Rattle.wire_spec.proofs.ResultLaws.{and_both}
 use Rattle.capture_datagram.specs.declared.answer.Found.{Found}
 use Rattle.capture_datagram.specs.declared.answer.Found.TheVariants as found
-use Rattle.capture_datagram.specs.declared.answer.Extension.TheVariants as extension
 use Rattle.capture_datagram.specs.Answer.{pair, beyond, payload_of}
 use Rattle.capture_datagram.specs.Udp.{destination, udp_length, is_for_port, udp_in}
 use Rattle.capture_datagram.specs.Ip.{
@@ -196,7 +196,7 @@ module _ (o : Option) (os : List Option) (last : ℕ) (u : List ℕ) (fits : Opt
   option-front : length (option_front o os last) ≡ 8 * (1 + o.units)
   option-front = omega (arith, fits.content)
 
-  option-whole : let s = options_around (o ∷ os) last u in extension_in o.kind (length s) s ≡ extension.Whole (8 * (1 + o.units))
+  option-whole : let s = options_around (o ∷ os) last u in extension_in o.kind (length s) s ≡ Ok (8 * (1 + o.units))
   unfolding extension_in extension_size is_ipv6_whole
   option-whole =
       let s = options_around (o ∷ os) last u in
@@ -207,8 +207,8 @@ module _ (o : Option) (os : List Option) (last : ℕ) (u : List ℕ) (fits : Opt
       let least : leb 8 (length s) ≡ true = le-leb 8 (length s) (omega arith) in
       let inside : leb (extension_size o.kind s) (length s) ≡ true = le-leb (extension_size o.kind s) (length s) (omega arith) in
       let unbroken : is_ipv6_whole o.kind s ≡ true = rw (option-other o.kind fits.kind) in
-      judge-holds (extension_checks o.kind (length s) s) (extension.Whole (extension_size o.kind s))
-      (least, (least, (and_both (first-leads os last behind leads) inside, (unbroken, (inside, tt))))) ∙ ap extension.Whole size
+      judge-holds (extension_checks o.kind (length s) s) (Ok (extension_size o.kind s))
+      (least, (least, (and_both (first-leads os last behind leads) inside, (unbroken, (inside, tt))))) ∙ ap Ok size
 
 module _ (port last : ℕ) (u : List ℕ) (leads : leads_to_udp last ≡ true) where
   options-around : (os : List Option) → AllFit os

@@ -1,9 +1,7 @@
 -- Packets of the internet protocol, version 4 (RFC 791) and 6 (RFC 8200), at the front of the octets `s` that were captured.
-use Rattle.std.specs.Prelude.{Bool, true, ◌&&◌, ◌||◌, cond, List, [], ◌∷◌, ℕ, zero, suc, ◌+◌, ◌-◌, ◌*◌, ◌/◌, ◌%◌, leb, eqb, length, drop, get_or}
+use Rattle.std.specs.Prelude.{Bool, true, ◌&&◌, ◌||◌, cond, List, [], ◌∷◌, ℕ, zero, suc, ◌+◌, ◌-◌, ◌*◌, ◌/◌, ◌%◌, leb, eqb, length, drop, get_or, Result, Ok, Err}
 use Rattle.capture_datagram.specs.declared.answer.Found.{Found}
 use Rattle.capture_datagram.specs.declared.answer.Found.TheVariants as found
-use Rattle.capture_datagram.specs.declared.answer.Extension.{Extension}
-use Rattle.capture_datagram.specs.declared.answer.Extension.TheVariants as extension
 use Rattle.capture_datagram.specs.Answer.{pair, Checks, judge, beyond}
 use Rattle.capture_datagram.specs.Udp.{udp_in}
 
@@ -89,23 +87,23 @@ unfoldable pub is_ipv6_whole : ℕ → List ℕ → Bool
 is_ipv6_whole next s = cond (eqb next fragment_header) (eqb (pair s 2 / 8) 0 && eqb (pair s 2 % 2) 0) true
 
 -- a header that does not lead to UDP ends the way, before a fragment is told
-abbrev pub extension_checks : (next room : ℕ) → List ℕ → Checks Extension
+abbrev pub extension_checks : (next room : ℕ) → List ℕ → Checks (Result ℕ Found)
 extension_checks next room s =
-    (leb extension_unit room, extension.Ends found.Passed)
-    ∷ (leb extension_unit (length s), extension.Ends found.Cut)
-    ∷ (leads_to_udp (get_or s 0 0) && leb (extension_size next s) room, extension.Ends found.Passed)
-    ∷ (is_ipv6_whole next s, extension.Ends found.Fragment)
-    ∷ (leb (extension_size next s) (length s), extension.Ends found.Cut)
+    (leb extension_unit room, Err found.Passed)
+    ∷ (leb extension_unit (length s), Err found.Cut)
+    ∷ (leads_to_udp (get_or s 0 0) && leb (extension_size next s) room, Err found.Passed)
+    ∷ (is_ipv6_whole next s, Err found.Fragment)
+    ∷ (leb (extension_size next s) (length s), Err found.Cut)
     ∷ []
 
 -- the extension header `next` at the front; the first octet is the "Next Header" behind it
-unfoldable pub extension_in : (next room : ℕ) → List ℕ → Extension
-extension_in next room s = judge (extension_checks next room s) (extension.Whole (extension_size next s))
+unfoldable pub extension_in : (next room : ℕ) → List ℕ → Result ℕ Found
+extension_in next room s = judge (extension_checks next room s) (Ok (extension_size next s))
 
 -- what follows an extension header that is whole
-abbrev pub onward : (ℕ → Found) → Extension → Found
-onward next (extension.Ends f) = f
-onward next (extension.Whole n) = beyond n (next n)
+abbrev pub onward : (ℕ → Found) → Result ℕ Found → Found
+onward next (Err f) = f
+onward next (Ok n) = beyond n (next n)
 
 -- the headers behind one another, `next` the first; the first argument bounds how many there can be
 unfoldable pub headers_in : ℕ → (port next room : ℕ) → List ℕ → Found

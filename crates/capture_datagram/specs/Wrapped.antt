@@ -2,7 +2,6 @@
 -- The numbers are those of the RFCs and of IEEE 802.1Q as they stand there, not by the names of the
 -- definitions that find it.
 use Rattle.std.specs.Prelude.{◌≡◌, ◌⊎◌, List, [], ◌∷◌, ◌++◌, ℕ, ◌+◌, ◌*◌, ◌/◌, ◌%◌, ◌<◌, ◌≤◌, length}
-use Rattle.capture_datagram.specs.declared.answer.Found.{Found}
 use Rattle.capture_datagram.specs.declared.answer.Found.TheVariants as found
 use Rattle.capture_datagram.specs.Answer.{payload_of}
 use Rattle.capture_datagram.specs.Link.{datagram_in}

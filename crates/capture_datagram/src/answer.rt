@@ -11,10 +11,3 @@ pub enum Found {
     // The captured octets end before what decides, or before the payload does.
     Cut,
 }
-
-// An extension header (RFC 8200, section 4): its octets, or what the packet is where it goes no further.
-#[derive(Clone, Copy)]
-pub enum Extension {
-    Whole(usize),
-    Ends(Found),
-}

@@ -47,6 +47,7 @@ fn tags_size(packet: &[u8], at: usize) -> usize
     ensures { result ≡ tag_octets (drop at packet.now) }
 {
     let mut size: usize = 0;
+    // Kept as a while: each turn asks whether one more whole tag follows.
     while has_tag(packet, at + size) {
         size += TAG;
     }

@@ -22,7 +22,7 @@ ghost use Rattle.capture_datagram.specs.Ip.{
   leads_to_udp,
 };
 
-use crate::answer::{Extension, Found};
+use crate::answer::Found;
 use crate::field::{holds, number, octet};
 use crate::ipv4::{UDP, version_at};
 use crate::udp::udp_at;
@@ -83,29 +83,30 @@ fn is_whole(packet: &[u8], at: usize, next: usize) -> bool
     true
 }
 
-// The extension header `next` at `at`, to which and to what follows `room` octets belong.
-fn extension_at(packet: &[u8], at: usize, next: usize, room: usize) -> Extension
+// The octets of the extension header `next` at `at` (RFC 8200, section 4), to which and to what follows `room`
+// octets belong; or what the packet is where it goes no further.
+fn extension_at(packet: &[u8], at: usize, next: usize, room: usize) -> Result<usize, Found>
     requires { at ≤ length packet.now }
     ensures { result ≡ extension_in next room (drop at packet.now) }
 {
     if room < UNIT {
-        return Extension::Ends(Found::Passed);
+        return Err(Found::Passed);
     }
     if !holds(packet, at, UNIT) {
-        return Extension::Ends(Found::Cut);
+        return Err(Found::Cut);
     }
     let size = extension_size(packet, at, next);
     let behind = octet(packet, at, 0);
     if !(leads_to_udp(behind) & (size <= room)) {
-        return Extension::Ends(Found::Passed);
+        return Err(Found::Passed);
     }
     if !is_whole(packet, at, next) {
-        return Extension::Ends(Found::Fragment);
+        return Err(Found::Fragment);
     }
     if !holds(packet, at, size) {
-        return Extension::Ends(Found::Cut);
+        return Err(Found::Cut);
     }
-    Extension::Whole(size)
+    Ok(size)
 }
 
 // The headers from `start` on, `first` the first of them.
@@ -116,13 +117,14 @@ fn headers_at(packet: &[u8], start: usize, first: usize, payload: usize, port: u
     let mut at = start;
     let mut next = first;
     let mut room = payload;
+    // Kept as a while: each header says how long it is, and which is next.
     while is_extension(next) {
         let header = extension_at(packet, at, next, room);
         match header {
-            Extension::Ends(found) => {
+            Err(found) => {
                 return found;
             }
-            Extension::Whole(size) => {
+            Ok(size) => {
                 next = octet(packet, at, 0);
                 at += size;
                 room -= size;

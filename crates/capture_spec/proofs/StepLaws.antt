@@ -1,6 +1,7 @@
 -- Of the item at the front: it lies in the octets that are there, a front without a whole item is shorter than the longest, and octets behind an
 -- item change nothing of it.
 -- By the tests, one after the other.
+use Rattle.std.specs.Prelude.{Option, Some, None, Ok, Err}
 use mathlib.Core.Path.{◌≡◌, refl, ap, ◌∙◌}
 use mathlib.Core.Bool.{Bool, true, false, cond, ◌&&◌, ◌||◌}
 use mathlib.Core.List.{List}
@@ -11,20 +12,17 @@ use lib.Dec.{eqb, leb, ltb}
 use lib.ListN.{length}
 use Rattle.capture_spec.specs.declared.state.Order.{Order}
 use Rattle.capture_spec.specs.declared.state.Order.TheVariants as order
-use Rattle.capture_spec.specs.declared.state.Ordered.{Ordered}
-use Rattle.capture_spec.specs.declared.state.Ordered.TheVariants as ordered
 use Rattle.capture_spec.specs.declared.state.Container.{Container}
 use Rattle.capture_spec.specs.declared.state.Container.TheVariants as container
 use Rattle.capture_spec.specs.declared.state.State.{State}
-use Rattle.capture_spec.specs.declared.state.Extent.{Extent}
-use Rattle.capture_spec.specs.declared.state.Extent.TheVariants as extent
-use Rattle.capture_spec.specs.declared.state.Item.{Item}
+use Rattle.capture_spec.specs.Items.{Extent, Read}
 use Rattle.capture_spec.specs.declared.state.Item.TheVariants as item
 use Rattle.capture_spec.specs.Numbers.{word_at, half_at, head_order, section_order, section_type, interface_type, packet_type, simple_type, enhanced_type, word_size, head_size, record_head, block_head, least_section, least_interface, least_simple, least_enhanced, simple_at, enhanced_at, max_item}
 use Rattle.capture_spec.specs.Step.{Fits, sized, within, head_by, record_extent, is_length, trailed, block_extent, section_by, packet_from, simple_size, is_described, body_item, least_of, block_item, start_item, step_in, step_of}
+use Rattle.capture_spec.specs.declared.state.Unread.TheVariants as unread
 
 -- by a test
-by : (P : Item → Type 0) (t : Bool) {x y : Item} → (t ≡ true → P x) → (t ≡ false → P y) → P (cond t x y)
+by : (P : Read → Type 0) (t : Bool) {x y : Read} → (t ≡ true → P x) → (t ≡ false → P y) → P (cond t x y)
 by P true f g = f refl
 by P false f g = g refl
 
@@ -34,19 +32,19 @@ by_extent P false f g = g refl
 
 -- an extent of at least so many octets lies in the octets
 abbrev pub In : (least : ℕ) → Extent → ℕ → Type 0
-In least (extent.Whole n) size = (least ≤ n) × (n ≤ size)
-In least extent.Short size = size < max_item
-In least (extent.Refused x) size = Unit {0}
+In least (Ok n) size = (least ≤ n) × (n ≤ size)
+In least (Err unread.Short) size = size < max_item
+In least (Err (unread.Refused x)) size = Unit {0}
 
-pub whole_in : (least size : ℕ) (e : Extent) (n : ℕ) → In least e size → e ≡ extent.Whole n → (least ≤ n) × (n ≤ size)
-whole_in l size (extent.Whole m) n h e = let q : m ≡ n = cc in (omega (arith, h.0), omega (arith, h.1))
-whole_in l size extent.Short n h e = let z : ◌≡◌ {A = ℕ} 0 1 = cc in absurd (omega arith)
-whole_in l size (extent.Refused x) n h e = let z : ◌≡◌ {A = ℕ} 0 1 = cc in absurd (omega arith)
+pub whole_in : (least size : ℕ) (e : Extent) (n : ℕ) → In least e size → e ≡ Ok n → (least ≤ n) × (n ≤ size)
+whole_in l size (Ok m) n h e = let q : m ≡ n = cc in (omega (arith, h.0), omega (arith, h.1))
+whole_in l size (Err unread.Short) n h e = let z : ◌≡◌ {A = ℕ} 0 1 = cc in absurd (omega arith)
+whole_in l size (Err (unread.Refused x)) n h e = let z : ◌≡◌ {A = ℕ} 0 1 = cc in absurd (omega arith)
 
-within-fits : (least : ℕ) (e : Extent) (size : ℕ) (f : ℕ → Item) → In least e size → ((n : ℕ) → least ≤ n → n ≤ size → Fits (f n) size) → Fits (within e f) size
-within-fits least (extent.Whole n) size f h k = k n h.0 h.1
-within-fits least extent.Short size f h k = h
-within-fits least (extent.Refused x) size f h k = tt
+within-fits : (least : ℕ) (e : Extent) (size : ℕ) (f : ℕ → Read) → In least e size → ((n : ℕ) → least ≤ n → n ≤ size → Fits (f n) size) → Fits (within e f) size
+within-fits least (Ok n) size f h k = k n h.0 h.1
+within-fits least (Err unread.Short) size f h k = h
+within-fits least (Err (unread.Refused x)) size f h k = tt
 
 sized-in : (least n : ℕ) (s : List ℕ) (e : Extent) → (n ≤ length s → In least e (length s)) → In least (sized n s e) (length s)
 sized-in least n s e f =
@@ -66,21 +64,21 @@ block_in o least s =
     (λ k. by_extent (λ x. In least x (length s)) (eqb (word_at o s (n - 4)) n) (λ u. (leb-true least n (and_left (leb least n) (eqb (n % 4) 0) t), k)) (λ u. tt)))
     (λ t. tt)
 
-head-fits : (o : Ordered) (s : List ℕ) → Fits (head_by o s) (length s)
-head-fits ordered.Neither s = tt
-head-fits (ordered.As o) s =
+head-fits : (o : Option Order) (s : List ℕ) → Fits (head_by o s) (length s)
+head-fits None s = tt
+head-fits (Some o) s =
     by (λ x. Fits x (length s)) (ltb (length s) head_size) (λ t. omega (arith, ltb-true (length s) head_size t)) (λ t. (omega arith, ltb-false (length s) head_size t))
 
 pub record-in : (o : Order) (s : List ℕ) → In record_head (record_extent o s) (length s)
 record-in o s =
     let n = record_head + word_at o s 8 in
     by_extent (λ x. In record_head x (length s)) (ltb (length s) record_head) (λ t. omega (arith, ltb-true (length s) record_head t))
-    (λ t. sized-in record_head n s (extent.Whole n) (λ k. (omega arith, k)))
+    (λ t. sized-in record_head n s (Ok n) (λ k. (omega arith, k)))
 
-section-fits : (o : Ordered) (s : List ℕ) → Fits (section_by o s) (length s)
-section-fits ordered.Neither s = tt
-section-fits (ordered.As o) s =
-    within-fits least_section (block_extent o least_section s) (length s) (λ n. item.Head (container.Section o) n) (block_in o least_section s)
+section-fits : (o : Option Order) (s : List ℕ) → Fits (section_by o s) (length s)
+section-fits None s = tt
+section-fits (Some o) s =
+    within-fits least_section (block_extent o least_section s) (length s) (λ n. Ok (item.Head (container.Section o) n)) (block_in o least_section s)
     (λ n h k. (omega arith, k))
 
 -- a packet's octets lie in its block
@@ -141,7 +139,7 @@ body-fits t o st n s l p h =
     (λ e. packet-fits st (half_at o s 8) enhanced_at (word_at o s 20) (n - least_enhanced) n (length s) p h (omega (arith, l.old a b d e)))
     (λ e. (p, h)))))
   where
-    F : Item → Type 0
+    F : Read → Type 0
     F x = Fits x (length s)
 
 pub some-least : (t : ℕ) → block_head ≤ least_of t
@@ -176,6 +174,6 @@ step_fits st s = go st.container
     go : (c : Container) → Fits (step_in c st s) (length s)
     go container.Unknown = start_fits s
     go (container.Classic o link) =
-        within-fits record_head (record_extent o s) (length s) (λ n. item.Packet (record { at = record_head; size = n - record_head; link = link }) n) (record-in o s)
+        within-fits record_head (record_extent o s) (length s) (λ n. Ok (item.Packet (record { at = record_head; size = n - record_head; link = link }) n)) (record-in o s)
         (λ n h k. (omega arith, k, omega arith))
     go (container.Section o) = block-fits o st s

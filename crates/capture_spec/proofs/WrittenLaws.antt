@@ -1,5 +1,6 @@
 -- What is written is read: the items that the drafts have written, whatever follows them.
 -- By the numbers at their places, which are those that were written there.
+use Rattle.std.specs.Prelude.{Option, Some, Ok, Err}
 use mathlib.Core.Path.{◌≡◌, refl, ap, ◌∙◌}
 use mathlib.Core.Bool.{Bool, true, false, cond}
 use mathlib.Core.List.{List, ◌++◌, append_assoc}
@@ -13,17 +14,15 @@ use lib.Seq.{get_or-append-add}
 use Rattle.wire_spec.specs.Bits.{quad_of}
 use Rattle.capture_spec.specs.declared.state.Order.{Order}
 use Rattle.capture_spec.specs.declared.state.Order.TheVariants as order
-use Rattle.capture_spec.specs.declared.state.Ordered.{Ordered}
-use Rattle.capture_spec.specs.declared.state.Ordered.TheVariants as ordered
 use Rattle.capture_spec.specs.declared.state.Container.{Container}
 use Rattle.capture_spec.specs.declared.state.Container.TheVariants as container
 use Rattle.capture_spec.specs.declared.state.State.{State}
-use Rattle.capture_spec.specs.declared.state.Extent.{Extent}
-use Rattle.capture_spec.specs.declared.state.Extent.TheVariants as extent
+use Rattle.capture_spec.specs.Items.{Extent}
 use Rattle.capture_spec.specs.declared.state.Item.TheVariants as item
 use Rattle.capture_spec.specs.Numbers.{word_at, half_at, head_order, section_order, section_type, max_item}
 use Rattle.capture_spec.specs.Step.{block_extent, body_item, head_by, is_length, least_of, packet_from, record_item, section_by, sized, start_item, step_in, step_of, trailed, within}
 use Rattle.capture_spec.specs.Written.{block_of, enhanced_of, half_of, head_of, interface_of, magic_of, record_of, section_of, word_of}
+use Rattle.capture_spec.specs.declared.state.Unread.TheVariants as unread
 
 -- a number of four octets, digit by digit
 digits : (n : ℕ) → quad_of (n / 256 / 256 / 256) (n / 256 / 256 % 256) (n / 256 % 256) (n % 256) ≡ n
@@ -64,39 +63,39 @@ length-half order.Big n = refl
 length-half order.Little n = refl
 
 -- pcap's head
-head-is : (s : List ℕ) (o : Order) → 24 ≤ length s → eqb (word_at order.Big s 0) section_type ≡ false → head_order s ≡ ordered.As o
-    → start_item s ≡ item.Head (container.Classic o (word_at o s 20 % 65536)) 24
+head-is : (s : List ℕ) (o : Order) → 24 ≤ length s → eqb (word_at order.Big s 0) section_type ≡ false → head_order s ≡ Some o
+    → start_item s ≡ Ok (item.Head (container.Classic o (word_at o s 20 % 65536)) 24)
 head-is s o h t e =
-    rw (le-ltb (length s) 4 (omega arith), t) (ap (λ (k : Ordered). head_by k s) e ∙ rw (le-ltb (length s) 24 h))
+    rw (le-ltb (length s) 4 (omega arith), t) (ap (λ (k : Option Order). head_by k s) e ∙ rw (le-ltb (length s) 24 h))
 
 -- A HEAD THAT IS WRITTEN IS READ
 pub head_read : (o : Order) (nano : Bool) (snap link : ℕ) (rest : List ℕ) (st : State) → st.container ≡ container.Unknown
-    → step_of st (head_of o (magic_of nano) snap link ++ rest) ≡ item.Head (container.Classic o (link % 65536)) 24
+    → step_of st (head_of o (magic_of nano) snap link ++ rest) ≡ Ok (item.Head (container.Classic o (link % 65536)) 24)
 unfolding step_of word_at
 head_read order.Big true snap link rest st e =
     ap (λ (c : Container). step_in c st (head_of order.Big (magic_of true) snap link ++ rest)) e
     ∙ head-is (head_of order.Big (magic_of true) snap link ++ rest) order.Big (omega arith) refl refl
-    ∙ ap (λ (w : ℕ). item.Head (container.Classic order.Big (w % 65536)) 24) (digits link)
+    ∙ ap (λ (w : ℕ). Ok (item.Head (container.Classic order.Big (w % 65536)) 24)) (digits link)
 head_read order.Big false snap link rest st e =
     ap (λ (c : Container). step_in c st (head_of order.Big (magic_of false) snap link ++ rest)) e
     ∙ head-is (head_of order.Big (magic_of false) snap link ++ rest) order.Big (omega arith) refl refl
-    ∙ ap (λ (w : ℕ). item.Head (container.Classic order.Big (w % 65536)) 24) (digits link)
+    ∙ ap (λ (w : ℕ). Ok (item.Head (container.Classic order.Big (w % 65536)) 24)) (digits link)
 head_read order.Little true snap link rest st e =
     ap (λ (c : Container). step_in c st (head_of order.Little (magic_of true) snap link ++ rest)) e
     ∙ head-is (head_of order.Little (magic_of true) snap link ++ rest) order.Little (omega arith) refl refl
-    ∙ ap (λ (w : ℕ). item.Head (container.Classic order.Little (w % 65536)) 24) (digits link)
+    ∙ ap (λ (w : ℕ). Ok (item.Head (container.Classic order.Little (w % 65536)) 24)) (digits link)
 head_read order.Little false snap link rest st e =
     ap (λ (c : Container). step_in c st (head_of order.Little (magic_of false) snap link ++ rest)) e
     ∙ head-is (head_of order.Little (magic_of false) snap link ++ rest) order.Little (omega arith) refl refl
-    ∙ ap (λ (w : ℕ). item.Head (container.Classic order.Little (w % 65536)) 24) (digits link)
+    ∙ ap (λ (w : ℕ). Ok (item.Head (container.Classic order.Little (w % 65536)) 24)) (digits link)
 
 -- a packet record
 record_is : (o : Order) (link : ℕ) (s : List ℕ) (n : ℕ) → 16 + n ≤ length s → word_at o s 8 ≡ n → 16 + n ≤ max_item
-    → record_item o link s ≡ item.Packet (record { at = 16; size = n; link = link }) (16 + n)
+    → record_item o link s ≡ Ok (item.Packet (record { at = 16; size = n; link = link }) (16 + n))
 record_is o link s n h w m =
     let e : 16 + n - 16 ≡ n = omega arith in
     rw (le-ltb (length s) 16 (omega arith), w, le-ltb max_item (16 + n) m, le-ltb (length s) (16 + n) h)
-    (ap (λ (k : ℕ). item.Packet (record { at = 16; size = k; link = link }) (16 + n)) e)
+    (ap (λ (k : ℕ). Ok (item.Packet (record { at = 16; size = k; link = link }) (16 + n))) e)
 
 record-word : (o : Order) (seconds fraction original : ℕ) (p rest : List ℕ) → word_at o (record_of o seconds fraction original p ++ rest) 8 ≡ length p
 unfolding word_at
@@ -109,7 +108,7 @@ record-size order.Little a b c p rest = omega (arith, length-append p rest)
 
 -- A RECORD THAT IS WRITTEN IS READ
 pub record-read : (o : Order) (link seconds fraction original : ℕ) (p rest : List ℕ) (st : State) → 16 + length p ≤ max_item → st.container ≡ container.Classic o link
-    → step_of st (record_of o seconds fraction original p ++ rest) ≡ item.Packet (record { at = 16; size = length p; link = link }) (16 + length p)
+    → step_of st (record_of o seconds fraction original p ++ rest) ≡ Ok (item.Packet (record { at = 16; size = length p; link = link }) (16 + length p))
 unfolding step_of
 record-read o link a b c p rest st h e =
     let s = record_of o a b c p ++ rest in
@@ -151,9 +150,9 @@ module _ (o : Order) (t : ℕ) (body rest : List ℕ) where
       ∙ word-front o size rest
 
   -- A BLOCK THAT IS WRITTEN IS WHOLE
-  pub block-whole : (least : ℕ) → least ≤ size → size % 4 ≡ 0 → size ≤ max_item → block_extent o least all ≡ extent.Whole size
+  pub block-whole : (least : ℕ) → least ≤ size → size % 4 ≡ 0 → size ≤ max_item → block_extent o least all ≡ Ok size
   block-whole least l f m =
-      ap (λ (w : ℕ). cond (is_length least w) (sized w all (trailed o w all)) (extent.Refused 82)) block-length
+      ap (λ (w : ℕ). cond (is_length least w) (sized w all (trailed o w all)) (Err (unread.Refused 82))) block-length
       ∙ rw (le-leb least size l, eq-eqb (size % 4) 0 f, le-ltb max_item size m, le-ltb (length all) size (omega (arith, block_size)), block-behind, eq-eqb size size refl)
 
   -- and holds its body
@@ -186,11 +185,11 @@ module _ (link snap : ℕ) (rest : List ℕ) where
   snap-is order.Little = digits snap
 
   -- AN INTERFACE THAT IS WRITTEN IS READ
-  pub interface-read : (o : Order) (st : State) → st.container ≡ container.Section o → st.described < 64 → step_of st (interface_of o link snap ++ rest) ≡ item.Interface link snap 20
+  pub interface-read : (o : Order) (st : State) → st.container ≡ container.Section o → st.described < 64 → step_of st (interface_of o link snap ++ rest) ≡ Ok (item.Interface link snap 20)
   interface-read o st e d =
       let n = fields-size o in
       block_read o 1 (fields o) rest st e refl (omega arith) (ap (λ (j : ℕ). j % 4) n) (omega arith)
-      ∙ rw (lt-ltb st.described 64 d) (λ i. item.Interface (link-is o i) (snap-is o i) (n i))
+      ∙ rw (lt-ltb st.described 64 d) (λ i. Ok (item.Interface (link-is o i) (snap-is o i) (n i)))
 
 -- the fields of a packet, which padding and options follow
 module _ (id high low original : ℕ) (p more rest : List ℕ) where
@@ -220,7 +219,7 @@ module _ (id high low original : ℕ) (p more rest : List ℕ) where
   -- A PACKET THAT IS WRITTEN IS READ, from an interface that the section described
   pub packet-read : (o : Order) (st : State) → st.container ≡ container.Section o → id < st.described → id < 64
       → (32 + (length p + length more)) % 4 ≡ 0 → 32 + (length p + length more) ≤ max_item
-      → step_of st (written o) ≡ item.Packet (record { at = 28; size = length p; link = get_or st.links id 0 }) (32 + (length p + length more))
+      → step_of st (written o) ≡ Ok (item.Packet (record { at = 28; size = length p; link = get_or st.links id 0 }) (32 + (length p + length more)))
   packet-read o st e d k f m =
       let n = packet-size o in
       block_read o 6 (packet o) rest st e refl (omega arith) (ap (λ (j : ℕ). j % 4) n ∙ f) (omega arith)
@@ -228,13 +227,13 @@ module _ (id high low original : ℕ) (p more rest : List ℕ) where
       ∙ rw (le-leb (length p) (32 + (length p + length more) - 32) (omega arith), lt-ltb id st.described d, lt-ltb id 64 k)
 
 -- THE HEAD OF A SECTION THAT IS WRITTEN IS READ, wherever a block may stand
-section-is : (s : List ℕ) (o : Order) → 28 ≤ length s → section_order s ≡ ordered.As o → word_at o s 4 ≡ 28 → word_at o s 24 ≡ 28 → section_by (section_order s) s ≡ item.Head (container.Section o) 28
+section-is : (s : List ℕ) (o : Order) → 28 ≤ length s → section_order s ≡ Some o → word_at o s 4 ≡ 28 → word_at o s 24 ≡ 28 → section_by (section_order s) s ≡ Ok (item.Head (container.Section o) 28)
 section-is s o h e w v =
-    ap (λ (k : Ordered). section_by k s) e
-    ∙ ap (λ (n : ℕ). within (cond (is_length 28 n) (sized n s (trailed o n s)) (extent.Refused 82)) (λ k. item.Head (container.Section o) k)) w
+    ap (λ (k : Option Order). section_by k s) e
+    ∙ ap (λ (n : ℕ). within (cond (is_length 28 n) (sized n s (trailed o n s)) (Err (unread.Refused 82))) (λ k. Ok (item.Head (container.Section o) k))) w
     ∙ rw (le-ltb (length s) 28 h, v)
 
-pub section-read : (o : Order) (rest : List ℕ) (st : State) → st.container ≡ container.Unknown → step_of st (section_of o ++ rest) ≡ item.Head (container.Section o) 28
+pub section-read : (o : Order) (rest : List ℕ) (st : State) → st.container ≡ container.Unknown → step_of st (section_of o ++ rest) ≡ Ok (item.Head (container.Section o) 28)
 unfolding step_of word_at
 section-read order.Big rest st e =
     let s = section_of order.Big ++ rest in

@@ -1,10 +1,8 @@
 -- The numbers of both formats, in either order of octets.
-use Rattle.std.specs.Prelude.{Bool, true, false, ◌||◌, List, ℕ, ◌+◌, ◌*◌, eqb, get_or}
+use Rattle.std.specs.Prelude.{Bool, true, false, ◌||◌, List, ℕ, ◌+◌, ◌*◌, eqb, get_or, Option, Some, None}
 use Rattle.wire_spec.specs.Bits.{quad_of}
 use Rattle.capture_spec.specs.declared.state.Order.{Order}
 use Rattle.capture_spec.specs.declared.state.Order.TheVariants as order
-use Rattle.capture_spec.specs.declared.state.Ordered.{Ordered}
-use Rattle.capture_spec.specs.declared.state.Ordered.TheVariants as ordered
 
 -- the number of two octets
 unfoldable pub half_at : Order → List ℕ → ℕ → ℕ
@@ -128,18 +126,18 @@ abbrev pub too_many_interfaces : ℕ
 too_many_interfaces = 85
 
 -- the order in which a number is one of those
-abbrev pub ordering : (big little : Bool) → Ordered
-ordering true little = ordered.As order.Big
-ordering false true = ordered.As order.Little
-ordering false false = ordered.Neither
+abbrev pub ordering : (big little : Bool) → Option Order
+ordering true little = Some order.Big
+ordering false true = Some order.Little
+ordering false false = None
 
 abbrev pub is_magic : ℕ → Bool
 is_magic x = eqb x magic_micro || eqb x magic_nano
 
 -- "the magic number .. to determine the byte order"
-abbrev pub head_order : List ℕ → Ordered
+abbrev pub head_order : List ℕ → Option Order
 head_order s = ordering (is_magic (word_at order.Big s 0)) (is_magic (word_at order.Little s 0))
 
 -- the Byte-Order Magic stands behind the block's type and length
-abbrev pub section_order : List ℕ → Ordered
+abbrev pub section_order : List ℕ → Option Order
 section_order s = ordering (eqb (word_at order.Big s fields_at) order_magic) (eqb (word_at order.Little s fields_at) order_magic)

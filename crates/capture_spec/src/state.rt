@@ -8,13 +8,6 @@ pub enum Order {
     Little,
 }
 
-// By a magic number.
-#[derive(Clone, Copy)]
-pub enum Ordered {
-    As(Order),
-    Neither,
-}
-
 // Before the first octet; behind pcap's head, with the link type of all packets; or in a section of pcapng.
 #[derive(Clone, Copy)]
 pub enum Container {
@@ -24,6 +17,7 @@ pub enum Container {
 }
 
 // The first `described` of `links` are the link types of the section's interfaces, and `snap` is the first one's SnapLen.
+// Kept as an array with a count: a section's interfaces come one by one, and memory is fixed.
 #[derive(Clone, Copy)]
 pub struct State {
     pub container: Container,
@@ -40,19 +34,17 @@ pub struct Place {
     pub link: u32,
 }
 
-// A whole block of so many octets, one that is not whole yet, or the number of a refusal.
+// Why no item is read: it is not whole yet, or the number of a refusal.
 #[derive(Clone, Copy)]
-pub enum Extent {
-    Whole(usize),
+pub enum Unread {
     Short,
+    // Kept as a number: the laws on short blocks (`ShortLaws`) say 82, and `pcapframes` prints it.
     Refused(u8),
 }
 
-// What stands at the front: no whole item; a refusal; the head of a capture or of a section; an interface; a packet; or another block.
+// What stands at the front: the head of a capture or of a section; an interface; a packet; or another block.
 #[derive(Clone, Copy)]
 pub enum Item {
-    Short,
-    Refused(u8),
     Head { container: Container, used: usize },
     Interface { link: u32, snap: usize, used: usize },
     Packet { place: Place, used: usize },

@@ -3,8 +3,8 @@
 //
 // `begin`, `item_at` and `next_state` are the entry points.
 ghost use Rattle.std.specs.Prelude.{◌≡◌, ◌+◌, ◌<◌, ◌≤◌, length};
-ghost use Rattle.capture_spec.specs.Numbers.{block_head, max_interfaces};
-ghost use Rattle.capture_spec.specs.Step.{Fits, begun_as, behind, block_item, head_by, interface_added, opened, record_item, section_by, section_head, start_item, step_of};
+ghost use Rattle.capture_spec.specs.Numbers.{block_head, least_section, max_interfaces};
+ghost use Rattle.capture_spec.specs.Step.{Fits, begun_as, behind, block_extent, block_item, head_by, interface_added, opened, record_item, section_by, section_head, start_item, step_of};
 
 use capture_block::block::{block_extent, body_item, least_of, record_extent};
 use capture_block::number::{head_order, section_order, word_at};
@@ -12,7 +12,7 @@ use capture_spec::format::{
     BLOCK_HEAD, HEAD_SIZE, LEAST_SECTION, LENGTHS_DISAGREE, LINK_AT, LINK_TYPES, MAX_INTERFACES,
     NOT_A_CAPTURE, RECORD_HEAD, SECTION_TYPE, WORD_SIZE,
 };
-use capture_spec::state::{Container, Extent, Item, Order, Ordered, Place, State};
+use capture_spec::state::{Container, Item, Order, Place, State, Unread};
 
 // Before the first octet.
 pub fn begin() -> State
@@ -26,101 +26,91 @@ pub fn begin() -> State
     }
 }
 
-fn head_item(octets: &[u8], by: Ordered) -> Item
+fn head_item(octets: &[u8], by: Option<Order>) -> Result<Item, Unread>
     ensures { result ≡ head_by by octets.now }
 {
     match by {
-        Ordered::Neither => Item::Refused(NOT_A_CAPTURE),
-        Ordered::As(order) => {
+        None => Err(Unread::Refused(NOT_A_CAPTURE)),
+        Some(order) => {
             if octets.len() < HEAD_SIZE {
-                return Item::Short;
+                return Err(Unread::Short);
             }
             let link = (word_at(order, octets, LINK_AT) % LINK_TYPES) as u32;
-            Item::Head {
+            Ok(Item::Head {
                 container: Container::Classic { order, link },
                 used: HEAD_SIZE,
-            }
+            })
         }
     }
 }
 
-fn record_item(order: Order, link: u32, octets: &[u8]) -> Item
+fn record_item(order: Order, link: u32, octets: &[u8]) -> Result<Item, Unread>
     ensures { result ≡ record_item order link octets.now }
 {
-    let extent = record_extent(order, octets);
-    match extent {
-        Extent::Short => Item::Short,
-        Extent::Refused(number) => Item::Refused(number),
-        Extent::Whole(n) => Item::Packet {
-            place: Place {
-                at: RECORD_HEAD,
-                size: n - RECORD_HEAD,
-                link,
-            },
-            used: n,
+    let n = record_extent(order, octets)?;
+    Ok(Item::Packet {
+        place: Place {
+            at: RECORD_HEAD,
+            size: n - RECORD_HEAD,
+            link,
         },
-    }
+        used: n,
+    })
 }
 
 // The head of a section in this order.
-fn section_head(order: Order, extent: Extent) -> Item
-    ensures { result ≡ section_head order extent }
+fn section_head(order: Order, octets: &[u8]) -> Result<Item, Unread>
+    requires { block_head ≤ length octets.now }
+    ensures { result ≡ section_head order (block_extent order least_section octets.now) }
 {
-    match extent {
-        Extent::Short => Item::Short,
-        Extent::Refused(number) => Item::Refused(number),
-        Extent::Whole(n) => Item::Head {
-            container: Container::Section(order),
-            used: n,
-        },
-    }
+    let used = block_extent(order, LEAST_SECTION, octets)?;
+    Ok(Item::Head {
+        container: Container::Section(order),
+        used,
+    })
 }
 
-fn section_item(octets: &[u8], by: Ordered) -> Item
+fn section_item(octets: &[u8], by: Option<Order>) -> Result<Item, Unread>
     requires { block_head ≤ length octets.now }
     ensures { result ≡ section_by by octets.now }
 {
     match by {
-        Ordered::Neither => Item::Refused(LENGTHS_DISAGREE),
-        Ordered::As(order) => section_head(order, block_extent(order, LEAST_SECTION, octets)),
+        None => Err(Unread::Refused(LENGTHS_DISAGREE)),
+        Some(order) => section_head(order, octets),
     }
 }
 
-fn start_item(octets: &[u8]) -> Item
+fn start_item(octets: &[u8]) -> Result<Item, Unread>
     ensures { result ≡ start_item octets.now }
 {
     if octets.len() < WORD_SIZE {
-        return Item::Short;
+        return Err(Unread::Short);
     }
     if word_at(Order::Big, octets, 0) != SECTION_TYPE {
         return head_item(octets, head_order(octets));
     }
     if octets.len() < BLOCK_HEAD {
-        return Item::Short;
+        return Err(Unread::Short);
     }
     section_item(octets, section_order(octets))
 }
 
-fn block_item(order: Order, state: State, octets: &[u8]) -> Item
+fn block_item(order: Order, state: State, octets: &[u8]) -> Result<Item, Unread>
     ensures { result ≡ block_item order state octets.now }
 {
     if octets.len() < BLOCK_HEAD {
-        return Item::Short;
+        return Err(Unread::Short);
     }
     let kind = word_at(order, octets, 0);
     if kind == SECTION_TYPE {
         return section_item(octets, section_order(octets));
     }
-    let extent = block_extent(order, least_of(kind), octets);
-    match extent {
-        Extent::Short => Item::Short,
-        Extent::Refused(number) => Item::Refused(number),
-        Extent::Whole(n) => body_item(kind, order, state, n, octets),
-    }
+    let n = block_extent(order, least_of(kind), octets)?;
+    body_item(kind, order, state, n, octets)
 }
 
 // The item at the front of the octets.
-pub fn item_at(state: State, octets: &[u8]) -> Item
+pub fn item_at(state: State, octets: &[u8]) -> Result<Item, Unread>
     ensures value { result ≡ step_of state octets.now }
     ensures fits { Fits result (length octets.now) }
 {
@@ -159,12 +149,13 @@ fn add_interface(state: State, link: u32, snap: usize) -> State
 }
 
 // Where the reading stands behind an item.
-pub fn next_state(state: State, item: Item) -> State
+pub fn next_state(state: State, item: Result<Item, Unread>) -> State
     ensures { result ≡ behind state item }
 {
-    match item {
-        Item::Short => state,
-        Item::Refused(_) => state,
+    let Ok(read) = item else {
+        return state;
+    };
+    match read {
         Item::Head { container, used: _ } => begin_as(state, container),
         Item::Interface {
             link,

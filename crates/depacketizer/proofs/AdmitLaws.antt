@@ -1,19 +1,15 @@
 -- What lets an arrival pass, and where its packet is in the sequence, from what was found of it.
 -- By cases on the tests, in their order.
+use Rattle.wire_spec.proofs.ResultLaws.{accepted-inj}
 use Rattle.std.proofs.Common.{◌≡◌, ℕ, Bool, true, false, cond, eqb, List, [], ◌∷◌, sym, refl, ap, ◌∙◌, subst, true≢false, arith}
 use Rattle.wire_spec.specs.declared.refusal.Refusal.{Refusal}
 use Rattle.wire_spec.specs.Layout.{Layout}
-use Rattle.wire_spec.specs.Result.{Result, refused, accepted, Checks, judge, ◌then◌}
+use Rattle.wire_spec.specs.Result.{Result, Err, Ok, Checks, judge, ◌then◌}
 use Rattle.wire_spec.specs.Packet.{Content, read_content}
 use Rattle.rtp_strict_reader.specs.Answers.{checked_of, read_of}
-use Rattle.rtp_strict_reader.specs.declared.packet.Checked.TheVariants as checked
 use Rattle.rtp_strict_reader.specs.declared.packet.Outline.{Outline}
-use Rattle.rtp_strict_reader.specs.declared.packet.Read.TheVariants as read
 use Rattle.rtp_strict_reader.specs.declared.packet.Summary.{Summary}
-use Rattle.depacketizer.specs.declared.admit.Stage.{Stage}
-use Rattle.depacketizer.specs.declared.admit.Stage.TheVariants as stage
 use Rattle.depacketizer.specs.declared.inspect.Inspected.{Inspected}
-use Rattle.depacketizer.specs.declared.inspect.Inspected.TheVariants as inspected
 use Rattle.depacketizer_spec.specs.declared.state.State.{State}
 use Rattle.depacketizer_sequence.specs.declared.place.Freshness.{Freshness}
 use Rattle.depacketizer_sequence.specs.declared.place.Freshness.TheVariants as freshness
@@ -25,21 +21,21 @@ use Rattle.depacketizer.specs.Answers.{admitted, arrival_of, from_opened, inspec
 use Rattle.depacketizer.specs.Answers.{stage_of}
 
 -- one check, then the others
-pub stage-first : (b : Bool) (n : ℕ) (ts : Checks) → stage_of ((b, n) ∷ ts) ≡ passing (stage_of ((b, n) ∷ [])) stage.Refused (stage_of ts)
+pub stage-first : (b : Bool) (n : ℕ) (ts : Checks) → stage_of ((b, n) ∷ ts) ≡ passing (stage_of ((b, n) ∷ [])) Err (stage_of ts)
 stage-first true n ts = refl
 stage-first false n ts = refl
 
 -- what is admitted, stage by stage
-module _ (st : State) (room : ℕ) (i : Inspected) where
-  pub first-stage : (y : Stage) → stage_of ((sound st room, 35) ∷ []) ≡ y
-      → admitted st room i ≡ passing y inspected.Refused (from_opened st i)
-  first-stage y e = ap (λ (z : Stage). passing z inspected.Refused (from_opened st i)) e
+module _ (st : State) (room : ℕ) (i : Result Inspected) where
+  pub first-stage : (y : Result (Unit {0})) → stage_of ((sound st room, 35) ∷ []) ≡ y
+      → admitted st room i ≡ passing y Err (from_opened st i)
+  first-stage y e = ap (λ (z : Result (Unit {0})). passing z Err (from_opened st i)) e
 
-  pub second-stage : (o : Outline) (m : Summary) (y : Stage) → i ≡ inspected.Packet o m
+  pub second-stage : (o : Outline) (m : Summary) (y : Result (Unit {0})) → i ≡ Ok (record { outline = o; summary = m })
       → stage_of (opened_checks st.source st.payload_type m.head.source m.head.payload_type) ≡ y
-      → from_opened st i ≡ passing y inspected.Refused (inspected.Packet o m)
+      → from_opened st i ≡ passing y Err (Ok (record { outline = o; summary = m }))
   second-stage o m y h e =
-      ap (from_opened st) h ∙ ap (λ (z : Stage). passing z inspected.Refused (inspected.Packet o m)) e
+      ap (from_opened st) h ∙ ap (λ (z : Result (Unit {0})). passing z Err (Ok (record { outline = o; summary = m }))) e
 
 -- what is admitted of octets that were inspected: what passes 35, 1 to 13, 30 and 31
 module _ (st : State) (L : Layout) (room : ℕ) (s : List ℕ) where
@@ -48,36 +44,38 @@ module _ (st : State) (L : Layout) (room : ℕ) (s : List ℕ) where
 
   abbrev Admits : (sound : Bool) → Result Content → Type 0
   Admits b r =
-      passing (stage_of ((b, 35) ∷ [])) inspected.Refused (from_opened st (inspected_of L s r))
-      ≡ inspected_of L s (judge 0 ((b, 35) ∷ []) (r then λ k. judge 0 (checks k) (accepted k)))
+      passing (stage_of ((b, 35) ∷ [])) Err (from_opened st (inspected_of L s r))
+      ≡ inspected_of L s (judge 0 ((b, 35) ∷ []) (r then λ k. judge 0 (checks k) (Ok k)))
 
   pub admits : admitted st room (inspected_of L s (read_content L s)) ≡ inspected_of L s (admission st L room s)
   admits = go (sound st room) (read_content L s)
     where
       typed : (k : Content) (a b : Bool) →
-          passing (stage_of ((a, 30) ∷ (b, 31) ∷ [])) inspected.Refused (inspected_of L s (accepted k))
-          ≡ inspected_of L s (judge 0 ((a, 30) ∷ (b, 31) ∷ []) (accepted k))
+          passing (stage_of ((a, 30) ∷ (b, 31) ∷ [])) Err (inspected_of L s (Ok k))
+          ≡ inspected_of L s (judge 0 ((a, 30) ∷ (b, 31) ∷ []) (Ok k))
       typed k false b = refl
       typed k true false = refl
       typed k true true = refl
 
       go : (b : Bool) (r : Result Content) → Admits b r
       go false r = refl
-      go true (refused x) = refl
-      go true (accepted k) = typed k (eqb k.source st.source) (eqb k.type st.payload_type)
+      go true (Err x) = refl
+      go true (Ok k) = typed k (eqb k.source st.source) (eqb k.type st.payload_type)
 
 -- what was inspected is what was checked, and what was read
 module _ (L : Layout) (s : List ℕ) where
-  pub inspected-refused : (r : Result Content) (x : Refusal) → inspected_of L s r ≡ inspected.Refused x
-      → r ≡ refused x
-  inspected-refused (refused y) x h = let e : y ≡ x = cc in ap refused e
-  inspected-refused (accepted k) x h = let z : ◌≡◌ {A = ℕ} 0 1 = cc in absurd (omega arith)
+  pub inspected-refused : (r : Result Content) (x : Refusal) → inspected_of L s r ≡ Err x
+      → r ≡ Err x
+  inspected-refused (Err y) x h = let e : y ≡ x = cc in ap Err e
+  inspected-refused (Ok k) x h = let z : ◌≡◌ {A = ℕ} 0 1 = cc in absurd (omega arith)
 
   pub inspected-packet : (r : Result Content) (o : Outline) (m : Summary)
-      → inspected_of L s r ≡ inspected.Packet o m
-      → (checked_of L s r ≡ checked.Packet o) × (read_of r ≡ read.Packet m)
-  inspected-packet (refused y) o m h = let z : ◌≡◌ {A = ℕ} 0 1 = cc in absurd (omega arith)
-  inspected-packet (accepted k) o m h = (cc, cc)
+      → inspected_of L s r ≡ Ok (record { outline = o; summary = m })
+      → (checked_of L s r ≡ Ok o) × (read_of r ≡ Ok m)
+  inspected-packet (Err y) o m h = let z : ◌≡◌ {A = ℕ} 0 1 = cc in absurd (omega arith)
+  inspected-packet (Ok k) o m h =
+      let q = accepted-inj h in
+      (ap (λ (x : Inspected). Ok x.outline) q, ap (λ (x : Inspected). Ok x.summary) q)
 
 -- a packet that is fresh
 abbrev pub is_fresh : Freshness → Bool

@@ -3,13 +3,12 @@
 use Rattle.std.proofs.Common.{◌≡◌, ℕ, ◌+◌, ◌≤◌, Bool, true, false, cond, List, length, sym, refl, ap, ◌∙◌, subst, ap₂}
 use Rattle.wire_spec.specs.declared.refusal.Refusal.{Refusal}
 use Rattle.wire_spec.specs.Bits.{splice}
-use Rattle.wire_spec.specs.Result.{accepted}
+use Rattle.wire_spec.specs.Result.{Ok, Err}
 use Rattle.wire_spec.specs.Cells.{list_in, list_of}
 use Rattle.wire_spec.specs.Packet.{Content}
 use Rattle.wire_spec.specs.Layout.{Layout}
 use Rattle.depacketizer_spec.specs.declared.state.State.{State}
 use Rattle.depacketizer.specs.declared.decide.Decision.{Decision}
-use Rattle.depacketizer.specs.declared.inspect.Inspected.TheVariants as inspected
 use Rattle.depacketizer_sequence.specs.declared.place.Freshness.TheVariants as freshness
 use Rattle.depacketizer_spec.specs.Step.{Gathered, lost, gathered, gathered_cells, gathered_packets, Gather, carried, follow, appended, sound, packet_step, admission, step}
 use Rattle.depacketizer_sequence.specs.Answers.{freshness_of}
@@ -22,12 +21,12 @@ use Rattle.depacketizer.proofs.DecideLaws.{Sound, sound-is, appended-at}
 
 -- the step of an arrival that the check before it refused
 pub refused-step : (st : State) (L : Layout) (s store : List ℕ) (x : Refusal)
-    → inspected_of L s (admission st L (length store) s) ≡ inspected.Refused x
+    → inspected_of L s (admission st L (length store) s) ≡ Err x
     → step st L s store ≡ unchanged st store x
 refused-step st L s store x h =
     step-refused st L s store x (inspected-refused L s (admission st L (length store) s) x h)
 
-module _ (st : State) (L : Layout) (s store : List ℕ) (k : Content) (h : admission st L (length store) s ≡ accepted k) (m : ℕ) (n : Bool) (from : State)
+module _ (st : State) (L : Layout) (s store : List ℕ) (k : Content) (h : admission st L (length store) s ≡ Ok k) (m : ℕ) (n : Bool) (from : State)
     (p : freshness_of st.heard st k.number ≡ freshness.Fresh m n from) where
   -- the packet starts from a state that is sound, and does there what a fresh one does
   starts : Starts st k store m n from (λ (z : State). sound z (length store) ≡ true) (packet_step st.heard st k store)
@@ -38,7 +37,7 @@ module _ (st : State) (L : Layout) (s store : List ℕ) (k : Content) (h : admis
   pub fresh-sound : Sound from (length store)
   fresh-sound = sound-is from (length store) starts.holds
 
-module _ (st : State) (L : Layout) (s store : List ℕ) (k : Content) (h : admission st L (length store) s ≡ accepted k) (m : ℕ) (n : Bool) (from : State)
+module _ (st : State) (L : Layout) (s store : List ℕ) (k : Content) (h : admission st L (length store) s ≡ Ok k) (m : ℕ) (n : Bool) (from : State)
     (p : freshness_of st.heard st k.number ≡ freshness.Fresh m n from) (d : Decision)
     (e : d ≡ decision_of (follow (cond n (gathered from) lost) (carried k) (length store))) where
   abbrev found : Gathered

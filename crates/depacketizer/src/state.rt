@@ -29,12 +29,6 @@ pub struct Arrival {
     pub answer: Answer,
 }
 
-#[derive(Clone, Copy)]
-pub enum Opened {
-    Open(Depacketizer),
-    Refused(Refusal),
-}
-
 // A state with one more late arrival.
 fn later(state: State) -> State
     ensures { result ≡ step.later state }
@@ -120,16 +114,13 @@ fn after(state: State, number: PacketNumber, decision: Decision, missing: u64) -
 
 impl Depacketizer {
     // A depacketizer of one source and payload type, which must be at most 127.
-    pub fn open(source: u32, payload_type: u8) -> Opened
+    pub fn open(source: u32, payload_type: u8) -> Result<Depacketizer, Refusal>
         ensures { result ≡ opened_of (step.open_of source payload_type) }
     {
         if payload_type > MAX_TYPE {
-            return Opened::Refused(Refusal {
-                number: Refusal::HEAD_INVALID,
-                index: 0,
-            });
+            return wire_spec::refusal::refuse(Refusal::HEAD_INVALID);
         }
-        Opened::Open(Depacketizer {
+        Ok(Depacketizer {
             state: opened(source, payload_type),
         })
     }
@@ -148,7 +139,7 @@ impl Depacketizer {
         self,
         layout: Layout,
         octets: &[u8],
-        inspected: Inspected,
+        inspected: Result<Inspected, Refusal>,
         store: &mut [u16],
     ) -> Arrival
         requires { inspected ≡ inspected_of layout octets.now (read_content layout octets.now) }
@@ -156,14 +147,16 @@ impl Depacketizer {
         ensures store_after { store.new ≡ (step.step self.state layout octets.now store.old).store }
     {
         let state = self.state;
-        let admitted = admit(state, store.len(), inspected);
-        let Inspected::Packet { outline, summary } = admitted else {
-            return Arrival {
-                state: self,
-                answer: Answer::Refused(admitted.refusal()),
-            };
+        let packet = match admit(state, store.len(), inspected) {
+            Ok(packet) => packet,
+            Err(refusal) => {
+                return Arrival {
+                    state: self,
+                    answer: Answer::Refused(refusal),
+                };
+            }
         };
-        let head = summary.head;
+        let head = packet.summary.head;
         let freshness = place(state, head.number);
         let Freshness::Fresh {
             missing,
@@ -173,11 +166,11 @@ impl Depacketizer {
         else {
             return refuse(state, head.number, freshness);
         };
-        let decision = decide(from, next, summary, store.len());
+        let decision = decide(from, next, packet.summary, store.len());
         if decision.append {
             let at = from.cells;
             let index = from.packets as u16;
-            read_records(layout, octets, outline, index, &mut store[at..]);
+            read_records(layout, octets, packet.outline, index, &mut store[at..]);
         }
         let answer = decision.answer;
         Arrival {

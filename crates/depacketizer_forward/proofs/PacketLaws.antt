@@ -1,5 +1,6 @@
 -- The cells that came in a packet: one record and then the others; and of a field as sent, exactly those of the packet's records.
 -- By the record at the front of the cells; the packets behind have larger indices.
+use Rattle.std.specs.Prelude.{Option, Some, None}
 use mathlib.Core.Path.{◌≡◌, refl, ap, sym, ◌∙◌}
 use mathlib.Core.Bool.{Bool, true, false, cond}
 use mathlib.Core.List.{List, [], ◌∷◌, ◌++◌, append_assoc}
@@ -15,7 +16,6 @@ use Rattle.wire_spec.specs.Anc.{Each, Record, InRange}
 use Rattle.wire_spec.specs.Cells.{head_cells, cells_in, list_in, max_index, cell_index, cell_checks}
 use Rattle.wire_spec.proofs.CellLaws.{front_reads}
 use Rattle.anc_record.specs.declared.check.Front.{Front}
-use Rattle.anc_record.specs.declared.check.Front.TheVariants as front
 use Rattle.anc_record.specs.Answers.{front_of}
 use Rattle.anc_record.proofs.FrontLaws.{taken, lies, front-taken}
 use Rattle.depacketizer_spec.specs.Stream.{Part, cells_from}
@@ -30,11 +30,11 @@ none-there k = refl
 pub record-inside : (k : ℕ) (l : List ℕ) → record_cells k l ≤ length l
 record-inside k l = go (front_of l) refl
   where
-    go : (f : Front) → front_of l ≡ f → front_cells k l f ≤ length l
-    go front.Malformed e = omega arith
-    go (front.Record w clear) e = let t = taken l w clear e in of (eqb (cell_index l) k) (omega (arith, (lies l t.passed).inside, t.count))
+    go : (f : Option Front) → front_of l ≡ f → front_cells k l f ≤ length l
+    go None e = omega arith
+    go (Some p) e = let t = taken l p.words p.clear e in of (eqb (cell_index l) k) (omega (arith, (lies l t.passed).inside, t.count))
       where
-        of : (b : Bool) → head_cells + w.0 ≤ length l → cond b (head_cells + w.0) 0 ≤ length l
+        of : (b : Bool) → head_cells + p.words.0 ≤ length l → cond b (head_cells + p.words.0) 0 ≤ length l
         of true h = h
         of false h = omega arith
 
@@ -88,9 +88,9 @@ own-record k r t h i =
 other-record : (k j : ℕ) (r : Record) (t : List ℕ) → (j ≡ k → ⊥) → record_cells k (cells_in j r ++ t) ≡ 0
 other-record k j r t n = go (front_of (cells_in j r ++ t))
   where
-    go : (f : Front) → front_cells k (cells_in j r ++ t) f ≡ 0
-    go front.Malformed = refl
-    go (front.Record w clear) = rw (ne_eqb j k n)
+    go : (f : Option Front) → front_cells k (cells_in j r ++ t) f ≡ 0
+    go None = refl
+    go (Some p) = rw (ne_eqb j k n)
 
 -- the records of packet `k`, with none of it behind them
 pub part-cells : (k : ℕ) → k ≤ max_index → (rs : List Record) → Each (InRange rfc8331) rs → (t : List ℕ) → record_cells k t ≡ 0

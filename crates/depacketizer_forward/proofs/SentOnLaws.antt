@@ -9,7 +9,7 @@ use lib.ListN.{length, take, drop, length-append}
 use lib.Seq.{take-append_seam, drop-append_seam, take_at}
 use Rattle.wire_spec.specs.Layout.{rfc8331}
 use Rattle.wire_spec.specs.Bits.{Below}
-use Rattle.wire_spec.specs.Result.{Result, accepted}
+use Rattle.wire_spec.specs.Result.{Result, Ok}
 use Rattle.wire_spec.specs.Anc.{Each, Record, InRange, WellFormed}
 use Rattle.wire_spec.specs.Cells.{list_in, list_of, max_index}
 use Rattle.wire_spec.specs.Packet.{Content}
@@ -76,9 +76,9 @@ sent-on s w i b below h same out room =
     let formed = rewritten-formed L o below k reads in
     let records = ((layout-iff L k.f rs).1 (formed.records, omega (arith, formed.fit))).0 in
     let shorter = rewritten-shorter L o below k reads in
-    let whole : write_content L k (list_of rs) (length out) ≡ accepted (content_octets L k) = writes L k rs (length out) formed (few x of within) (omega (arith, shorter, room)) in
+    let whole : write_content L k (list_of rs) (length out) ≡ Ok (content_octets L k) = writes L k rs (length out) formed (few x of within) (omega (arith, shorter, room)) in
     let its = its-cells x of within (in-range rs records) in
-    let written : write_content L (content_of h) (its_cells x) (length out) ≡ accepted (content_octets L k) =
+    let written : write_content L (content_of h) (its_cells x) (length out) ≡ Ok (content_octets L k) =
     ap₂ (λ (q : Content) (l : List ℕ). write_content L q l (length out)) same its
     ∙ only-checked L k rs (list_in (index_of x) rs) (list_of rs) (length out) records (lists-in (index_of x) (small x of within) rs) (lists-own rs)
     ∙ whole in

@@ -1,14 +1,13 @@
 -- Sending a field on "in the packets it arrived in" (02, K13): the cells of a list that came in a packet, by each record's ninth cell.
-use Rattle.std.specs.Prelude.{cond, List, ℕ, zero, suc, ◌+◌, eqb, length, drop}
+use Rattle.std.specs.Prelude.{cond, List, ℕ, zero, suc, ◌+◌, eqb, length, drop, Option, Some, None}
 use Rattle.wire_spec.specs.Cells.{head_cells, cell_index}
 use Rattle.anc_record.specs.declared.check.Front.{Front}
-use Rattle.anc_record.specs.declared.check.Front.TheVariants as front
 use Rattle.anc_record.specs.Answers.{front_of}
 
 -- the cells that a record takes which stands at the front of `l`, if it came in packet `k`
-abbrev pub front_cells : ℕ → List ℕ → Front → ℕ
-front_cells k l front.Malformed = 0
-front_cells k l (front.Record w clear) = cond (eqb (cell_index l) k) (head_cells + w.0) 0
+abbrev pub front_cells : ℕ → List ℕ → Option Front → ℕ
+front_cells k l None = 0
+front_cells k l (Some p) = cond (eqb (cell_index l) k) (head_cells + p.words.0) 0
 
 -- 0 where no record stands there, or one of another packet
 abbrev pub record_cells : ℕ → List ℕ → ℕ

@@ -1,8 +1,7 @@
 -- A packet of a field that was gathered, sent on (02, K13: "to send a field on in the packets it arrived in").
 use Rattle.std.specs.Prelude.{◌≡◌, ◌↔◌, List, ℕ, length, take, drop}
-use Rattle.wire_spec.specs.declared.written.Written.TheVariants as written
 use Rattle.wire_spec.specs.Layout.{Layout}
-use Rattle.wire_spec.specs.Result.{accepted}
+use Rattle.wire_spec.specs.Result.{Ok}
 use Rattle.wire_spec.specs.Packet.{Content, BareOctets, read_content}
 use Rattle.wire_spec.specs.Writing.{content_octets}
 use Rattle.rtp_strict_reader.specs.declared.packet.Head.{Head}
@@ -25,7 +24,7 @@ its_cells x = take (packet_cells (index_of x) (cells_onward x)) (cells_onward x)
 -- `write`, given them and what the packet of octets `o`, which says `k`, has beside its records: it writes a packet that says the same, and that
 -- is the one that arrived exactly where that one had nothing that writing leaves out
 pub record SentOn (L : Layout) (h : Head) (cells out o : List ℕ) (k : Content) : Type 0 where
-  pub returns : write_returns L h cells out ≡ written.Octets (record { 0 = length (content_octets L k) })
+  pub returns : write_returns L h cells out ≡ Ok (record { 0 = length (content_octets L k) })
   pub leaves : take (length (content_octets L k)) (write_leaves L h cells out) ≡ content_octets L k
-  pub says : read_content L (content_octets L k) ≡ accepted k
+  pub says : read_content L (content_octets L k) ≡ Ok k
   pub again : (content_octets L k ≡ o) ↔ BareOctets L o

@@ -6,23 +6,20 @@
 ghost use Rattle.std.specs.Prelude.{◌≡◌};
 ghost use Rattle.depacketizer_forward.specs.Forward.{packet_cells, record_cells};
 
-use anc_record::check::{Front, check_record};
+use anc_record::check::check_record;
 use anc_record::header::Header;
 
 // The cells of the record at the front, if one stands there that came in packet `index`; else 0.
 fn record_cells(cells: &[u16], index: u16) -> usize
     ensures { result ≡ record_cells index cells.now }
 {
-    let front = check_record(cells);
-    match front {
-        Front::Malformed => 0,
-        Front::Record { words, clear: _ } => {
-            if cells[Header::INDEX_CELL] != index {
-                return 0;
-            }
-            Header::CELLS + (words.0 as usize)
-        }
+    let Some(front) = check_record(cells) else {
+        return 0;
+    };
+    if cells[Header::INDEX_CELL] != index {
+        return 0;
     }
+    Header::CELLS + (front.words.0 as usize)
 }
 
 // The cells of the records at the front that came in packet `index`.
@@ -30,12 +27,11 @@ pub fn packet_cells(cells: &[u16], index: u16) -> usize
     ensures { result ≡ packet_cells index cells.now }
 {
     let mut rest = cells;
-    let mut used: usize = 0;
-    let mut step = record_cells(cells, index);
-    while step > 0 {
+    loop {
+        let step = record_cells(rest, index);
+        if step == 0 {
+            return cells.len() - rest.len();
+        }
         rest = &rest[step..];
-        used += step;
-        step = record_cells(rest, index);
     }
-    used
 }

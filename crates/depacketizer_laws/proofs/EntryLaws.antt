@@ -7,7 +7,7 @@ use Prim.Native.Nat.{ℕ, ◌+◌, ◌<◌}
 use native.Mathlib.Omega.{arith}
 use lib.Dec.{leb}
 use borrow.Author.Tests.{le-leb, lt-leb, leb-false}
-use Rattle.wire_spec.specs.Result.{refused, accepted}
+use Rattle.wire_spec.specs.Result.{Err, Ok}
 use Rattle.depacketizer_spec.specs.declared.state.State.{State}
 use Rattle.depacketizer_spec.specs.declared.state.Phase.{Phase}
 use Rattle.depacketizer_spec.specs.declared.state.Phase.TheVariants as phase
@@ -16,7 +16,6 @@ use Rattle.depacketizer_spec.specs.Stream.{Stream, Call, Calls, none, ◌before�
 use Rattle.depacketizer_spec.specs.Table.{no}
 use Rattle.depacketizer_spec.proofs.Demand3.{demand3}
 use Rattle.depacketizer_spec.proofs.TableLaws.{told}
-use Rattle.depacketizer.specs.declared.state.Opened.TheVariants as opened
 use Rattle.depacketizer.specs.Answers.{opened_of}
 use Rattle.depacketizer_laws.specs.Entry.{lent, Kept, called, calls, OpensExactly, ArrivesAsTold, EntryDemand3}
 
@@ -58,7 +57,7 @@ entry-demand3 s w t = (
 pub opens-exactly : OpensExactly
 opens-exactly source type = (λ e. over (leb type 127) refl e, λ h. rw (lt-leb type 127 h))
   where
-    over : (b : Bool) → leb type 127 ≡ b → opened_of (cond b (accepted (open_state source type)) (refused (no 24))) ≡ opened.Refused (no 24) → 127 < type
+    over : (b : Bool) → leb type 127 ≡ b → opened_of (cond b (Ok (open_state source type)) (Err (no 24))) ≡ Err (no 24) → 127 < type
     over true e h = let o : ◌≡◌ {A = ℕ} 0 1 = cc in absurd (omega arith)
     over false e h = leb-false type 127 e
 

@@ -1,4 +1,5 @@
 -- DEMAND 3 OF THE ENTRY POINTS: what `Depacketizer::open` and `Depacketizer::arrive` return, by their contracts, call after call.
+use Rattle.wire_spec.specs.Result.{Result, Ok, Err}
 use Rattle.std.specs.Prelude.{◌≡◌, List, [], ◌++◌, ◌↔◌, ℕ, ◌+◌, ◌-◌, ◌^◌, ◌≤◌, ◌<◌, min, length}
 use Rattle.wire_spec.specs.Layout.{Layout}
 use Rattle.depacketizer_spec.specs.declared.state.Phase.{Phase}
@@ -8,12 +9,10 @@ use Rattle.depacketizer_spec.specs.Table.{no, Told}
 use Rattle.depacketizer_spec.specs.Stream.{Stream, WellFormedStream, Call, Calls, none, ◌before◌, Proper, Near, Handed, handed_by, octets_of, layout_of, arrived, fresh, expected, span}
 use Rattle.depacketizer.specs.declared.state.Depacketizer.{Depacketizer}
 use Rattle.depacketizer.specs.declared.state.Arrival.{Arrival}
-use Rattle.depacketizer.specs.declared.state.Opened.{Opened}
-use Rattle.depacketizer.specs.declared.state.Opened.TheVariants as opened
 use Rattle.depacketizer.specs.Answers.{arrival_of, opened_of}
 
 -- what `open` returns
-abbrev pub opens : (source type : ℕ) → Opened
+abbrev pub opens : (source type : ℕ) → Result Depacketizer
 opens source type = opened_of (open_of source type)
 
 -- what `arrive` returns
@@ -26,7 +25,7 @@ leaves d L octets store = (step d.state L octets store).store
 
 -- "Opened with source and payload type (24 if over 127)."
 abbrev pub OpensExactly : Type 0
-OpensExactly = (source type : ℕ) → (opens source type ≡ opened.Refused (no 24)) ↔ (127 < type)
+OpensExactly = (source type : ℕ) → (opens source type ≡ Err (no 24)) ↔ (127 < type)
 
 -- THE TABLE OF AN ARRIVAL, of what `arrive` returns and leaves
 abbrev pub ArrivesAsTold : Type 0
@@ -76,4 +75,4 @@ pub record Delivers (s : Stream) (cs : Calls) (r : Kept) : Type 0 where
 -- `open` of a stream's source and type returns a depacketizer, and `arrive`, called for each arrival, delivers
 abbrev pub EntryDemand3 : Type 0
 EntryDemand3 = (s : Stream) → WellFormedStream s → s.type ≤ 127
-    → (d : Depacketizer) × (opens s.source s.type ≡ opened.Open d) × ((cs : Calls) → Proper s cs → Near cs → Delivers s cs (calls s d cs))
+    → (d : Depacketizer) × (opens s.source s.type ≡ Ok d) × ((cs : Calls) → Proper s cs → Near cs → Delivers s cs (calls s d cs))

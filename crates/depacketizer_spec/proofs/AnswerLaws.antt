@@ -10,14 +10,14 @@ use lib.ListN.{length}
 use borrow.Author.Tests.{eq-eqb, ne_eqb}
 use Rattle.wire_spec.specs.declared.refusal.Refusal.{Refusal}
 use Rattle.wire_spec.specs.Layout.{Layout}
-use Rattle.wire_spec.specs.Result.{accepted}
+use Rattle.wire_spec.specs.Result.{Ok}
 use Rattle.wire_spec.specs.Packet.{Content, read_content}
 use Rattle.wire_spec.specs.Writing.{max_field_packets}
 use Rattle.depacketizer_spec.specs.declared.state.State.{State}
 use Rattle.depacketizer_spec.specs.declared.state.Field.{Field}
 use Rattle.depacketizer_spec.specs.declared.state.Answer.{Answer}
 use Rattle.depacketizer_spec.specs.declared.state.Answer.TheVariants as answer
-use Rattle.depacketizer_spec.specs.Step.{Gathered, lost, ready, filling, phase_of, Gather, Carried, carried, dropped, taken, join_fits, join_if_fits, join, join_if_same, follow, fresh_step, far_step, Step, step, whole_if_marked, field_with, appended}
+use Rattle.depacketizer_spec.specs.Step.{Gathered, lost, ready, filling, phase_of, Gather, Carried, carried, dropped, taken, join_fits, join_if_fits, join, join_if_same, follow, fresh_step, Step, step, whole_if_marked, field_with, appended}
 use Rattle.depacketizer_spec.specs.Laws.{IsFresh, PhaseAfter, MemoryAfter, appends, StoreAfter, FullOfPackets}
 use Rattle.depacketizer_spec.proofs.StepLaws.{follow-answers, not-refused, refusal-inj, refused-keeps, passed, step_is}
 
@@ -90,7 +90,7 @@ fresh-phase st g missing k store =
     }
 
 -- "After any marked fresh arrival the keeper is ready; after an unmarked one that isn't held it is lost."
-pub phase-after : (st : State) (L : Layout) (octets store : List ℕ) (k : Content) → read_content L octets ≡ accepted k
+pub phase-after : (st : State) (L : Layout) (octets store : List ℕ) (k : Content) → read_content L octets ≡ Ok k
     → PhaseAfter k (step st L octets store)
 phase-after st L octets store k e =
     step_is st L octets store (PhaseAfter k) (λ x. record { marked = λ f m. absurd (f x refl); unmarked = λ f m n. absurd (f x refl) })
@@ -118,11 +118,11 @@ memory-after st L octets store = record { fresh = fresh; far = far; other = othe
         (λ x r e n. (refl, refl)) (λ r e n. (refl, refl)) (λ m r e n. absurd (n (sym (ap (λ (x : Refusal). x.number) (refusal-inj e)))))
         (λ from k q h g m r e n. absurd (not-refused _ r (follow-answers g (carried k) (length store)) e))
 
-    far : (r : Refusal) → (step st L octets store).answer ≡ answer.Refused r → r.number ≡ 36 → (k : Content) → read_content L octets ≡ accepted k
+    far : (r : Refusal) → (step st L octets store).answer ≡ answer.Refused r → r.number ≡ 36 → (k : Content) → read_content L octets ≡ Ok k
         → ((step st L octets store).state.remembers ≡ true) × ((step st L octets store).state.remembered.0 ≡ (k.number + 1) % 2 ^ 32)
     far r e n k q =
         let f = (refused-keeps st L octets store r e).far n in
-        let p : read_content L octets ≡ accepted f.0 = (passed st L (length store) octets f.0 f.1).1 in
+        let p : read_content L octets ≡ Ok f.0 = (passed st L (length store) octets f.0 f.1).1 in
         let same : f.0 ≡ k = cc in (
           ap (λ (z : Step). z.state.remembers) f.2,
           ap (λ (z : Step). z.state.remembered.0) f.2 ∙ ap (λ (c : Content). (c.number + 1) % 2 ^ 32) same,

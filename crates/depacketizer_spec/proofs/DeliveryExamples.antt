@@ -8,7 +8,7 @@ use lib.ListN.{replicate}
 use Rattle.wire_spec.specs.Bits.{to_bits, num, bits, octets, bits_at, row_at, field_bits}
 use Rattle.wire_spec.specs.Words.{header_word, checksum_word}
 use Rattle.wire_spec.specs.Layout.{Layout, rfc8331, draft2015}
-use Rattle.wire_spec.specs.Result.{accepted}
+use Rattle.wire_spec.specs.Result.{Ok}
 use Rattle.wire_spec.specs.Anc.{Record, anc_size, anc_record, headers_ok, r_ok, words_ok, checksum_ok, alignment_ok, anc_checks, read_anc, read_run}
 use Rattle.wire_spec.specs.Packet.{Content, packet_octets, packet_read, header_checks, padding_checks, payload_checks, read_records, read_packet, read_content}
 use Rattle.wire_spec.specs.Writing.{content_octets}
@@ -41,12 +41,12 @@ three =
       fields = record { timestamp = 9; f = 0; first = part draft2015 (saying 2 100 0 0xFFFFFFFF (a ∷ [])); rest = part draft2015 (saying 2 100 0 0 []) ∷ part draft2015 (saying 2 100 1 1 (plain_b ∷ [])) ∷ [] } ∷ [];
     }
 
-pub one-accepts : (i : ℕ) → i < 1 → read_content rfc8331 (nth one i).part.octets ≡ accepted (content_at one i (nth one i))
+pub one-accepts : (i : ℕ) → i < 1 → read_content rfc8331 (nth one i).part.octets ≡ Ok (content_at one i (nth one i))
 unfolding to_bits num bits octets field_bits bits_at row_at header_word checksum_word anc_size anc_record headers_ok r_ok words_ok checksum_ok alignment_ok anc_checks read_anc read_run packet_octets packet_read header_checks padding_checks payload_checks read_records read_packet read_content
 one-accepts zero h = refl
 one-accepts (suc i) h = absurd (omega arith)
 
-pub three-accepts : (i : ℕ) → i < 3 → read_content draft2015 (nth three i).part.octets ≡ accepted (content_at three i (nth three i))
+pub three-accepts : (i : ℕ) → i < 3 → read_content draft2015 (nth three i).part.octets ≡ Ok (content_at three i (nth three i))
 unfolding to_bits num bits octets field_bits bits_at row_at header_word checksum_word anc_size anc_record headers_ok r_ok words_ok checksum_ok alignment_ok anc_checks read_anc read_run packet_octets packet_read header_checks padding_checks payload_checks read_records read_packet read_content
 three-accepts zero h = refl
 three-accepts (suc zero) h = refl

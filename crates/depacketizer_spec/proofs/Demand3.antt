@@ -9,7 +9,7 @@ use lib.Dec.{leb}
 use lib.ListN.{length}
 use borrow.Author.Tests.{leb-true, leb-false, le-leb}
 use Rattle.wire_spec.specs.declared.refusal.Refusal.{Refusal}
-use Rattle.wire_spec.specs.Result.{Result, accepted}
+use Rattle.wire_spec.specs.Result.{Result, Ok}
 use Rattle.wire_spec.specs.Anc.{Each}
 use Rattle.wire_spec.specs.Cells.{all_below}
 use Rattle.wire_spec.specs.Packet.{Content}
@@ -123,5 +123,5 @@ pub never-35 : (s : Stream) → WellFormedStream s → (cs : Calls) (c : Call) �
 never-35 s w cs c p near x e n = never-35-after s cs c [] (run s cs) w p.2 (invariant-run s [] [] cs w p.0 near) x e n
 
 -- a run starts with the state that opening gives
-pub opened-is : (s : Stream) → s.type ≤ max_type → open_of s.source s.type ≡ accepted (run s none).state
+pub opened-is : (s : Stream) → s.type ≤ max_type → open_of s.source s.type ≡ Ok (run s none).state
 opened-is s h = rw (le-leb s.type max_type h)

@@ -5,9 +5,9 @@ use mathlib.Core.List.{List, [], ◌∷◌}
 use Prim.Native.Nat.{ℕ}
 use lib.IntN.{pos}
 use Rattle.wire_spec.specs.Anc.{padding}
-use Rattle.wire_spec.specs.Layout.{Layout, rfc8331}
+use Rattle.wire_spec.specs.Layout.{rfc8331}
 use Rattle.wire_spec.specs.Words.{header_word}
-use Rattle.wire_spec.specs.Result.{accepted}
+use Rattle.wire_spec.specs.Result.{Ok}
 use Rattle.wire_spec.specs.Anc.{Record, anc_size, body_bits, anc_octets, read_anc, checksum}
 use Rattle.wire_spec.proofs.Examples as below
 use Rattle.depacketizer_spec.specs.Step.{distance, classify, next, late, ahead, far}
@@ -34,7 +34,7 @@ pub record Marked : Type 0 where
   pub sizes : (anc_size rfc8331 0 ≡ 12) × (anc_size rfc8331 2 ≡ 12) × (anc_size rfc8331 3 ≡ 16) × (anc_size rfc8331 12 ≡ 24)
       × (padding 32 (body_bits rfc8331 12) ≡ 0) × (anc_size rfc8331 255 ≡ 328)
   pub written : (anc_octets rfc8331 a ≡ a_octets) × (anc_octets rfc8331 b ≡ b_octets) × (checksum b ≡ 0x164)
-  pub read : (i : ℕ) → (read_anc rfc8331 i a_octets ≡ accepted a) × (read_anc rfc8331 i b_octets ≡ accepted b)
+  pub read : (i : ℕ) → (read_anc rfc8331 i a_octets ≡ Ok a) × (read_anc rfc8331 i b_octets ≡ Ok b)
   -- "Last FFFFFFFF: 0 is distance 1."
   pub wraps : distance 0xFFFFFFFF 0 ≡ pos 1
   -- "last 0 now reads: BB7 is fresh, BB8 is far, FFFFFF9D is late, FFFFFF9C is far" (02, K11)

@@ -11,7 +11,7 @@ use lib.ListN.{length}
 use borrow.Author.Tests.{eq-eqb, ne_eqb}
 use Rattle.wire_spec.specs.declared.refusal.Refusal.{Refusal}
 use Rattle.wire_spec.specs.Layout.{Layout}
-use Rattle.wire_spec.specs.Result.{Result, refused, accepted}
+use Rattle.wire_spec.specs.Result.{Result, Err, Ok}
 use Rattle.wire_spec.specs.Anc.{anc_checks, read_run}
 use Rattle.wire_spec.specs.Packet.{Packet, Content, content, anc_count, payload_at, packet_read, header_checks, padding_checks, payload_checks, read_records, read_packet, read_content}
 use Rattle.wire_spec.proofs.BitLaws.{bits_at-lt}
@@ -32,7 +32,7 @@ records-numbered : (L : Layout) (s : List ℕ) → Numbered is_reading (read_rec
 unfolding read_records
 records-numbered L s =
     then-numbered is_reading (read_run L 0 (anc_count s) _) _ (run-numbered is_reading L (anc-numbers L) 0 (anc_count s) _)
-    (λ q. judge-numbered is_reading 0 ((eqb (length q.1) 0, 13) ∷ []) (accepted q.0) refl tt)
+    (λ q. judge-numbered is_reading 0 ((eqb (length q.1) 0, 13) ∷ []) (Ok q.0) refl tt)
 
 packet-numbered : (L : Layout) (s : List ℕ) → Numbered is_reading (read_packet L s)
 unfolding read_packet header_checks padding_checks payload_checks
@@ -52,21 +52,21 @@ abbrev pub is_admission : ℕ → Bool
 is_admission n = is_reading n || (eqb n 30 || eqb n 31)
 
 admission : {A : Type 0} (r : Result A) → Numbered is_reading r → Numbered is_admission r
-admission (refused x) h = rw h
-admission (accepted a) h = tt
+admission (Err x) h = rw h
+admission (Ok a) h = tt
 
 -- of the opened source and type
-pub admit-own : (L : Layout) (source type : ℕ) (o : List ℕ) (k : Content) → read_content L o ≡ accepted k → k.source ≡ source → k.type ≡ type → admit L source type o ≡ accepted k
+pub admit-own : (L : Layout) (source type : ℕ) (o : List ℕ) (k : Content) → read_content L o ≡ Ok k → k.source ≡ source → k.type ≡ type → admit L source type o ≡ Ok k
 admit-own L source type o k e s t = rw (e, eq-eqb k.source source s, eq-eqb k.type type t)
 
 -- refused, or of another source or type
 pub admit-foreign : (L : Layout) (source type : ℕ) (o : List ℕ)
-    → Foreign source type L o → (x : Refusal) × (admit L source type o ≡ refused x)
+    → Foreign source type L o → (x : Refusal) × (admit L source type o ≡ Err x)
 admit-foreign L source type o (inl h) = (h.0, rw h.1)
 admit-foreign L source type o (inr (k, e, inl n)) = (record { number = 30; index = 0 }, rw (e, ne_eqb k.source source n))
 admit-foreign L source type o (inr (k, e, inr n)) = go (eqb k.source source) refl
   where
-    go : (b : Bool) → eqb k.source source ≡ b → (x : Refusal) × (admit L source type o ≡ refused x)
+    go : (b : Bool) → eqb k.source source ≡ b → (x : Refusal) × (admit L source type o ≡ Err x)
     go true q = (record { number = 31; index = 0 }, rw (e, q, ne_eqb k.type type n))
     go false q = (record { number = 30; index = 0 }, rw (e, q))
 
@@ -74,10 +74,10 @@ admit-foreign L source type o (inr (k, e, inr n)) = go (eqb k.source source) ref
 pub admit-numbered : (L : Layout) (source type : ℕ) (octets : List ℕ) → Numbered is_admission (admit L source type octets)
 admit-numbered L source type octets =
     then-numbered is_admission (read_content L octets) _ (admission (read_content L octets) (content-numbered L octets))
-    (λ k. judge-numbered is_admission 0 ((eqb k.source source, 30) ∷ (eqb k.type type, 31) ∷ []) (accepted k) refl tt)
+    (λ k. judge-numbered is_admission 0 ((eqb k.source source, 30) ∷ (eqb k.type type, 31) ∷ []) (Ok k) refl tt)
 
 -- a packet's number has 32 bits
-pub number_small : (L : Layout) (s : List ℕ) (k : Content) → read_content L s ≡ accepted k → k.number < 2 ^ 32
+pub number_small : (L : Layout) (s : List ℕ) (k : Content) → read_content L s ≡ Ok k → k.number < 2 ^ 32
 unfolding read_content read_packet packet_read
 number_small L s k e =
     let a = then-accepts (read_packet L s) _ k e in

@@ -9,7 +9,7 @@ use lib.ListN.{length}
 use borrow.Author.Tests.{le-leb}
 use Rattle.wire_spec.specs.declared.refusal.Refusal.{Refusal}
 use Rattle.wire_spec.specs.Layout.{Layout}
-use Rattle.wire_spec.specs.Result.{accepted}
+use Rattle.wire_spec.specs.Result.{Ok}
 use Rattle.wire_spec.specs.Packet.{Content}
 use Rattle.depacketizer_spec.specs.declared.state.State.{State}
 use Rattle.depacketizer_spec.specs.declared.state.Answer.TheVariants as answer
@@ -30,7 +30,7 @@ restart-opens st L octets store h =
     rw (h.passes, h.accepts, h.heard, h.is_far, h.remembered, open-sound st.source st.payload_type (length store))
 
 -- a first arrival
-open_step : (source type : ℕ) (L : Layout) (octets store : List ℕ) (k : Content) → admit L source type octets ≡ accepted k
+open_step : (source type : ℕ) (L : Layout) (octets store : List ℕ) (k : Content) → admit L source type octets ≡ Ok k
     → step (open_state source type) L octets store ≡ fresh_step (open_state source type) lost 0 k store
 open_step source type L octets store k h =
     sound-step (open_state source type) L octets store (open-sound source type (length store)) ∙ rw h
@@ -86,7 +86,7 @@ module _ (s : Stream) (w : WellFormedStream s) (r : Run) (c : Call) (source : r.
   abbrev first : List ℕ → Step
   first store = fresh_step (open_state s.source s.type) lost 0 h.says store
 
-  admits : admit L s.source s.type o ≡ accepted h.says
+  admits : admit L s.source s.type o ≡ Ok h.says
   admits = sym (ap₂ (λ (a b : ℕ). admit L a b o) source type) ∙ h.accepts
 
   restarts : call_step s r c ≡ first lent

@@ -11,7 +11,7 @@ use lib.ListN.{take, set}
 use Rattle.wire_spec.specs.Bits.{to_bits, num, bits, bits_at, row_at}
 use Rattle.wire_spec.specs.Words.{header_word, checksum_word}
 use Rattle.wire_spec.specs.Layout.{rfc8331}
-use Rattle.wire_spec.specs.Result.{accepted, refuse}
+use Rattle.wire_spec.specs.Result.{Ok, refuse}
 use Rattle.wire_spec.specs.Anc.{Each, anc_size, anc_record, headers_ok, r_ok, words_ok, checksum_ok, alignment_ok, anc_checks, read_anc, read_run}
 use Rattle.wire_spec.specs.Packet.{packet_read, header_checks, padding_checks, payload_checks, read_records, read_packet, read_content}
 use Rattle.wire_spec.specs.Cells.{list_in, list_of}
@@ -59,8 +59,8 @@ stream =
     }
 
 -- each packet is admitted, and says what the stream says of it
-pub admits : (read_content rfc8331 frame7_octets ≡ accepted frame7) × (read_content rfc8331 frame8_octets ≡ accepted frame8)
-    × (read_content rfc8331 frame9_octets ≡ accepted (frame 9 4002 2)) × (read_content rfc8331 frame10_octets ≡ accepted frame10)
+pub admits : (read_content rfc8331 frame7_octets ≡ Ok frame7) × (read_content rfc8331 frame8_octets ≡ Ok frame8)
+    × (read_content rfc8331 frame9_octets ≡ Ok (frame 9 4002 2)) × (read_content rfc8331 frame10_octets ≡ Ok frame10)
 unfolding to_bits num bits bits_at row_at header_word checksum_word anc_size anc_record headers_ok r_ok words_ok checksum_ok alignment_ok anc_checks read_anc read_run packet_read header_checks padding_checks payload_checks read_records read_packet read_content
 admits = (refl, refl, refl, refl)
 
@@ -69,7 +69,7 @@ pub refuses : read_content rfc8331 (take 11 frame7_octets) ≡ refuse 2 0
 unfolding to_bits num bits bits_at header_checks read_packet read_content
 refuses = refl
 
-accepts : (i : ℕ) → i < 4 → read_content rfc8331 (nth stream i).part.octets ≡ accepted (content_at stream i (nth stream i))
+accepts : (i : ℕ) → i < 4 → read_content rfc8331 (nth stream i).part.octets ≡ Ok (content_at stream i (nth stream i))
 accepts zero h = admits.0
 accepts (suc zero) h = admits.1
 accepts (suc (suc zero)) h = admits.2

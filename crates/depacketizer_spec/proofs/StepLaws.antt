@@ -10,7 +10,7 @@ use native.Mathlib.Omega.{arith}
 use lib.Dec.{eqb}
 use lib.ListN.{length}
 use Rattle.wire_spec.specs.declared.refusal.Refusal.{Refusal}
-use Rattle.wire_spec.specs.Result.{Result, refused, accepted, refuse}
+use Rattle.wire_spec.specs.Result.{Result, Err, Ok, refuse}
 use Rattle.wire_spec.specs.Layout.{Layout}
 use Rattle.wire_spec.specs.Packet.{Content, read_content}
 use Rattle.depacketizer_spec.specs.declared.state.State.{State}
@@ -85,7 +85,7 @@ unchanged st store x = record { answer = answer.Refused x; state = st; store = s
 pub record Refuses (st : State) (store : List ℕ) (says : Result Content) (x : Refusal) (z : Step) : Type 0 where
   pub other : (x.number ≡ 32 → ⊥) → (x.number ≡ 36 → ⊥) → z ≡ unchanged st store x
   pub late : x.number ≡ 32 → z ≡ late_step st store
-  pub far : x.number ≡ 36 → (k : Content) × (says ≡ accepted k) × (z ≡ far_step st k.number store)
+  pub far : x.number ≡ 36 → (k : Content) × (says ≡ Ok k) × (z ≡ far_step st k.number store)
 
 -- not a number of `Refuses`' own cases
 abbrev Changeless : ℕ → Type 0
@@ -103,7 +103,7 @@ refused-by : (x y : Refusal) (z w : Step) → z ≡ w → w.answer ≡ answer.Re
 refused-by x y z w q a e = ap (λ (v : Refusal). v.number) (refusal-inj (sym a ∙ sym (ap (λ (v : Step). v.answer) q) ∙ e))
 
 unfresh-refuses : (st : State) (k : Content) (store : List ℕ) (x : Refusal) (z : Step) → Unfresh st k store z → z.answer ≡ answer.Refused x
-    → Refuses st store (accepted k) x z
+    → Refuses st store (Ok k) x z
 unfresh-refuses st k store x z (inl q) e =
     let n : 32 ≡ x.number = refused-by x _ z (late_step st store) q refl e in
     record { other = λ m o. absurd (m (sym n)); late = λ m. q; far = λ m. absurd (omega arith) }
@@ -117,8 +117,8 @@ changeless n h =
 
 admitted-refuses : (st : State) (r : Result Content) (store : List ℕ) (x : Refusal) → Numbered is_admission r
     → (admitted_step st r store).answer ≡ answer.Refused x → Refuses st store r x (admitted_step st r store)
-admitted-refuses st (refused y) store x h e = unchanged-refuses st store _ x y (changeless y.number h) e
-admitted-refuses st (accepted k) store x h e = unfresh-refuses st k store x _ (packet-refuses st.heard st k store x e) e
+admitted-refuses st (Err y) store x h e = unchanged-refuses st store _ x y (changeless y.number h) e
+admitted-refuses st (Ok k) store x h e = unfresh-refuses st k store x _ (packet-refuses st.heard st k store x e) e
 
 checked-refuses : (b : Bool) (st : State) (r : Result Content) (store : List ℕ) (x : Refusal) → Numbered is_admission r
     → (admitted_step st (cond b r (refuse 35 0)) store).answer ≡ answer.Refused x
@@ -140,10 +140,10 @@ refused-keeps st L octets store x e =
 -- what passes 35 is not refused by it
 pub admitted-not-35 : (st : State) (r : Result Content) (store : List ℕ) (x : Refusal) → Numbered is_admission r
     → (admitted_step st r store).answer ≡ answer.Refused x → x.number ≡ 35 → ⊥
-admitted-not-35 st (refused y) store x h e n =
+admitted-not-35 st (Err y) store x h e n =
     let p : y.number ≡ 35 = ap (λ (q : Refusal). q.number) (refusal-inj e) ∙ n in
     true≢false (sym (subst (λ (m : ℕ). is_admission m ≡ true) p h))
-admitted-not-35 st (accepted k) store x h e n = go (packet-refuses st.heard st k store x e)
+admitted-not-35 st (Ok k) store x h e n = go (packet-refuses st.heard st k store x e)
   where
     go : Unfresh st k store (packet_step st.heard st k store) → ⊥
     go (inl q) =
@@ -160,21 +160,21 @@ unfolding step
 sound-step st L octets store h = rw h
 
 -- what an admitted packet has passed
-pub passed : (st : State) (L : Layout) (room : ℕ) (s : List ℕ) (k : Content) → admission st L room s ≡ accepted k
-    → (sound st room ≡ true) × (read_content L s ≡ accepted k)
+pub passed : (st : State) (L : Layout) (room : ℕ) (s : List ℕ) (k : Content) → admission st L room s ≡ Ok k
+    → (sound st room ≡ true) × (read_content L s ≡ Ok k)
 passed st L room s k h =
     let p = judge-accepts 0 ((sound st room, 35) ∷ []) (admit L st.source st.payload_type s) k h in
     let a = then-accepts (read_content L s) _ k p.1 in
-    let b = judge-accepts 0 (opened_checks st.source st.payload_type a.0.source a.0.type) (accepted a.0) k a.2 in
+    let b = judge-accepts 0 (opened_checks st.source st.payload_type a.0.source a.0.type) (Ok a.0) k a.2 in
     (p.0.0, a.1 ∙ b.1)
 
 -- the step of what is refused, and of what is admitted
 module _ (st : State) (L : Layout) (s store : List ℕ) where
-  pub step-refused : (x : Refusal) → admission st L (length store) s ≡ refused x → step st L s store ≡ unchanged st store x
+  pub step-refused : (x : Refusal) → admission st L (length store) s ≡ Err x → step st L s store ≡ unchanged st store x
   unfolding step
   step-refused x h = ap (λ (r : Result Content). admitted_step st r store) h
 
-  pub step-admitted : (k : Content) → admission st L (length store) s ≡ accepted k → step st L s store ≡ packet_step st.heard st k store
+  pub step-admitted : (k : Content) → admission st L (length store) s ≡ Ok k → step st L s store ≡ packet_step st.heard st k store
   unfolding step
   step-admitted k h = ap (λ (r : Result Content). admitted_step st r store) h
 
@@ -182,25 +182,25 @@ module _ (st : State) (L : Layout) (s store : List ℕ) where
 -- or from one just opened. What holds of these four holds of every step.
 module _ (st : State) (L : Layout) (octets store : List ℕ) (P : Step → Type 0) (refuses : (x : Refusal) → P (unchanged st store x)) (lates : P (late_step st store))
     (fars : (number : ℕ) → P (far_step st number store))
-    (freshens : (from : State) (k : Content) → read_content L octets ≡ accepted k → sound st (length store) ≡ true → (found : Gathered) (missing : ℕ)
+    (freshens : (from : State) (k : Content) → read_content L octets ≡ Ok k → sound st (length store) ≡ true → (found : Gathered) (missing : ℕ)
     → P (fresh_step from found missing k store)) where
-  far-is : (b : Bool) (k : Content) → read_content L octets ≡ accepted k → sound st (length store) ≡ true → P (far_or_restart b st k store)
+  far-is : (b : Bool) (k : Content) → read_content L octets ≡ Ok k → sound st (length store) ≡ true → P (far_or_restart b st k store)
   far-is true k e h = freshens (open_state st.source st.payload_type) k e h lost 0
   far-is false k e h = fars k.number
 
-  class-is : (c : Class) (k : Content) → read_content L octets ≡ accepted k → sound st (length store) ≡ true → P (class_step c st k store)
+  class-is : (c : Class) (k : Content) → read_content L octets ≡ Ok k → sound st (length store) ≡ true → P (class_step c st k store)
   class-is late k e h = lates
   class-is next k e h = freshens st k e h (gathered st) 0
   class-is far k e h = far-is (is_remembered st k.number) k e h
   class-is (ahead n) k e h = freshens st k e h lost n
 
-  packet-is : (b : Bool) (k : Content) → read_content L octets ≡ accepted k → sound st (length store) ≡ true → P (packet_step b st k store)
+  packet-is : (b : Bool) (k : Content) → read_content L octets ≡ Ok k → sound st (length store) ≡ true → P (packet_step b st k store)
   packet-is false k e h = freshens st k e h lost 0
   packet-is true k e h = class-is (classify (distance st.last.0 k.number)) k e h
 
   admitted-is : (r : Result Content) → admission st L (length store) octets ≡ r → P (admitted_step st r store)
-  admitted-is (refused x) e = refuses x
-  admitted-is (accepted k) e = let p = passed st L (length store) octets k e in packet-is st.heard k p.1 p.0
+  admitted-is (Err x) e = refuses x
+  admitted-is (Ok k) e = let p = passed st L (length store) octets k e in packet-is st.heard k p.1 p.0
 
   pub step_is : P (step st L octets store)
   unfolding step

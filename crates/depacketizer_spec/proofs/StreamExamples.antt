@@ -8,7 +8,7 @@ use native.Mathlib.Omega.{arith}
 use Rattle.wire_spec.specs.Bits.{to_bits, num, bits, bits_at, row_at}
 use Rattle.wire_spec.specs.Words.{header_word, checksum_word}
 use Rattle.wire_spec.specs.Layout.{rfc8331}
-use Rattle.wire_spec.specs.Result.{accepted}
+use Rattle.wire_spec.specs.Result.{Ok}
 use Rattle.wire_spec.specs.Anc.{Each, anc_size, anc_record, headers_ok, r_ok, words_ok, checksum_ok, alignment_ok, anc_checks, read_anc, read_run}
 use Rattle.wire_spec.specs.Packet.{packet_read, header_checks, padding_checks, payload_checks, read_records, read_packet, read_content}
 use Rattle.wire_spec.specs.Cells.{list_of}
@@ -58,7 +58,7 @@ stream =
           ∷ [];
     }
 
-accepts : (i : ℕ) → i < 7 → read_content rfc8331 (nth stream i).part.octets ≡ accepted (content_at stream i (nth stream i))
+accepts : (i : ℕ) → i < 7 → read_content rfc8331 (nth stream i).part.octets ≡ Ok (content_at stream i (nth stream i))
 unfolding to_bits num bits bits_at row_at header_word checksum_word anc_size anc_record headers_ok r_ok words_ok checksum_ok alignment_ok anc_checks read_anc read_run packet_read header_checks padding_checks payload_checks read_records read_packet read_content
 accepts zero h = refl
 accepts (suc zero) h = refl

@@ -14,7 +14,7 @@ use borrow.Author.Tests.{leb-true, leb-false, eqb-true, eqb-false, le-leb, lt-le
 use Rattle.wire_spec.specs.declared.refusal.Refusal.{Refusal}
 use Rattle.wire_spec.specs.Bits.{splice}
 use Rattle.wire_spec.specs.Layout.{Layout}
-use Rattle.wire_spec.specs.Result.{Result, refused, accepted}
+use Rattle.wire_spec.specs.Result.{Result, Err, Ok}
 use Rattle.wire_spec.specs.Cells.{list_in, list_of}
 use Rattle.wire_spec.specs.Packet.{Content, read_content}
 use Rattle.wire_spec.proofs.ResultLaws.{Numbered, and-true, and_both}
@@ -343,13 +343,13 @@ module _ (st : State) (L : Layout) (octets store : List ℕ) where
   step-35 : Named35 st room → x ≡ unchanged st store (no 35)
   step-35 n = step-refused st L octets store (no 35) (rw (named-unsound st room n))
 
-  step-unread : (Named35 st room → ⊥) → (r : Refusal) → read_content L octets ≡ refused r → x ≡ unchanged st store r
+  step-unread : (Named35 st room → ⊥) → (r : Refusal) → read_content L octets ≡ Err r → x ≡ unchanged st store r
   step-unread f r e = step-refused st L octets store r (rw (sound-passes st room f, e))
 
-  step-30 : (Named35 st room → ⊥) → (k : Content) → read_content L octets ≡ accepted k → (k.source ≡ st.source → ⊥) → x ≡ unchanged st store (no 30)
+  step-30 : (Named35 st room → ⊥) → (k : Content) → read_content L octets ≡ Ok k → (k.source ≡ st.source → ⊥) → x ≡ unchanged st store (no 30)
   step-30 f k e s = step-refused st L octets store (no 30) (rw (sound-passes st room f, e, ne_eqb k.source st.source s))
 
-  step-31 : (Named35 st room → ⊥) → (k : Content) → read_content L octets ≡ accepted k → k.source ≡ st.source → (k.type ≡ st.payload_type → ⊥)
+  step-31 : (Named35 st room → ⊥) → (k : Content) → read_content L octets ≡ Ok k → k.source ≡ st.source → (k.type ≡ st.payload_type → ⊥)
       → x ≡ unchanged st store (no 31)
   step-31 f k e s t =
       step-refused st L octets store (no 31)
@@ -466,7 +466,7 @@ told st L octets store small = go (sound st (length store)) refl
         (table.first k own e (counts-on st k store 0 (cond (marked k) ready lost)) (drops st k store 0 answer.Skipped))
     own-told k own true e = place-told k own e (placed st.last.0 k.number small)
 
-    type-told : (Named35 st (length store) → ⊥) → (k : Content) → read_content L octets ≡ accepted k → k.source ≡ st.source
+    type-told : (Named35 st (length store) → ⊥) → (k : Content) → read_content L octets ≡ Ok k → k.source ≡ st.source
         → (b : Bool) → eqb k.type st.payload_type ≡ b → Told st L octets store (step st L octets store)
     type-told f k e s false t =
         let q = eqb-false k.type st.payload_type t in
@@ -474,7 +474,7 @@ told st L octets store small = go (sound st (length store)) refl
     type-told f k e s true t =
         own-told k (record { passes = f; reads = e; source = s; type = eqb-true k.type st.payload_type t }) st.heard refl
 
-    source_told : (Named35 st (length store) → ⊥) → (k : Content) → read_content L octets ≡ accepted k → (b : Bool) → eqb k.source st.source ≡ b
+    source_told : (Named35 st (length store) → ⊥) → (k : Content) → read_content L octets ≡ Ok k → (b : Bool) → eqb k.source st.source ≡ b
         → Told st L octets store (step st L octets store)
     source_told f k e false s =
         let q = eqb-false k.source st.source s in
@@ -482,8 +482,8 @@ told st L octets store small = go (sound st (length store)) refl
     source_told f k e true s = type-told f k e (eqb-true k.source st.source s) (eqb k.type st.payload_type) refl
 
     read_told : (Named35 st (length store) → ⊥) → (r : Result Content) → read_content L octets ≡ r → Told st L octets store (step st L octets store)
-    read_told f (refused r) e = table.unread f r e (step-unread st L octets store f r e)
-    read_told f (accepted k) e = source_told f k e (eqb k.source st.source) refl
+    read_told f (Err r) e = table.unread f r e (step-unread st L octets store f r e)
+    read_told f (Ok k) e = source_told f k e (eqb k.source st.source) refl
 
     go : (b : Bool) → sound st (length store) ≡ b → Told st L octets store (step st L octets store)
     go false e = let n = unsound-named st (length store) e in table.unsound n (step-35 st L octets store n)
@@ -565,7 +565,7 @@ module _ {st : State} {L : Layout} {octets store : List ℕ} {x : Step} where
   only-read (table.ahead k o h d l m p c w) z = other 0 1 refl z
   only-read (table.restarts k o h p m c d) z = other 0 1 refl z
 
-  only-30 : (t : Told st L octets store x) → code t ≡ 30 → (Named35 st (length store) → ⊥) × (k : Content) × (read_content L octets ≡ accepted k) × (k.source ≡ st.source → ⊥)
+  only-30 : (t : Told st L octets store x) → code t ≡ 30 → (Named35 st (length store) → ⊥) × (k : Content) × (read_content L octets ≡ Ok k) × (k.source ≡ st.source → ⊥)
   only-30 (table.unsound n e) z = other 35 30 refl z
   only-30 (table.unread g r e q) z = other 1 30 refl z
   only-30 (table.other_source g k e s q) z = (g, k, e, s)
@@ -577,7 +577,7 @@ module _ {st : State} {L : Layout} {octets store : List ℕ} {x : Step} where
   only-30 (table.ahead k o h d l m p c w) z = other 0 30 refl z
   only-30 (table.restarts k o h p m c d) z = other 0 30 refl z
 
-  only-31 : (t : Told st L octets store x) → code t ≡ 31 → (Named35 st (length store) → ⊥) × (k : Content) × (read_content L octets ≡ accepted k) × (k.source ≡ st.source) × (k.type ≡ st.payload_type → ⊥)
+  only-31 : (t : Told st L octets store x) → code t ≡ 31 → (Named35 st (length store) → ⊥) × (k : Content) × (read_content L octets ≡ Ok k) × (k.source ≡ st.source) × (k.type ≡ st.payload_type → ⊥)
   only-31 (table.unsound n e) z = other 35 31 refl z
   only-31 (table.unread g r e q) z = other 1 31 refl z
   only-31 (table.other_source g k e s q) z = other 30 31 refl z
@@ -788,7 +788,7 @@ opens source type =
       );
     }
   where
-    over : (b : Bool) → leb type 127 ≡ b → cond b (accepted (open_state source type)) (refused (no 24)) ≡ refused (no 24) → 127 < type
+    over : (b : Bool) → leb type 127 ≡ b → cond b (Ok (open_state source type)) (Err (no 24)) ≡ Err (no 24) → 127 < type
     over true e h = let o : ◌≡◌ {A = ℕ} 0 1 = cc in absurd (omega arith)
     over false e h = leb-false type 127 e
 

@@ -1,6 +1,6 @@
 -- The same fields, however they were cut into packets (02, K8).
 use Rattle.std.specs.Prelude.{◌≡◌, List, [], ◌∷◌, ◌++◌, ℕ, zero, suc, ◌+◌, ◌-◌, ◌^◌, ◌%◌, length}
-use Rattle.wire_spec.specs.Result.{accepted}
+use Rattle.wire_spec.specs.Result.{Ok}
 use Rattle.wire_spec.specs.Anc.{Record, Each}
 use Rattle.wire_spec.specs.Cells.{Lists}
 use Rattle.wire_spec.specs.Packet.{Content, read_content}
@@ -22,7 +22,7 @@ SameFields (x ∷ xs) (y ∷ ys) =
 -- "one accepted marked packet of the opened source and type, numbered just before it"
 pub record Leads (s : Stream) (octets : List ℕ) : Type 0 where
   pub says : Content
-  pub accepts : read_content s.layout octets ≡ accepted says
+  pub accepts : read_content s.layout octets ≡ Ok says
   pub source : says.source ≡ s.source
   pub type : says.type ≡ s.type
   pub marked : says.marker ≡ 1

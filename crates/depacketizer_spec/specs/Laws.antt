@@ -3,7 +3,7 @@ use Rattle.std.specs.Prelude.{◌≡◌, Bool, true, false, List, ℕ, ◌+◌, 
 use Rattle.wire_spec.specs.declared.refusal.Refusal.{Refusal}
 use Rattle.wire_spec.specs.Layout.{Layout}
 use Rattle.wire_spec.specs.Cells.{all_below}
-use Rattle.wire_spec.specs.Result.{accepted}
+use Rattle.wire_spec.specs.Result.{Ok}
 use Rattle.wire_spec.specs.Packet.{Content, read_content}
 use Rattle.wire_spec.specs.Writing.{max_field_packets}
 use Rattle.depacketizer_spec.specs.declared.state.State.{State}
@@ -25,7 +25,7 @@ pub record PhaseAfter (k : Content) (x : Step) : Type 0 where
 -- "Any fresh arrival clears the memory" (02, K11); a far one is refused by 36, "and the number after it is remembered"; no other arrival changes it.
 pub record MemoryAfter (st : State) (L : Layout) (octets : List ℕ) (x : Step) : Type 0 where
   pub fresh : IsFresh x.answer → x.state.remembers ≡ false
-  pub far : (r : Refusal) → x.answer ≡ answer.Refused r → r.number ≡ 36 → (k : Content) → read_content L octets ≡ accepted k
+  pub far : (r : Refusal) → x.answer ≡ answer.Refused r → r.number ≡ 36 → (k : Content) → read_content L octets ≡ Ok k
       → (x.state.remembers ≡ true) × (x.state.remembered.0 ≡ (k.number + 1) % 2 ^ 32)
   pub other : (r : Refusal) → x.answer ≡ answer.Refused r → (r.number ≡ 36 → ⊥)
       → (x.state.remembers ≡ st.remembers) × (x.state.remembered ≡ st.remembered)

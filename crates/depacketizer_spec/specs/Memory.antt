@@ -2,7 +2,7 @@
 use Rattle.std.specs.Prelude.{◌≡◌, List, [], ◌∷◌, ◌⊎◌, ℕ, ◌+◌, ◌^◌, ◌%◌}
 use Rattle.wire_spec.specs.declared.refusal.Refusal.{Refusal}
 use Rattle.wire_spec.specs.Layout.{Layout}
-use Rattle.wire_spec.specs.Result.{accepted}
+use Rattle.wire_spec.specs.Result.{Ok}
 use Rattle.wire_spec.specs.Packet.{Content, read_content}
 use Rattle.depacketizer_spec.specs.declared.state.State.{State}
 use Rattle.depacketizer_spec.specs.declared.state.Answer.TheVariants as answer
@@ -30,7 +30,7 @@ abbrev pub Waits : (source type : ℕ) → List Given → ℕ → Type 0
 Waits s t [] n = ⊥
 Waits s t (c ∷ cs) n =
     (r : Refusal) × ((step_of (state_after s t cs) c).answer ≡ answer.Refused r)
-    × (((r.number ≡ 36) × (k : Content) × (read_content c.layout c.octets ≡ accepted k) × (n ≡ (k.number + 1) % 2 ^ 32))
+    × (((r.number ≡ 36) × (k : Content) × (read_content c.layout c.octets ≡ Ok k) × (n ≡ (k.number + 1) % 2 ^ 32))
     ⊎ ((r.number ≡ 36 → ⊥) × Waits s t cs n))
 
 -- "If a far arrival has the remembered number, the keeper restarts: counts return to zero, and it is treated as a first arrival." Any other is refused.

@@ -2,7 +2,7 @@
 use Rattle.std.specs.Prelude.{Bool, true, false, cond, ◌&&◌, ◌||◌, List, [], ◌∷◌, ℕ, zero, suc, ◌+◌, ◌-◌, ◌^◌, ◌%◌, min, eqb, leb, ltb, ℤ, pos, negsuc, length}
 use Rattle.wire_spec.specs.Bits.{splice}
 use Rattle.wire_spec.specs.Layout.{Layout}
-use Rattle.wire_spec.specs.Result.{Result, refused, accepted, Checks, judge, ◌then◌}
+use Rattle.wire_spec.specs.Result.{Result, Err, Ok, Checks, judge, ◌then◌}
 use Rattle.wire_spec.specs.Cells.{list_in, list_of}
 use Rattle.wire_spec.specs.Packet.{Content, read_content}
 use Rattle.wire_spec.specs.Writing.{max_field_records, max_field_cells, max_field_packets, max_type}
@@ -335,12 +335,12 @@ opened_checks source type said_source said_type = (eqb said_source source, 30) �
 -- "1 to 13, then 30, 31": what the octets say, or the refusal
 abbrev pub admit : Layout → (source type : ℕ) → List ℕ → Result Content
 admit L source type octets =
-    read_content L octets then λ k. judge 0 (opened_checks source type k.source k.type) (accepted k)
+    read_content L octets then λ k. judge 0 (opened_checks source type k.source k.type) (Ok k)
 
 -- the step of an arrival that is refused, or admitted
 abbrev pub admitted_step : State → Result Content → List ℕ → Step
-admitted_step st (refused x) store = record { answer = answer.Refused x; state = st; store = store }
-admitted_step st (accepted k) store = packet_step st.heard st k store
+admitted_step st (Err x) store = record { answer = answer.Refused x; state = st; store = store }
+admitted_step st (Ok k) store = packet_step st.heard st k store
 
 -- a field is gathered
 abbrev pub is_filling : Phase → Bool
@@ -379,4 +379,4 @@ step st L octets store = admitted_step st (admission st L (length store) octets)
 
 -- "Opened with source and payload type (24 if over 127)."
 abbrev pub open_of : (source type : ℕ) → Result State
-open_of source type = judge 0 ((leb type max_type, 24) ∷ []) (accepted (open_state source type))
+open_of source type = judge 0 ((leb type max_type, 24) ∷ []) (Ok (open_state source type))

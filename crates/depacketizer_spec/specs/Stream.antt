@@ -2,7 +2,7 @@
 use Rattle.std.specs.Prelude.{◌≡◌, Bool, true, false, cond, ◌&&◌, ◌||◌, List, [], ◌∷◌, ◌++◌, ◌⊎◌, ℕ, zero, suc, ◌+◌, ◌-◌, ◌^◌, ◌%◌, ◌≤◌, ◌<◌, min, eqb, length, take, get_or}
 use Rattle.wire_spec.specs.declared.refusal.Refusal.{Refusal}
 use Rattle.wire_spec.specs.Layout.{Layout}
-use Rattle.wire_spec.specs.Result.{refused, accepted}
+use Rattle.wire_spec.specs.Result.{Err, Ok}
 use Rattle.wire_spec.specs.Anc.{Record, Each}
 use Rattle.wire_spec.specs.Cells.{list_in, all_below}
 use Rattle.wire_spec.specs.Packet.{Content, read_content}
@@ -108,7 +108,7 @@ Within x =
 pub record WellFormedStream (s : Stream) : Type 0 where
   pub few : length (sent s.fields) ≤ 2 ^ 31
   pub within : Each Within s.fields
-  pub accepts : (i : ℕ) → i < length (sent s.fields) → read_content s.layout (nth s i).part.octets ≡ accepted (content_at s i (nth s i))
+  pub accepts : (i : ℕ) → i < length (sent s.fields) → read_content s.layout (nth s i).part.octets ≡ Ok (content_at s i (nth s i))
 
 -- An arrival: packet `i` of the stream, or other octets, told any layout.
 pub data Arriving : Type 0 where
@@ -118,8 +118,8 @@ pub data Arriving : Type 0 where
 -- octets that the reader refuses, or that say another source or type
 abbrev pub Foreign : (source type : ℕ) → Layout → List ℕ → Type 0
 Foreign source type L o =
-    ((x : Refusal) × (read_content L o ≡ refused x))
-    ⊎ ((k : Content) × (read_content L o ≡ accepted k) × ((k.source ≡ source → ⊥) ⊎ (k.type ≡ type → ⊥)))
+    ((x : Refusal) × (read_content L o ≡ Err x))
+    ⊎ ((k : Content) × (read_content L o ≡ Ok k) × ((k.source ≡ source → ⊥) ⊎ (k.type ≡ type → ⊥)))
 
 -- "the other octets among it are refused by 1 to 13, 30 or 31", and 15 and 16, "counted with 1 to 13" (02, K3 and K5)
 abbrev pub OfStream : Stream → Arriving → Type 0
@@ -316,7 +316,7 @@ pub record Restarts (st : State) (L : Layout) (octets store : List ℕ) : Type 0
   pub passes : sound st (length store) ≡ true
   pub heard : st.heard ≡ true
   pub says : Content
-  pub accepts : admit L st.source st.payload_type octets ≡ accepted says
+  pub accepts : admit L st.source st.payload_type octets ≡ Ok says
   pub is_far : classify (distance st.last.0 says.number) ≡ far
   pub remembered : is_remembered st says.number ≡ true
 

@@ -3,7 +3,7 @@
 use Rattle.std.specs.Prelude.{◌≡◌, true, false, List, ◌++◌, ◌↔◌, ℕ, ◌+◌, ◌-◌, ◌^◌, ◌%◌, ◌≤◌, ◌<◌, min, length, take, drop}
 use Rattle.wire_spec.specs.declared.refusal.Refusal.{Refusal}
 use Rattle.wire_spec.specs.Layout.{Layout}
-use Rattle.wire_spec.specs.Result.{Result, refused, accepted}
+use Rattle.wire_spec.specs.Result.{Result, Err, Ok}
 use Rattle.wire_spec.specs.Cells.{list_in, list_of}
 use Rattle.wire_spec.specs.Packet.{Content, read_content}
 use Rattle.depacketizer_spec.specs.declared.state.State.{State}
@@ -27,7 +27,7 @@ pub data Named35 (st : State) (room : ℕ) : Type 0 where
 -- an arrival that says `k`, of the opened source and type
 pub record Own (st : State) (L : Layout) (octets store : List ℕ) (k : Content) : Type 0 where
   pub passes : Named35 st (length store) → ⊥
-  pub reads : read_content L octets ≡ accepted k
+  pub reads : read_content L octets ≡ Ok k
   pub source : k.source ≡ st.source
   pub type : k.type ≡ st.payload_type
 
@@ -171,10 +171,10 @@ pub data Follows (st : State) (k : Content) (store : List ℕ) (x : Step) : Type
 -- "An arrival passes 35, then 1 to 13, then 30, 31, 32", or 36. One of these is so, and no two can be.
 pub data Told (st : State) (L : Layout) (octets store : List ℕ) (x : Step) : Type 0 where
   unsound : Named35 st (length store) → Kept st store (no 35) x → Told st L octets store x
-  unread : (Named35 st (length store) → ⊥) → (r : Refusal) → read_content L octets ≡ refused r → Kept st store r x → Told st L octets store x
-  other_source : (Named35 st (length store) → ⊥) → (k : Content) → read_content L octets ≡ accepted k → (k.source ≡ st.source → ⊥)
+  unread : (Named35 st (length store) → ⊥) → (r : Refusal) → read_content L octets ≡ Err r → Kept st store r x → Told st L octets store x
+  other_source : (Named35 st (length store) → ⊥) → (k : Content) → read_content L octets ≡ Ok k → (k.source ≡ st.source → ⊥)
       → Kept st store (no 30) x → Told st L octets store x
-  other_type : (Named35 st (length store) → ⊥) → (k : Content) → read_content L octets ≡ accepted k → k.source ≡ st.source
+  other_type : (Named35 st (length store) → ⊥) → (k : Content) → read_content L octets ≡ Ok k → k.source ≡ st.source
       → (k.type ≡ st.payload_type → ⊥) → Kept st store (no 31) x → Told st L octets store x
   late : (k : Content) → Own st L octets store k → st.heard ≡ true → IsLate st.last.0 k.number → Lates st store x → Told st L octets store x
   far : (k : Content) → Own st L octets store k → st.heard ≡ true → IsFar st.last.0 k.number → (Remembers st k.number → ⊥)
@@ -236,11 +236,11 @@ Answered st L octets store (answer.Refused x) = ⊥
 -- EACH REFUSAL EXACTLY WHEN, what is fresh, and each other answer exactly when. The reader's refusals give way to 35 alone.
 pub record Exactly (st : State) (L : Layout) (octets store : List ℕ) (x : Step) : Type 0 where
   pub by35 : (x.answer ≡ answer.Refused (no 35)) ↔ Named35 st (length store)
-  pub by_reader : (r : Refusal) → read_content L octets ≡ refused r → (x.answer ≡ answer.Refused r) ↔ (Named35 st (length store) → ⊥)
+  pub by_reader : (r : Refusal) → read_content L octets ≡ Err r → (x.answer ≡ answer.Refused r) ↔ (Named35 st (length store) → ⊥)
   pub by30 : (x.answer ≡ answer.Refused (no 30))
-      ↔ ((Named35 st (length store) → ⊥) × (k : Content) × (read_content L octets ≡ accepted k) × (k.source ≡ st.source → ⊥))
+      ↔ ((Named35 st (length store) → ⊥) × (k : Content) × (read_content L octets ≡ Ok k) × (k.source ≡ st.source → ⊥))
   pub by31 : (x.answer ≡ answer.Refused (no 31))
-      ↔ ((Named35 st (length store) → ⊥) × (k : Content) × (read_content L octets ≡ accepted k) × (k.source ≡ st.source) × (k.type ≡ st.payload_type → ⊥))
+      ↔ ((Named35 st (length store) → ⊥) × (k : Content) × (read_content L octets ≡ Ok k) × (k.source ≡ st.source) × (k.type ≡ st.payload_type → ⊥))
   pub by32 : (x.answer ≡ answer.Refused (no 32))
       ↔ ((k : Content) × Own st L octets store k × (st.heard ≡ true) × IsLate st.last.0 k.number)
   pub by36 : (x.answer ≡ answer.Refused (no 36))
@@ -250,6 +250,6 @@ pub record Exactly (st : State) (L : Layout) (octets store : List ℕ) (x : Step
 
 -- "Opened with source and payload type (24 if over 127)." "A keeper just opened is lost, has no last fresh number, and its counts are 0."
 pub record Opens (s t : ℕ) (r : Result State) : Type 0 where
-  pub refuses : (r ≡ refused (no 24)) ↔ (127 < t)
-  pub opens : t ≤ 127 → (st : State) × (r ≡ accepted st) × (st.source ≡ s) × (st.payload_type ≡ t) × (st.phase ≡ phase.Lost) × (st.heard ≡ false) × (st.last.0 ≡ 0)
+  pub refuses : (r ≡ Err (no 24)) ↔ (127 < t)
+  pub opens : t ≤ 127 → (st : State) × (r ≡ Ok st) × (st.source ≡ s) × (st.payload_type ≡ t) × (st.phase ≡ phase.Lost) × (st.heard ≡ false) × (st.last.0 ≡ 0)
       × (st.remembers ≡ false) × (st.remembered.0 ≡ 0) × (st.fresh ≡ 0) × (st.late ≡ 0) × (st.missing ≡ 0) × Empty st

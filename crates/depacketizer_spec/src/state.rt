@@ -44,6 +44,7 @@ pub struct Field {
     pub packets: usize,
 }
 
+// Kept whole: a refusal is one of the six answers to an arrival, which C's row and `Table.told-iff` number together.
 #[derive(Clone, Copy)]
 pub enum Answer {
     Skipped,

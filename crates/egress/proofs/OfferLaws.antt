@@ -1,18 +1,17 @@
 -- What an offer comes to, by the checks in their order.
 use mathlib.Core.Path.{◌≡◌, refl, sym, ◌∙◌, ap}
-use mathlib.Core.Bool.{Bool, true, false, not, ◌&&◌}
+use mathlib.Core.Bool.{true, false, not, ◌&&◌}
 use mathlib.Core.List.{List, ◌++◌}
 use Prim.Native.Nat.{ℕ, ◌-◌, ◌*◌, ◌≤◌, ◌<◌}
 use native.Mathlib.Omega.{arith}
-use lib.Dec.{eqb, leb, ltb}
+use lib.Dec.{eqb, leb}
 use lib.ListN.{length, get_or, take, drop}
 use borrow.Author.Tests.{eqb-true, leb-true, le-leb, lt-leb, le-ltb, lt-ltb, not-true, not-false}
 use Rattle.wire_spec.specs.Bits.{overwrite, splice}
-use Rattle.wire_spec.specs.Result.{Result, refused, accepted, refuse}
+use Rattle.wire_spec.specs.Result.{Ok, refuse}
 use Rattle.wire_spec.proofs.ListLaws.{part-written}
 use Rattle.egress_spec.specs.declared.state.State.{State}
 use Rattle.egress_spec.specs.declared.state.Offered.{Offered}
-use Rattle.egress_spec.specs.declared.state.OfferAnswer.TheVariants as offer_answer
 use Rattle.egress_spec.specs.Places.{used_below, sound}
 use Rattle.egress_spec.specs.Step.{admits, seek, free_slot, kept_state, offer_of, offered_of, memory_after}
 use Rattle.egress_spec.proofs.Upto.{and_left, and_right}
@@ -87,10 +86,10 @@ passed st c size n slot s o h k f g e =
 -- the packet stands in its slot, and nothing else of the memory has changed
 pub copied-whole : (st : State) (c slot : ℕ) (p m part : List ℕ) (n : State) → Passed st c (length p) (length m) slot
     → n ≡ kept_state st c slot (length p) → part ≡ overwrite p (take (length m - 1024 * slot) (drop (1024 * slot) m))
-    → Meets st c p m (record { state = n; answer = offer_answer.Copied }) (take (1024 * slot) m ++ (part ++ drop (length m - 1024 * slot) (drop (1024 * slot) m)))
+    → Meets st c p m (record { state = n; answer = Ok tt }) (take (1024 * slot) m ++ (part ++ drop (length m - 1024 * slot) (drop (1024 * slot) m)))
 copied-whole st c slot p m part n a i q =
     let h = a.channel in
     rw (a.admitted, le-leb c 7 (omega arith), a.fits, lt-ltb (get_or st.counts c 0) 8 a.count) (
-      ap (λ (z : State). record { state = z; answer = offer_answer.Copied }) (i ∙ ap (λ (s : ℕ). kept_state st c s (length p)) a.slot),
+      ap (λ (z : State). record { state = z; answer = Ok tt }) (i ∙ ap (λ (s : ℕ). kept_state st c s (length p)) a.slot),
       part-written (1024 * slot) m p part q ∙ ap (λ (s : ℕ). splice m (1024 * s) p) a.slot,
     )

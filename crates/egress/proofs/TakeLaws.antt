@@ -1,19 +1,18 @@
 -- What a take comes to, by the checks in their order.
-use mathlib.Core.Path.{◌≡◌, refl, sym, ◌∙◌, ap}
+use mathlib.Core.Path.{◌≡◌, refl, ◌∙◌, ap}
 use mathlib.Core.Bool.{Bool, true, false, cond}
 use mathlib.Core.List.{List}
-use Prim.Native.Nat.{ℕ, zero, suc, ◌+◌, ◌-◌, ◌*◌, ◌≤◌, ◌<◌}
+use Prim.Native.Nat.{ℕ, zero, suc, ◌+◌, ◌-◌, ◌≤◌, ◌<◌}
 use native.Mathlib.Omega.{arith}
-use lib.Dec.{leb, ltb}
+use lib.Dec.{ltb}
 use lib.ListN.{length, get_or, take, drop}
 use borrow.Author.Tests.{le-leb, lt-leb, ltb-true}
 use Rattle.wire_spec.specs.Bits.{overwrite}
-use Rattle.wire_spec.specs.Result.{refuse, accepted}
+use Rattle.wire_spec.specs.Result.{refuse, Ok}
 use Rattle.egress_spec.specs.declared.state.State.{State}
 use Rattle.egress_spec.specs.declared.state.Taken.{Taken}
-use Rattle.egress_spec.specs.declared.state.TakeAnswer.TheVariants as take_answer
 use Rattle.egress_spec.specs.Queues.{behind}
-use Rattle.egress_spec.specs.Step.{admits, turn_of, turn_for, head_place, head_length, left_state, take_of, taken_of, out_after}
+use Rattle.egress_spec.specs.Step.{admits, turn_of, turn_for, head_length, left_state, take_of, taken_of, out_after}
 use Rattle.egress_spec.proofs.PlaceLaws.{numbers, head-fits, next_fits, head-ready}
 use Rattle.egress_state.specs.declared.place.Stored.{Stored}
 use Rattle.egress_state.specs.Survey.{Heads, head_of}
@@ -63,7 +62,7 @@ same_size a b = omega arith
 -- the head is handed out, and nothing else of what was lent has changed
 pub handed-whole : (st : State) (m out after : List ℕ) (c : ℕ) (h : Stored) (n : State) → admits st (length m) ≡ true → c ≡ turn_for st → c < 8 → h ≡ head_of st c
     → h.octets ≤ length out → n ≡ left_state st c → after ≡ overwrite (take (h.from + h.octets - h.from) (drop h.from m)) out
-    → Meets st m out (record { state = n; answer = take_answer.HandedOut c (record { 0 = h.octets }) }) after
+    → Meets st m out (record { state = n; answer = Ok (record { channel = c; octets = record { 0 = h.octets } }) }) after
 handed-whole st m out after c h n a e l f g i q =
     let size : h.octets ≡ head_length st c = ap (λ (x : Stored). x.octets) f in
     rw (a, ← e, le-leb c 7 (omega arith), le-leb (head_length st c) (length out) (rw size at g))

@@ -7,13 +7,11 @@ ghost use Rattle.wire_spec.specs.Result.{refuse};
 ghost use Rattle.egress_spec.specs.Places.{open_state};
 ghost use Rattle.egress_spec.specs.Step.{offer_of, offered_of, memory_after, take_of, taken_of, out_after};
 
-use egress_spec::state::{
-    CHANNELS, HELD, OfferAnswer, Offered, SLOT, SLOTS, State, TakeAnswer, Taken,
-};
+use egress_spec::state::{CHANNELS, HELD, HandedOut, Offered, SLOT, SLOTS, State, Taken};
 use egress_state::place::{head, kept, left, offer_fits, turn};
 use egress_state::survey::{free_slot, survey};
 use wire_spec::count::OctetCount;
-use wire_spec::refusal::Refusal;
+use wire_spec::refusal::{Refusal, refuse};
 use wire_words::octet::copy;
 
 // An outlet that holds nothing. What the memory holds does not matter.
@@ -34,7 +32,7 @@ fn refuse_offer(state: State, number: u8) -> Offered
 {
     Offered {
         state,
-        answer: OfferAnswer::Refused(Refusal { number, index: 0 }),
+        answer: refuse(number),
     }
 }
 
@@ -64,7 +62,7 @@ pub fn offer(state: State, channel: u8, packet: &[u8], memory: &mut [u8]) -> Off
     copy(packet, &mut memory[from..]);
     Offered {
         state: kept(state, c, slot as u8, length as u16),
-        answer: OfferAnswer::Copied,
+        answer: Ok(()),
     }
 }
 
@@ -73,7 +71,7 @@ fn refuse_take(state: State, number: u8) -> Taken
 {
     Taken {
         state,
-        answer: TakeAnswer::Refused(Refusal { number, index: 0 }),
+        answer: refuse(number),
     }
 }
 
@@ -102,9 +100,9 @@ pub fn take(state: State, memory: &[u8], out: &mut [u8]) -> Taken
     copy(&memory[from..end], out);
     Taken {
         state: next,
-        answer: TakeAnswer::HandedOut {
+        answer: Ok(HandedOut {
             channel: c as u8,
             octets: OctetCount(length),
-        },
+        }),
     }
 }

@@ -1,17 +1,17 @@
 -- 02, K10 computed: calls from an outlet just opened, states that 64 refuses, and the theorems' premises met.
 use mathlib.Core.Path.{◌≡◌, refl, sym, ◌∙◌, ap, subst}
 use mathlib.Core.Bool.{true, false}
-use mathlib.Core.List.{List, [], ◌∷◌, ◌++◌}
-use Prim.Native.Nat.{ℕ, zero, suc, ◌+◌, ◌≤◌, ◌<◌}
+use mathlib.Core.List.{List, [], ◌∷◌}
+use Prim.Native.Nat.{ℕ, ◌≤◌}
 use native.Mathlib.Omega.{arith}
 use lib.ListN.{length, replicate, set}
-use Rattle.wire_spec.specs.Result.{Result, refused, accepted, refuse}
+use Rattle.wire_spec.specs.Result.{Ok, refuse}
 use Rattle.egress_spec.specs.declared.state.State.{State}
 use Rattle.egress_spec.specs.Queues.{Call, offering, taking, Answer, copied, handed, no, memory_size, opened, answers, after}
 use Rattle.egress_spec.specs.Places.{open_state, used_below, all_upto, sound}
 use Rattle.egress_spec.specs.Step.{seek, free_slot, turn_of, offer_of, take_of}
 use Rattle.egress_spec.specs.Calls.{answers_of, answers_behind}
-use Rattle.egress_spec.specs.Laws.{Handed, handed_out, Within, waiting, own, holds, offered, left}
+use Rattle.egress_spec.specs.Laws.{handed_out, Within, waiting, own, offered}
 use Rattle.egress_spec.proofs.Simulation.{answers-as-queues}
 use Rattle.egress_spec.proofs.RunLaws.{waits, behind-is}
 use Rattle.egress_spec.proofs.OutletLaws.{fair, taken-while-waiting, in-time, alike}
@@ -119,7 +119,7 @@ unsound-states = (refl, refl, refl, refl, refl, refl, refl, refl, refl, refl)
 -- 64 comes first, and before it nothing; the memory's size is 65,536 exactly
 pub order-64 : (offer_of (state 7 1 63 5 0) 8 0 65536 ≡ refuse 64 0) × (offer_of (state 7 1 9 5 0) 8 0 65535 ≡ refuse 64 0)
     × (offer_of (state 7 1 9 5 0) 8 0 65536 ≡ refuse 60 0) × (take_of open_state 65537 0 ≡ refuse 64 0) × (take_of open_state 65536 0 ≡ refuse 63 0)
-    × (take_of (state 7 1 9 5 0) 65536 4 ≡ refuse 23 0) × (take_of (state 7 1 9 5 0) 65536 5 ≡ accepted 0)
+    × (take_of (state 7 1 9 5 0) 65536 4 ≡ refuse 23 0) × (take_of (state 7 1 9 5 0) 65536 5 ≡ Ok 0)
 unfolding all_upto used_below turn_of
 order-64 = (refl, refl, refl, refl, refl, refl, refl)
 

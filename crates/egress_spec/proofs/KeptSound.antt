@@ -1,17 +1,15 @@
 -- An offer keeps the state sound.
-use mathlib.Core.Path.{◌≡◌, refl, sym, ◌∙◌, ap}
-use mathlib.Core.Bool.{Bool, true, false, true≢false, cond, not, ◌&&◌, ◌||◌, and-false}
-use mathlib.Core.List.{List, [], ◌∷◌, ◌++◌}
+use mathlib.Core.Path.{◌≡◌, refl}
+use mathlib.Core.Bool.{Bool, true, false, true≢false, not, ◌&&◌, ◌||◌, and-false}
 use Prim.Native.Nat.{ℕ, zero, suc, ◌+◌, ◌-◌, ◌*◌, ◌/◌, ◌%◌, ◌≤◌, ◌<◌}
 use native.Mathlib.Omega.{arith}
-use lib.Dec.{eqb, leb, ltb}
-use lib.ListN.{length, get_or, take, drop, set}
+use lib.Dec.{eqb, ltb}
+use lib.ListN.{length, get_or}
 use lib.Seq.{get_or-set_same, get_or-set_other}
-use borrow.Author.Tests.{eqb-true, eqb-false, eq-eqb, ne_eqb, ltb-true, ltb-false, lt-ltb, le-ltb, le-leb, leb-true}
+use borrow.Author.Tests.{eqb-true, eqb-false, ne_eqb, ltb-true, ltb-false, lt-ltb, le-ltb, le-leb}
 use Rattle.egress_spec.specs.declared.state.State.{State}
-use Rattle.egress_spec.specs.Queues.{behind}
-use Rattle.egress_spec.specs.Places.{held_at, held, slot_at, length_fits, used_below, place_ok, all_upto, channel_fits, channel_ok, slot_ok, numbers_ok, sound}
-use Rattle.egress_spec.specs.Step.{seek, free_slot, place_of, packet_at, kept_state, left_state}
+use Rattle.egress_spec.specs.Places.{held_at, held, slot_at, length_fits, used_below, place_ok, all_upto, channel_ok, slot_ok, numbers_ok, sound}
+use Rattle.egress_spec.specs.Step.{free_slot, place_of, kept_state}
 use Rattle.egress_spec.proofs.Upto.{and_left, and_right, upto-at, upto_all}
 use Rattle.egress_spec.proofs.PlaceLaws.{place_ok_lem, slots-fit, place-channel, place-free}
 use Rattle.egress_spec.proofs.FreeLaws.{unused, held-apart}

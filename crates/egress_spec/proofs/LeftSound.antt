@@ -1,18 +1,17 @@
 -- A take keeps the state sound: it holds less.
-use mathlib.Core.Path.{◌≡◌, refl, sym, ◌∙◌, ap}
-use mathlib.Core.Bool.{Bool, true, false, true≢false, cond, not, ◌&&◌, ◌||◌, and-false}
-use mathlib.Core.List.{List, [], ◌∷◌, ◌++◌}
-use Prim.Native.Nat.{ℕ, zero, suc, ◌+◌, ◌-◌, ◌*◌, ◌/◌, ◌%◌, ◌≤◌, ◌<◌}
+use mathlib.Core.Path.{◌≡◌, refl, sym}
+use mathlib.Core.Bool.{Bool, true, false, true≢false, cond, not, ◌&&◌, ◌||◌}
+use Prim.Native.Nat.{ℕ, zero, suc, ◌+◌, ◌-◌, ◌/◌, ◌%◌, ◌≤◌, ◌<◌}
 use native.Mathlib.Omega.{arith}
-use lib.Dec.{eqb, leb, ltb}
-use lib.ListN.{length, get_or, set}
+use lib.Dec.{eqb, ltb}
+use lib.ListN.{length, get_or}
 use lib.Seq.{get_or-set_same, get_or-set_other}
-use borrow.Author.Tests.{eqb-true, eqb-false, ltb-true, ltb-false, lt-ltb, le-ltb, le-leb, leb-true}
+use borrow.Author.Tests.{eqb-true, eqb-false, ltb-true, ltb-false, lt-ltb, le-leb}
 use Rattle.egress_spec.specs.declared.state.State.{State}
 use Rattle.egress_spec.specs.Queues.{behind}
-use Rattle.egress_spec.specs.Places.{held_at, held, slot_at, length_fits, used_below, place_ok, all_upto, channel_fits, channel_ok, slot_ok, numbers_ok, sound}
+use Rattle.egress_spec.specs.Places.{held_at, held, slot_at, length_fits, used_below, place_ok, all_upto, channel_ok, slot_ok, numbers_ok, sound}
 use Rattle.egress_spec.specs.Step.{left_state}
-use Rattle.egress_spec.proofs.Upto.{and_left, and_right, upto-at, upto_all}
+use Rattle.egress_spec.proofs.Upto.{and_left, upto-at, upto_all}
 use Rattle.egress_spec.proofs.Circle.{behind-channel}
 use Rattle.egress_spec.proofs.PlaceLaws.{place_ok_lem, slots-fit}
 

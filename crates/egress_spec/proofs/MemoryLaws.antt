@@ -1,20 +1,20 @@
 -- What a call leaves of the queues: a packet copied into a free slot changes no other, and a head taken off leaves the rest.
 use mathlib.Core.Path.{◌≡◌, refl, sym, ◌∙◌, ap}
-use mathlib.Core.Bool.{Bool, true, false, true≢false, cond}
+use mathlib.Core.Bool.{Bool, true, false, cond}
 use mathlib.Core.List.{List, [], ◌∷◌, ◌++◌}
 use Prim.Native.Nat.{ℕ, zero, suc, ◌+◌, ◌-◌, ◌*◌, ◌%◌, ◌≤◌, ◌<◌}
 use native.Mathlib.Omega.{arith}
 use native.Mathlib.Nat.{add-zero}
-use lib.Dec.{eqb, ltb}
-use lib.ListN.{length, get_or, take, drop, set, length-take}
+use lib.Dec.{ltb}
+use lib.ListN.{length, get_or, take, drop}
 use lib.Seq.{drop-drop, take_at, drop_at, length-take-le, get_or-set_same, get_or-set_other}
-use borrow.Author.Tests.{ltb-true, ltb-false, lt-ltb, le-ltb}
+use borrow.Author.Tests.{ltb-true, ltb-false}
 use Rattle.wire_spec.specs.Bits.{splice}
 use Rattle.wire_spec.proofs.ListLaws.{drop-splice}
 use Rattle.wire_spec.proofs.Window.{take-drop-take}
 use Rattle.egress_spec.specs.declared.state.State.{State}
 use Rattle.egress_spec.specs.Queues.{behind}
-use Rattle.egress_spec.specs.Step.{place_of, packet_at, kept_state, left_state}
+use Rattle.egress_spec.specs.Step.{place_of, packet_at, left_state}
 use Rattle.egress_spec.proofs.Agreement.{queue_from}
 
 -- a part of the memory before what is written, behind it, and what is written itself

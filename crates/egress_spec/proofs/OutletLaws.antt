@@ -1,8 +1,8 @@
 -- 02, K10, of the calls' answers from an outlet just opened, whatever its memory held.
 use mathlib.Core.Path.{◌≡◌, refl, sym, ◌∙◌, ap, subst}
-use mathlib.Core.Bool.{Bool, true, false, cond, ◌&&◌}
-use mathlib.Core.List.{List, [], ◌∷◌, ◌++◌}
-use Prim.Native.Nat.{ℕ, zero, suc, ◌+◌, ◌-◌, ◌*◌, ◌%◌, ◌≤◌, ◌<◌}
+use mathlib.Core.Bool.{Bool, true, false, cond}
+use mathlib.Core.List.{List, [], ◌∷◌}
+use Prim.Native.Nat.{ℕ, zero, suc, ◌-◌, ◌*◌, ◌≤◌, ◌<◌}
 use native.Mathlib.Omega.{arith}
 use lib.Dec.{eqb, leb, ltb}
 use lib.ListN.{length, get_or, take, drop, length-drop}
@@ -10,14 +10,14 @@ use lib.Seq.{length-take-le, take_at, drop_at}
 use borrow.Author.Tests.{eqb-true, leb-true, ltb-true}
 use Rattle.wire_spec.specs.declared.refusal.Refusal.{Refusal}
 use Rattle.wire_spec.specs.Bits.{overwrite, splice}
-use Rattle.wire_spec.specs.Result.{Result, refused, accepted, refuse, ◌then◌}
+use Rattle.wire_spec.specs.Result.{Result, Err, Ok, refuse, ◌then◌}
 use Rattle.wire_spec.proofs.ResultLaws.{accepted-inj, judge-accepts}
 use Rattle.egress_spec.specs.declared.state.State.{State}
-use Rattle.egress_spec.specs.Queues.{Model, opened, channels, slot_count, slot_size, memory_size, offer_checks, Turn, turn, behind, hand_out, Call, offering, taking, Answer, copied, handed, no, after_take, step, after, answers}
+use Rattle.egress_spec.specs.Queues.{Model, opened, channels, slot_count, slot_size, memory_size, offer_checks, Turn, turn, behind, hand_out, Call, offering, taking, Answer, copied, handed, no, after_take, after, answers}
 use Rattle.egress_spec.specs.Places.{held, slot_at, sound}
-use Rattle.egress_spec.specs.Step.{admits, kept_state, offer_of, offered_of, memory_after, take_of, taken_of, out_after, free_slot, turn_of, turn_for, head_place, head_length, packet_at}
-use Rattle.egress_spec.specs.Calls.{offer_heard, take_heard, Called, lent_to, call, answers_of, answers_behind}
-use Rattle.egress_spec.specs.Laws.{Handed, handed_out, Within, roomy_takes, waiting, own, holds, answer_to, served_last, in_circle, InTurn, NothingWaits}
+use Rattle.egress_spec.specs.Step.{admits, kept_state, offer_of, offered_of, take_of, taken_of, out_after, free_slot, turn_of, turn_for, head_place, head_length, packet_at}
+use Rattle.egress_spec.specs.Calls.{offer_heard, take_heard, lent_to, call, answers_of, answers_behind}
+use Rattle.egress_spec.specs.Laws.{handed_out, Within, roomy_takes, waiting, own, holds, answer_to, served_last, in_circle, InTurn, NothingWaits}
 use Rattle.egress_spec.proofs.Upto.{and_left, and_right}
 use Rattle.egress_spec.proofs.PlaceLaws.{head-ready}
 use Rattle.egress_spec.proofs.FreeLaws.{free_one, held-apart}
@@ -116,7 +116,7 @@ module _ (m : List ℕ) (size : length m ≡ memory_size) where
       q : Model
       q = after opened before
 
-      short : (t : Turn) (z : Bool) → (after_take q (cond z (accepted t) (refuse 23 0))).answer ≡ no (record { number = 63; index = 0 }) → ⊥
+      short : (t : Turn) (z : Bool) → (after_take q (cond z (Ok t) (refuse 23 0))).answer ≡ no (record { number = 63; index = 0 }) → ⊥
       short t true f = let z : ◌≡◌ {A = ℕ} 0 1 = cc in omega arith
       short t false f = let z : ◌≡◌ {A = ℕ} 23 63 = ap number_of f in omega arith
 
@@ -128,9 +128,9 @@ module _ (m : List ℕ) (size : length m ≡ memory_size) where
 
       go : (r : Result Turn) → turn 8 q.queue q.next ≡ r → (after_take q (r then hand_out (length out))).answer ≡ no (record { number = 63; index = 0 })
           → waiting c before (answers_of m before) ≡ []
-      go (refused x) z f =
+      go (Err x) z f =
           waits m size c before ∙ ap q.queue (sym here.2) ∙ turn-none 8 q.queue q.next here.0 (λ t y. let w : ◌≡◌ {A = ℕ} 0 1 = cc in omega arith) here.1
-      go (accepted t) z f = absurd (short t (leb (length t.packet) (length out)) f)
+      go (Ok t) z f = absurd (short t (leb (length t.packet) (length out)) f)
 
 -- so two runs in which the channel saw the same answer it alike
 pub alike : (m n : List ℕ) → length m ≡ memory_size → length n ≡ memory_size → (ks js : List Call) (c : ℕ) (p r : List ℕ)
@@ -148,13 +148,13 @@ pub refusal-changes-nothing : (st : State) (m : List ℕ) (k : Call) (x : Refusa
 refusal-changes-nothing st m (offering c p) x e = go (offer_of st c (length p) (length m)) refl e
   where
     go : (r : Result State) → offer_of st c (length p) (length m) ≡ r → offer_heard (offered_of st r).answer ≡ no x → Unchanged st m (offering c p)
-    go (refused y) z f = record { state = rw z; memory = rw z; lent = refl }
-    go (accepted n) z f = absurd (let z : ◌≡◌ {A = ℕ} 0 1 = cc in omega arith)
+    go (Err y) z f = record { state = rw z; memory = rw z; lent = refl }
+    go (Ok n) z f = absurd (let z : ◌≡◌ {A = ℕ} 0 1 = cc in omega arith)
 refusal-changes-nothing st m (taking out) x e = go (take_of st (length m) (length out)) refl e
   where
     go : (r : Result ℕ) → take_of st (length m) (length out) ≡ r → take_heard (taken_of st r).answer (out_after st m r out) ≡ no x → Unchanged st m (taking out)
-    go (refused y) z f = record { state = rw z; memory = refl; lent = rw z }
-    go (accepted c) z f = absurd (let z : ◌≡◌ {A = ℕ} 0 1 = cc in omega arith)
+    go (Err y) z f = record { state = rw z; memory = refl; lent = rw z }
+    go (Ok c) z f = absurd (let z : ◌≡◌ {A = ℕ} 0 1 = cc in omega arith)
 
 -- "An offer is copied in or refused": into one slot that no packet held, and nothing else of the memory changes
 pub record CopiedIn (st : State) (m : List ℕ) (c : ℕ) (p : List ℕ) : Type 0 where
@@ -167,9 +167,9 @@ pub copied-in : (st : State) (m : List ℕ) (c : ℕ) (p : List ℕ) → (call s
 copied-in st m c p e = go (offer_of st c (length p) (length m)) refl e
   where
     go : (r : Result State) → offer_of st c (length p) (length m) ≡ r → offer_heard (offered_of st r).answer ≡ copied → CopiedIn st m c p
-    go (refused y) z f = absurd (let z : ◌≡◌ {A = ℕ} 0 1 = cc in omega arith)
-    go (accepted n) z f =
-        let t = (judge-accepts 0 ((admits st (length m), 64) ∷ offer_checks c (length p) (get_or st.counts c 0)) (accepted (kept_state st c (free_slot st) (length p))) n z).0 in
+    go (Err y) z f = absurd (let z : ◌≡◌ {A = ℕ} 0 1 = cc in omega arith)
+    go (Ok n) z f =
+        let t = (judge-accepts 0 ((admits st (length m), 64) ∷ offer_checks c (length p) (get_or st.counts c 0)) (Ok (kept_state st c (free_slot st) (length p))) n z).0 in
         let l = leb-true c 7 t.1.0 in
         let low = free_one st c (and_right (eqb (length m) memory_size) (sound st) t.0) (omega arith) (ltb-true (get_or st.counts c 0) 8 t.1.1.1.0) in
         record { slot = free_slot st; low = low; free = λ k g h. held-apart st k low g h; memory = rw z }
@@ -195,9 +195,9 @@ pub handed_out_lem : (st : State) (m out : List ℕ) (c : ℕ) (p : List ℕ) �
 handed_out_lem st m out c p e = go (take_of st (length m) (length out)) refl e
   where
     go : (r : Result ℕ) → take_of st (length m) (length out) ≡ r → take_heard (taken_of st r).answer (out_after st m r out) ≡ handed c p → HandedOut st m out p
-    go (refused y) z f = absurd (let z : ◌≡◌ {A = ℕ} 0 1 = cc in omega arith)
-    go (accepted d) z f =
-        let j = judge-accepts 0 ((admits st (length m), 64) ∷ (leb (turn_for st) 7, 63) ∷ (leb (head_length st (turn_for st)) (length out), 23) ∷ []) (accepted (turn_for st)) d z in
+    go (Err y) z f = absurd (let z : ◌≡◌ {A = ℕ} 0 1 = cc in omega arith)
+    go (Ok d) z f =
+        let j = judge-accepts 0 ((admits st (length m), 64) ∷ (leb (turn_for st) 7, 63) ∷ (leb (head_length st (turn_for st)) (length out), 23) ∷ []) (Ok (turn_for st)) d z in
         let same : turn_for st ≡ d = accepted-inj j.1 in
         let low = leb-true (turn_for st) 7 j.0.1.0 in
         let sized : length m ≡ memory_size = eqb-true (length m) memory_size (and_left (eqb (length m) memory_size) (sound st) j.0.0) in
@@ -207,7 +207,7 @@ handed_out_lem st m out c p e = go (take_of st (length m) (length out)) refl e
         let long : length packet ≡ n = length-take-le n (drop (1024 * get_or st.slots (head_place st (turn_for st)) 0) m)
         (rw (length-drop (1024 * get_or st.slots (head_place st (turn_for st)) 0) m) (room_in (get_or st.slots (head_place st (turn_for st)) 0) n (length m) r.slot r.most sized)) in
         let left : (call st m (taking out)).lent ≡ overwrite packet out = ap (λ (y : Result ℕ). out_after st m y out) z ∙ ap (λ (y : ℕ). overwrite (packet_at st m (head_place st y)) out) (sym same) in
-        let q : take (head_length st d) (out_after st m (accepted d) out) ≡ p = cc in
+        let q : take (head_length st d) (out_after st m (Ok d) out) ≡ p = cc in
         let is : packet ≡ p =
         sym (take_at packet (drop (length packet) out) n long) ∙ ap (λ (y : ℕ). take (head_length st y) (overwrite (packet_at st m (head_place st y)) out)) same ∙ q in
         record {

@@ -1,17 +1,16 @@
 -- "Whether an offer is taken depends only on its size, its channel number and that channel's own earlier offers and takes."
 -- How many packets a channel holds is told by its own events.
 use mathlib.Core.Path.{◌≡◌, refl, sym, ◌∙◌, ap}
-use mathlib.Core.Bool.{Bool, true, false, true≢false, cond, ◌&&◌}
+use mathlib.Core.Bool.{Bool, true, false, cond, ◌&&◌}
 use mathlib.Core.List.{List, [], ◌∷◌, ◌++◌}
-use Prim.Native.Nat.{ℕ, zero, suc, ◌+◌, ◌-◌, ◌≤◌, ◌<◌}
+use Prim.Native.Nat.{ℕ, zero, suc, ◌-◌, ◌≤◌}
 use native.Mathlib.Omega.{arith}
 use lib.Dec.{eqb, leb, ltb}
 use lib.ListN.{length, length-append}
-use borrow.Author.Tests.{eq-eqb, ne_eqb, eqb-true, eqb-false, le-leb, lt-leb, leb-false}
-use Rattle.wire_spec.specs.declared.refusal.Refusal.{Refusal}
-use Rattle.wire_spec.specs.Result.{Result, refused, accepted, refuse, judge, ◌then◌}
-use Rattle.egress_spec.specs.Queues.{Queues, Model, opened, joined, without, behind, slot_size, max_held, Turn, turn_at, turn, Call, offering, taking, Answer, copied, handed, no, after_offer, step, after, answers}
-use Rattle.egress_spec.specs.Laws.{Event, offered, left, own_of, own, fits, holds, offer_answer, answer_to}
+use borrow.Author.Tests.{eq-eqb, ne_eqb, eqb-true, eqb-false, le-leb}
+use Rattle.wire_spec.specs.Result.{Ok, refuse}
+use Rattle.egress_spec.specs.Queues.{Queues, Model, opened, joined, without, behind, slot_size, max_held, Turn, turn_at, turn, Call, offering, taking, after_offer, step, after, answers}
+use Rattle.egress_spec.specs.Laws.{Event, offered, left, own_of, own, holds, offer_answer, answer_to}
 use Rattle.egress_spec.proofs.Cases.{offer-cases, take_cases}
 
 length_more : (l : List (List ℕ)) (p : List ℕ) → length (l ++ (p ∷ [])) ≡ suc (length l)
@@ -19,7 +18,7 @@ length_more l p = rw (length-append l (p ∷ [])) (omega arith)
 
 -- an offer to channel `c` itself, by its size and what the channel holds
 own-offer : (m : Model) (c : ℕ) (p : List ℕ) (b e : Bool)
-    → length ((after_offer m (cond b (cond e (accepted (joined m c p)) (refuse 62 0)) (refuse 61 0))).model.queue c) ≡ cond (b && e) (suc (length (m.queue c))) (length (m.queue c))
+    → length ((after_offer m (cond b (cond e (Ok (joined m c p)) (refuse 62 0)) (refuse 61 0))).model.queue c) ≡ cond (b && e) (suc (length (m.queue c))) (length (m.queue c))
 own-offer m c p false e = refl
 own-offer m c p true false = refl
 own-offer m c p true true = rw (eq-eqb c c refl) (length_more (m.queue c) p)
@@ -35,12 +34,12 @@ offer-holds m c d p l h = go (eqb d c) refl
         (offer-cases m (λ s. s.model.queue c ≡ m.queue c) (λ x. refl) d p (λ y. rw (ne_eqb c d (λ e. eqb-false d c z (sym e)))))
 
 -- a turn is the front of its channel's queue
-pub turn-front : (q : Queues) (k p : ℕ) (t : Turn) → turn k q p ≡ accepted t → q t.channel ≡ t.packet ∷ t.rest
+pub turn-front : (q : Queues) (k p : ℕ) (t : Turn) → turn k q p ≡ Ok t → q t.channel ≡ t.packet ∷ t.rest
 turn-front q zero p t e = absurd (let z : ◌≡◌ {A = ℕ} 0 1 = cc in omega arith)
 turn-front q (suc k) p t e = go (turn-front q k (behind p) t) (q p) refl e
   where
-    go : (turn k q (behind p) ≡ accepted t → q t.channel ≡ t.packet ∷ t.rest) → (l : List (List ℕ)) → q p ≡ l
-        → turn_at p l (turn k q (behind p)) ≡ accepted t → q t.channel ≡ t.packet ∷ t.rest
+    go : (turn k q (behind p) ≡ Ok t → q t.channel ≡ t.packet ∷ t.rest) → (l : List (List ℕ)) → q p ≡ l
+        → turn_at p l (turn k q (behind p)) ≡ Ok t → q t.channel ≡ t.packet ∷ t.rest
     go ih [] z f = ih f
     go ih (y ∷ ys) z f = let g : record { channel = p; packet = y; rest = ys } ≡ t = cc in rw (← g) z
 
@@ -68,8 +67,8 @@ held [] m c h = refl
 held (k ∷ ks) m c h = held ks (step m k).model c h ∙ step-holds m c k (own c ks (answers (step m k).model ks)) h
 
 answered : (m : Model) (c : ℕ) (p : List ℕ) (a b e : Bool)
-    → (after_offer m (cond a (cond b (cond e (accepted (joined m c p)) (refuse 62 0)) (refuse 61 0)) (refuse 60 0))).answer
-    ≡ offer_answer {A = ℕ} (cond a (cond b (cond e (accepted 0) (refuse 62 0)) (refuse 61 0)) (refuse 60 0))
+    → (after_offer m (cond a (cond b (cond e (Ok (joined m c p)) (refuse 62 0)) (refuse 61 0)) (refuse 60 0))).answer
+    ≡ offer_answer {A = ℕ} (cond a (cond b (cond e (Ok 0) (refuse 62 0)) (refuse 61 0)) (refuse 60 0))
 answered m c p false b e = refl
 answered m c p true false e = refl
 answered m c p true true false = refl

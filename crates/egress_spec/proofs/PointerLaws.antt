@@ -1,13 +1,10 @@
 -- Where the next take starts, and whose turn it is, by the answers before.
-use mathlib.Core.Path.{◌≡◌, refl, sym, ◌∙◌, ap}
-use mathlib.Core.Bool.{Bool, true, false, cond, ◌&&◌}
-use mathlib.Core.List.{List, [], ◌∷◌, nil≢cons}
-use Prim.Native.Nat.{ℕ, zero, suc, ◌+◌, ◌-◌, ◌%◌, ◌≤◌, ◌<◌}
+use mathlib.Core.Path.{◌≡◌, refl, ◌∙◌}
+use mathlib.Core.List.{List, [], ◌∷◌}
+use Prim.Native.Nat.{ℕ, zero, suc, ◌+◌, ◌%◌, ◌<◌}
 use native.Mathlib.Omega.{arith}
-use lib.Dec.{eqb, leb, ltb}
-use lib.ListN.{length}
-use Rattle.wire_spec.specs.Result.{Result, refused, accepted, refuse, ◌then◌}
-use Rattle.egress_spec.specs.Queues.{Queues, Model, opened, behind, Turn, turn_at, turn, Call, offering, taking, Answer, copied, handed, no, Step, step, after, answers}
+use Rattle.wire_spec.specs.Result.{Ok, refuse}
+use Rattle.egress_spec.specs.Queues.{Queues, Model, opened, behind, Turn, turn_at, turn, Call, offering, taking, Answer, Step, step, after, answers}
 use Rattle.egress_spec.specs.Laws.{served_before, served_last, in_circle}
 use Rattle.egress_spec.proofs.Circle.{from, behind-channel, behind-is, from_is}
 use Rattle.egress_spec.proofs.Cases.{offer-cases, take_cases}
@@ -20,12 +17,12 @@ pub record Found (q : Queues) (p n : ℕ) (t : Turn) : Type 0 where
   pub empty : (i : ℕ) → i < passes → q (from i p) ≡ []
   pub head : q t.channel ≡ t.packet ∷ t.rest
 
-pub turn-found : (n : ℕ) (q : Queues) (p : ℕ) (t : Turn) → turn n q p ≡ accepted t → Found q p n t
+pub turn-found : (n : ℕ) (q : Queues) (p : ℕ) (t : Turn) → turn n q p ≡ Ok t → Found q p n t
 turn-found zero q p t e = absurd (let z : ◌≡◌ {A = ℕ} 0 1 = cc in omega arith)
 turn-found (suc n) q p t e = go (turn-found n q (behind p) t) (q p) refl e
   where
-    go : (turn n q (behind p) ≡ accepted t → Found q (behind p) n t) → (l : List (List ℕ)) → q p ≡ l
-        → turn_at p l (turn n q (behind p)) ≡ accepted t → Found q p (suc n) t
+    go : (turn n q (behind p) ≡ Ok t → Found q (behind p) n t) → (l : List (List ℕ)) → q p ≡ l
+        → turn_at p l (turn n q (behind p)) ≡ Ok t → Found q p (suc n) t
     go ih [] z f =
         let r = ih f in
         record {
@@ -44,12 +41,12 @@ turn-found (suc n) q p t e = go (turn-found n q (behind p) t) (q p) refl e
         rw (← g) (record { passes = 0; few = omega arith; channel = refl; empty = λ i h. absurd (omega arith); head = z })
 
 -- "63 nothing waits": every channel of the circle is empty
-pub turn-none : (n : ℕ) (q : Queues) (p i : ℕ) → ((t : Turn) → turn n q p ≡ accepted t → ⊥) → i < n → q (from i p) ≡ []
+pub turn-none : (n : ℕ) (q : Queues) (p i : ℕ) → ((t : Turn) → turn n q p ≡ Ok t → ⊥) → i < n → q (from i p) ≡ []
 turn-none zero q p i e h = absurd (omega arith)
 turn-none (suc n) q p i e h = go (λ j f g. turn-none n q (behind p) j f g) (q p) refl i h e
   where
-    go : ((j : ℕ) → ((t : Turn) → turn n q (behind p) ≡ accepted t → ⊥) → j < n → q (from j (behind p)) ≡ [])
-        → (l : List (List ℕ)) → q p ≡ l → (i : ℕ) → i < suc n → ((t : Turn) → turn_at p l (turn n q (behind p)) ≡ accepted t → ⊥) → q (from i p) ≡ []
+    go : ((j : ℕ) → ((t : Turn) → turn n q (behind p) ≡ Ok t → ⊥) → j < n → q (from j (behind p)) ≡ [])
+        → (l : List (List ℕ)) → q p ≡ l → (i : ℕ) → i < suc n → ((t : Turn) → turn_at p l (turn n q (behind p)) ≡ Ok t → ⊥) → q (from i p) ≡ []
     go ih [] z zero h e = z
     go ih [] z (suc i) h e = ih i e (omega arith)
     go ih (y ∷ ys) z i h e = absurd (e (record { channel = p; packet = y; rest = ys }) refl)

@@ -1,21 +1,21 @@
 -- "From an outlet just opened, empty, any sequence of calls answers as eight queues and a pointer do."
 use mathlib.Core.Path.{◌≡◌, refl, sym, ◌∙◌, ap, subst}
-use mathlib.Core.Bool.{Bool, true, false, true≢false, cond, not, ◌&&◌, ◌||◌}
+use mathlib.Core.Bool.{Bool, true, false, cond}
 use mathlib.Core.List.{List, [], ◌∷◌, ◌++◌}
-use Prim.Native.Nat.{ℕ, zero, suc, ◌+◌, ◌-◌, ◌*◌, ◌/◌, ◌%◌, ◌≤◌, ◌<◌}
+use Prim.Native.Nat.{ℕ, zero, suc, ◌+◌, ◌-◌, ◌*◌, ◌≤◌, ◌<◌}
 use native.Mathlib.Omega.{arith}
 use native.Mathlib.Numerals.{add-one}
 use lib.Dec.{eqb, leb, ltb}
 use lib.ListN.{length, get_or, set, replicate, length-set, drop, length-drop}
 use lib.Seq.{length-take-le, take_at, get_or-set_same, get_or-set_other}
-use borrow.Author.Tests.{le-ltb, ltb-false, eqb-true, eqb-false, eq-eqb, ltb-true, lt-ltb, leb-true, le-leb}
-use Rattle.wire_spec.specs.Result.{Result, refused, accepted, refuse, judge, ◌then◌}
+use borrow.Author.Tests.{eqb-true, eqb-false, eq-eqb, ltb-true, lt-ltb, leb-true, le-leb}
+use Rattle.wire_spec.specs.Result.{Result, Ok, refuse, judge, ◌then◌}
 use Rattle.wire_spec.proofs.ResultLaws.{Passed, and-true}
 use Rattle.wire_spec.specs.Bits.{splice}
 use Rattle.wire_spec.proofs.ListLaws.{length-splice}
 use Rattle.egress_spec.specs.declared.state.State.{State}
 use Rattle.egress_spec.specs.Queues.{Model, opened, memory_size, joined, without, offer_checks, offer, after_offer, step, Call, offering, taking, Answer, answers, behind, Turn, turn_at, turn, hand_out, after_take, handed}
-use Rattle.egress_spec.specs.Places.{open_state, all_upto, place_ok, channel_ok, numbers_ok, sound, used_below}
+use Rattle.egress_spec.specs.Places.{open_state, all_upto, used_below}
 use Rattle.egress_spec.specs.Step.{free_slot, place_of, kept_state, offer_of, offered_of, memory_after, turn_of, turn_for, head_place, head_length, packet_at, left_state, take_of, taken_of, out_after}
 use Rattle.egress_spec.specs.Calls.{offer_heard, take_heard, call, answers_from, answers_of}
 use Rattle.egress_spec.proofs.Cases.{judge-both}
@@ -76,26 +76,26 @@ module _ (st : State) (m : List ℕ) (q : Model) (a : Agrees st m q) where
   pub offer-agrees : (c : ℕ) (p : List ℕ) → Both c p (offer_of st c (length p) (length m)) (offer q c p)
   offer-agrees c p = rw (eq-eqb (length m) 65536 a.memory, a.sound) (go (leb c 7) refl)
     where
-      fits : c < 8 → Passed (offer_checks c (length p) (get_or st.counts c 0)) → Both c p (accepted (kept_state st c (free_slot st) (length p))) (accepted (joined q c p))
+      fits : c < 8 → Passed (offer_checks c (length p) (get_or st.counts c 0)) → Both c p (Ok (kept_state st c (free_slot st) (length p))) (Ok (joined q c p))
       fits h t =
           let size = and-true (leb 1 (length p)) (leb (length p) 1024) t.1.0 in
           (kept-agrees c p h (leb-true 1 (length p) size.0) (leb-true (length p) 1024 size.1) (ltb-true (get_or st.counts c 0) 8 t.1.1.0), refl)
 
       go : (b : Bool) → leb c 7 ≡ b
-          → Both c p (judge 0 (offer_checks c (length p) (get_or st.counts c 0)) (accepted (kept_state st c (free_slot st) (length p)))) (offer q c p)
+          → Both c p (judge 0 (offer_checks c (length p) (get_or st.counts c 0)) (Ok (kept_state st c (free_slot st) (length p)))) (offer q c p)
       go false e = rw e (a, refl)
       go true e =
           let h = leb-true c 7 e in
           let n : length (q.queue c) ≡ get_or st.counts c 0 = ap length (sym (a.queues c (omega arith))) ∙ length-queue st m c (get_or st.counts c 0) 0 in
           rw n
-          (judge-both (Both c p) 0 (offer_checks c (length p) (get_or st.counts c 0)) (accepted (kept_state st c (free_slot st) (length p))) (accepted (joined q c p)) (λ n. (a, refl))
+          (judge-both (Both c p) 0 (offer_checks c (length p) (get_or st.counts c 0)) (Ok (kept_state st c (free_slot st) (length p))) (Ok (joined q c p)) (λ n. (a, refl))
           (fits (omega arith)))
 
   -- whose turn it is, by the counts and by the queues
   pub data TurnAs (r : ℕ) (t : Result Turn) : Type 0 where
     nobody : r ≡ 8 → t ≡ refuse 63 0 → TurnAs r t
     somebody : (d : ℕ) → d < 8 → r ≡ d → (k : ℕ) → get_or st.counts d 0 ≡ suc k
-        → t ≡ accepted (record { channel = d; packet = packet_at st m (place_of st d 0); rest = queue_from st m d k 1 }) → TurnAs r t
+        → t ≡ Ok (record { channel = d; packet = packet_at st m (place_of st d 0); rest = queue_from st m d k 1 }) → TurnAs r t
 
   turn-as : (n c : ℕ) → c < 8 → TurnAs (turn_of n st.counts c) (turn n q.queue c)
   unfolding turn_of
@@ -160,7 +160,7 @@ module _ (st : State) (m : List ℕ) (q : Model) (a : Agrees st m q) where
       (subst (λ (x : ℕ). TurnAs (turn_for st) (turn 8 q.queue x)) a.next (turn-as 8 st.next (next_fits st a.sound))))
     where
       served : (d k : ℕ) → d < 8 → get_or st.counts d 0 ≡ suc k → (b : Bool)
-          → BothTake out (cond b (accepted d) (refuse 23 0)) (cond b (accepted (turn_from d k)) (refuse 23 0))
+          → BothTake out (cond b (Ok d) (refuse 23 0)) (cond b (Ok (turn_from d k)) (refuse 23 0))
       served d k h e false = (a, refl)
       served d k h e true = (
         left-agrees d k h e,
@@ -168,7 +168,7 @@ module _ (st : State) (m : List ℕ) (q : Model) (a : Agrees st m q) where
       )
 
       go : (r : ℕ) (t : Result Turn) → TurnAs r t
-          → BothTake out (cond (leb r 7) (cond (leb (head_length st r) (length out)) (accepted r) (refuse 23 0)) (refuse 63 0)) (t then hand_out (length out))
+          → BothTake out (cond (leb r 7) (cond (leb (head_length st r) (length out)) (Ok r) (refuse 23 0)) (refuse 63 0)) (t then hand_out (length out))
       go r t (nobody x y) = rw (x, y) (a, refl)
       go r t (somebody d h x k e y) =
           let p : place_of st d 0 ≡ head_place st d = head-place d (get_or st.heads d 0) (head-fits st d (numbers st a.sound) h) in

@@ -3,14 +3,14 @@ use mathlib.Core.Path.{◌≡◌, refl, sym, ◌∙◌, ap}
 use mathlib.Core.Bool.{Bool, true, false, true≢false, not, ◌&&◌, ◌||◌}
 use Prim.Native.Nat.{ℕ, zero, suc, ◌≤◌, ◌<◌}
 use native.Mathlib.Omega.{arith}
-use lib.Dec.{eqb, leb, ltb}
+use lib.Dec.{eqb, ltb}
 use lib.ListN.{get_or}
 use borrow.Author.Tests.{eqb-true, ltb-true, ltb-false, lt-ltb, le-leb}
 use Rattle.egress_spec.specs.declared.state.State.{State}
-use Rattle.egress_spec.specs.Places.{held, slot_at, length_fits, used_below, place_ok, all_upto, channel_ok, slot_ok, numbers_ok, sound}
+use Rattle.egress_spec.specs.Places.{held, slot_at, length_fits, used_below, place_ok, channel_ok, slot_ok, sound}
 use Rattle.egress_spec.specs.Laws.{SoundState}
-use Rattle.egress_spec.proofs.Upto.{and_left, and_right, upto_all}
-use Rattle.egress_spec.proofs.PlaceLaws.{numbers, head-fits, count_fits, next_fits, slot-fits, Ready, held-ready}
+use Rattle.egress_spec.proofs.Upto.{upto_all}
+use Rattle.egress_spec.proofs.PlaceLaws.{numbers, head-fits, count_fits, next_fits, slot-fits, held-ready}
 use Rattle.egress_spec.proofs.FreeLaws.{used-at}
 
 -- of two held places with one slot neither comes first

@@ -1,18 +1,18 @@
 -- "A packet at its channel's head leaves within eight successful takes, whatever is offered meanwhile."
 -- By how many channels stand before its own in the circle: a take serves it, or leaves fewer before it.
 use mathlib.Core.Path.{◌≡◌, refl, sym, ◌∙◌, ap, subst}
-use mathlib.Core.Bool.{Bool, true, false, true≢false, cond, ◌&&◌}
-use mathlib.Core.Logic.{◌⊎◌, inl, inr}
-use mathlib.Core.List.{List, [], ◌∷◌, ◌++◌, nil≢cons, head-eq_of_cons-eq, tail-eq_of_cons-eq}
-use Prim.Native.Nat.{ℕ, zero, suc, ◌+◌, ◌-◌, ◌≤◌, ◌<◌}
+use mathlib.Core.Bool.{Bool, true, false, cond}
+use mathlib.Core.Logic.{inl, inr}
+use mathlib.Core.List.{List, [], ◌∷◌, ◌++◌, head-eq_of_cons-eq}
+use Prim.Native.Nat.{ℕ, zero, suc, ◌≤◌, ◌<◌}
 use native.Mathlib.Omega.{arith}
-use lib.Dec.{eqb, leb, ltb}
+use lib.Dec.{eqb}
 use lib.ListN.{length}
-use borrow.Author.Tests.{eq-eqb, ne_eqb, eqb-true, eqb-false, lt-ltb, le-ltb}
+use borrow.Author.Tests.{ne_eqb, eqb-true, eqb-false}
 use Rattle.wire_spec.specs.declared.refusal.Refusal.{Refusal}
-use Rattle.wire_spec.specs.Result.{Result, refused, accepted, refuse, judge, ◌then◌}
+use Rattle.wire_spec.specs.Result.{Ok}
 use Rattle.wire_spec.proofs.ResultLaws.{accepted-inj}
-use Rattle.egress_spec.specs.Queues.{Queues, Model, opened, joined, without, behind, Turn, turn_at, turn, Call, offering, taking, Answer, copied, handed, no, Step, step, after, answers}
+use Rattle.egress_spec.specs.Queues.{Queues, Model, opened, joined, without, behind, Turn, turn_at, turn, Call, offering, taking, copied, handed, no, Step, step, after, answers}
 use Rattle.egress_spec.specs.Laws.{Handed, if_handed, handed_out, Within}
 use Rattle.egress_spec.proofs.Circle.{from, from_all, behind-channel}
 use Rattle.egress_spec.proofs.Cases.{offer-cases, take_cases}
@@ -27,7 +27,7 @@ more (it e f) = it e f
 more (other d m h e) = other d m (omega arith) e
 
 module _ (q : Queues) (c : ℕ) (x : List ℕ) (xs : List (List ℕ)) (w : q c ≡ x ∷ xs) where
-  pub turn-finds : (k n p : ℕ) → n < k → from n p ≡ c → (t : Turn) × (turn k q p ≡ accepted t) × Serves c x n t
+  pub turn-finds : (k n p : ℕ) → n < k → from n p ≡ c → (t : Turn) × (turn k q p ≡ Ok t) × Serves c x n t
   turn-finds zero n p h e = absurd (omega arith)
   turn-finds (suc k) zero p h e =
       (record { channel = p; packet = x; rest = xs }, rw (e, w), it e refl)
@@ -37,7 +37,7 @@ module _ (q : Queues) (c : ℕ) (x : List ℕ) (xs : List (List ℕ)) (w : q c �
       pick y ys true b z = it (eqb-true p c b) (head-eq_of_cons-eq (sym z ∙ ap q (eqb-true p c b) ∙ w))
       pick y ys false b z = other (eqb-false p c b) n (omega arith) e
 
-      go : ((t : Turn) × (turn k q (behind p) ≡ accepted t) × Serves c x n t) → (l : List (List ℕ)) → q p ≡ l → (t : Turn) × (turn_at p l (turn k q (behind p)) ≡ accepted t) × Serves c x (suc n) t
+      go : ((t : Turn) × (turn k q (behind p) ≡ Ok t) × Serves c x n t) → (l : List (List ℕ)) → q p ≡ l → (t : Turn) × (turn_at p l (turn k q (behind p)) ≡ Ok t) × Serves c x (suc n) t
       go i [] z = (i.0, i.1, more i.2)
       go i (y ∷ ys) z = (record { channel = p; packet = y; rest = ys }, refl, pick y ys (eqb p c) refl z)
 

@@ -1,22 +1,20 @@
 -- Calls one behind the other, by what the entry points return (02, K10).
-use Rattle.std.specs.Prelude.{List, [], ◌∷◌, ◌++◌, ℕ, zero, suc, length, take, drop}
+use Rattle.wire_spec.specs.Result.{Result, Ok, Err}
+use Rattle.egress_spec.specs.declared.state.HandedOut.{HandedOut}
+use Rattle.std.specs.Prelude.{List, [], ◌∷◌, ◌++◌, ℕ, length, take, drop}
 use Rattle.egress_spec.specs.declared.state.State.{State}
-use Rattle.egress_spec.specs.declared.state.OfferAnswer.{OfferAnswer}
-use Rattle.egress_spec.specs.declared.state.OfferAnswer.TheVariants as offer_answer
-use Rattle.egress_spec.specs.declared.state.TakeAnswer.{TakeAnswer}
-use Rattle.egress_spec.specs.declared.state.TakeAnswer.TheVariants as take_answer
 use Rattle.egress_spec.specs.Queues.{Call, offering, taking, Answer, copied, handed, no}
 use Rattle.egress_spec.specs.Places.{open_state}
 use Rattle.egress_spec.specs.Step.{offer_of, offered_of, memory_after, take_of, taken_of, out_after}
 
 -- what a caller has of an answer: of a take the channel and the packet, which are the first octets of what was lent
-abbrev pub offer_heard : OfferAnswer → Answer
-offer_heard offer_answer.Copied = copied
-offer_heard (offer_answer.Refused x) = no x
+abbrev pub offer_heard : Result (Unit {0}) → Answer
+offer_heard (Ok _) = copied
+offer_heard (Err x) = no x
 
-abbrev pub take_heard : TakeAnswer → (out : List ℕ) → Answer
-take_heard (take_answer.HandedOut c n) out = handed c (take n.0 out)
-take_heard (take_answer.Refused x) out = no x
+abbrev pub take_heard : Result HandedOut → (out : List ℕ) → Answer
+take_heard (Ok p) out = handed p.channel (take p.octets.0 out)
+take_heard (Err x) out = no x
 
 -- What one call leaves, and what it is answered. `lent` is the packet of an offer, and what is lent for one by a take.
 pub record Called : Type 0 where

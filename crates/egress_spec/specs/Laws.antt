@@ -1,10 +1,10 @@
 -- What 02, K10 says of the calls, over their answers alone: no state and no slot is named.
-use Rattle.std.specs.Prelude.{◌≡◌, ◌⊎◌, true, cond, ◌&&◌, List, [], ◌∷◌, ◌++◌, ℕ, zero, suc, ◌+◌, ◌-◌, ◌%◌, ◌≤◌, ◌<◌, eqb, leb, ltb, length, get_or, drop}
-use Rattle.wire_spec.specs.Result.{Result, refused, accepted, judge}
+use Rattle.std.specs.Prelude.{◌≡◌, ◌⊎◌, true, cond, ◌&&◌, List, [], ◌∷◌, ℕ, zero, suc, ◌+◌, ◌-◌, ◌%◌, ◌≤◌, ◌<◌, eqb, leb, ltb, length, get_or, drop}
+use Rattle.wire_spec.specs.Result.{Result, Err, Ok, judge}
 use Rattle.egress_spec.specs.declared.state.State.{State}
-use Rattle.egress_spec.specs.Queues.{channels, max_held, slot_count, slot_size, last_channel, offer_checks, Call, offering, taking, Answer, copied, handed, no}
+use Rattle.egress_spec.specs.Queues.{channels, max_held, slot_size, last_channel, offer_checks, Call, offering, taking, Answer, copied, handed, no}
 use Rattle.egress_spec.specs.Places.{held, slot_at}
-use Rattle.egress_spec.specs.Calls.{answers_of, answers_behind}
+use Rattle.egress_spec.specs.Calls.{answers_of}
 
 -- A packet handed out, and its channel.
 pub record Handed : Type 0 where
@@ -86,12 +86,12 @@ holds h (offered n ∷ es) = holds (fits n h) es
 holds h (left ∷ es) = holds (h - 1) es
 
 abbrev pub offer_answer : {A : Type 0} → Result A → Answer
-offer_answer (refused x) = no x
-offer_answer (accepted a) = copied
+offer_answer (Err x) = no x
+offer_answer (Ok a) = copied
 
 -- what an offer of `n` octets to channel `c`, which holds `h`, is answered
 abbrev pub answer_to : (c n h : ℕ) → Answer
-answer_to c n h = offer_answer (judge {A = ℕ} 0 (offer_checks c n h) (accepted 0))
+answer_to c n h = offer_answer (judge {A = ℕ} 0 (offer_checks c n h) (Ok 0))
 
 -- the channel served last; before any the last one, so that the circle starts "at first with 0"
 abbrev pub served_before : ℕ → List Answer → ℕ

@@ -1,7 +1,7 @@
 -- What a state holds, and when it is sound (02, K10: refusal 64). A slot number is in range whether it is held or not; a length is looked at where it is held.
 use Rattle.std.specs.Prelude.{Bool, true, false, not, ◌&&◌, ◌||◌, ℕ, zero, suc, ◌+◌, ◌-◌, ◌/◌, ◌%◌, eqb, leb, ltb, get_or, replicate}
 use Rattle.egress_spec.specs.declared.state.State.{State}
-use Rattle.egress_spec.specs.Queues.{channels, max_held, slot_count, slot_size, last_channel}
+use Rattle.egress_spec.specs.Queues.{channels, max_held, slot_count, slot_size}
 
 -- an outlet just opened
 abbrev pub open_state : State

@@ -1,7 +1,7 @@
 -- The outlet as 02, K10 says it: eight queues of packets, and the channel at which the next take starts.
-use Rattle.std.specs.Prelude.{Bool, cond, ◌&&◌, List, [], ◌∷◌, ◌++◌, ℕ, zero, suc, ◌*◌, eqb, leb, ltb, length}
+use Rattle.std.specs.Prelude.{cond, ◌&&◌, List, [], ◌∷◌, ◌++◌, ℕ, zero, suc, ◌*◌, eqb, leb, ltb, length}
 use Rattle.wire_spec.specs.declared.refusal.Refusal.{Refusal}
-use Rattle.wire_spec.specs.Result.{Result, refused, accepted, refuse, Checks, judge, ◌then◌}
+use Rattle.wire_spec.specs.Result.{Result, Err, Ok, refuse, Checks, judge, ◌then◌}
 
 -- "Eight channels share an outlet of 64 slots of 1,024 octets in lent memory, at most eight held by each channel."
 abbrev pub channels : ℕ
@@ -55,7 +55,7 @@ joined m c p = record { queue = replaced m.queue c (m.queue c ++ (p ∷ [])); ne
 
 -- "An offer is copied in or refused"
 abbrev pub offer : Model → ℕ → List ℕ → Result Model
-offer m c p = judge 0 (offer_checks c (length p) (length (m.queue c))) (accepted (joined m c p))
+offer m c p = judge 0 (offer_checks c (length p) (length (m.queue c))) (Ok (joined m c p))
 
 -- a channel's turn: its head, and what is behind it
 pub record Turn : Type 0 where
@@ -66,7 +66,7 @@ pub record Turn : Type 0 where
 -- "passing over empty ones"
 abbrev pub turn_at : ℕ → List (List ℕ) → Result Turn → Result Turn
 turn_at c [] r = r
-turn_at c (p ∷ ps) r = accepted (record { channel = c; packet = p; rest = ps })
+turn_at c (p ∷ ps) r = Ok (record { channel = c; packet = p; rest = ps })
 
 -- "the channels in a circle": the first of `n` channels from `c` on that holds a packet; "63 nothing waits"
 abbrev pub turn : ℕ → Queues → ℕ → Result Turn
@@ -75,7 +75,7 @@ turn (suc n) q c = turn_at c (q c) (turn n q (behind c))
 
 -- 23 where the `room` octets lent are too few
 abbrev pub hand_out : ℕ → Turn → Result Turn
-hand_out room t = judge 0 ((leb (length t.packet) room, 23) ∷ []) (accepted t)
+hand_out room t = judge 0 ((leb (length t.packet) room, 23) ∷ []) (Ok t)
 
 -- "a take hands out one packet"
 abbrev pub take : Model → ℕ → Result Turn
@@ -102,12 +102,12 @@ pub record Step : Type 0 where
 
 -- "A refusal changes nothing."
 abbrev pub after_offer : Model → Result Model → Step
-after_offer m (refused x) = record { model = m; answer = no x }
-after_offer m (accepted n) = record { model = n; answer = copied }
+after_offer m (Err x) = record { model = m; answer = no x }
+after_offer m (Ok n) = record { model = n; answer = copied }
 
 abbrev pub after_take : Model → Result Turn → Step
-after_take m (refused x) = record { model = m; answer = no x }
-after_take m (accepted t) = record { model = without m t; answer = handed t.channel t.packet }
+after_take m (Err x) = record { model = m; answer = no x }
+after_take m (Ok t) = record { model = without m t; answer = handed t.channel t.packet }
 
 abbrev pub step : Model → Call → Step
 step m (offering c p) = after_offer m (offer m c p)

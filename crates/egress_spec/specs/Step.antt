@@ -1,12 +1,10 @@
 -- What one call does to state, memory and what is lent for a packet (02, K10).
 use Rattle.std.specs.Prelude.{Bool, cond, ◌&&◌, List, [], ◌∷◌, ℕ, zero, suc, ◌+◌, ◌-◌, ◌*◌, ◌%◌, eqb, leb, ltb, get_or, take, drop, set}
 use Rattle.wire_spec.specs.Bits.{overwrite, splice}
-use Rattle.wire_spec.specs.Result.{Result, refused, accepted, judge}
+use Rattle.wire_spec.specs.Result.{Result, Err, Ok, judge}
 use Rattle.egress_spec.specs.declared.state.State.{State}
 use Rattle.egress_spec.specs.declared.state.Offered.{Offered}
-use Rattle.egress_spec.specs.declared.state.OfferAnswer.TheVariants as offer_answer
 use Rattle.egress_spec.specs.declared.state.Taken.{Taken}
-use Rattle.egress_spec.specs.declared.state.TakeAnswer.TheVariants as take_answer
 use Rattle.egress_spec.specs.Queues.{channels, max_held, slot_count, slot_size, memory_size, last_channel, offer_checks, behind}
 use Rattle.egress_spec.specs.Places.{used_below, sound}
 
@@ -40,17 +38,17 @@ kept_state st c s n =
 
 -- "Refusals, in order: 64 ..; 60 ..; 61 ..; 62 .."
 abbrev pub offer_of : State → (channel size memory : ℕ) → Result State
-offer_of st c n memory = judge 0 ((admits st memory, 64) ∷ offer_checks c n (get_or st.counts c 0)) (accepted (kept_state st c (free_slot st) n))
+offer_of st c n memory = judge 0 ((admits st memory, 64) ∷ offer_checks c n (get_or st.counts c 0)) (Ok (kept_state st c (free_slot st) n))
 
 -- "A refusal changes nothing."
 abbrev pub offered_of : State → Result State → Offered
-offered_of st (refused x) = record { state = st; answer = offer_answer.Refused x }
-offered_of st (accepted n) = record { state = n; answer = offer_answer.Copied }
+offered_of st (Err x) = record { state = st; answer = Err x }
+offered_of st (Ok n) = record { state = n; answer = Ok tt }
 
 -- the memory with the packet in the free slot
 abbrev pub memory_after : State → Result State → (packet memory : List ℕ) → List ℕ
-memory_after st (refused x) p m = m
-memory_after st (accepted n) p m = splice m (slot_size * free_slot st) p
+memory_after st (Err x) p m = m
+memory_after st (Ok n) p m = splice m (slot_size * free_slot st) p
 
 -- whose turn it is: the first of `n` channels from `c` on, in a circle, that holds a packet; 8 where none does
 unfoldable pub turn_of : ℕ → List ℕ → ℕ → ℕ
@@ -85,15 +83,15 @@ packet_at st m k = take (get_or st.lengths k 0) (drop (slot_size * get_or st.slo
 abbrev pub take_of : State → (memory room : ℕ) → Result ℕ
 take_of st memory room =
     judge 0 ((admits st memory, 64) ∷ (leb (turn_for st) last_channel, 63) ∷ (leb (head_length st (turn_for st)) room, 23) ∷ [])
-    (accepted (turn_for st))
+    (Ok (turn_for st))
 
 -- "A refusal changes nothing.", the turn included
 abbrev pub taken_of : State → Result ℕ → Taken
-taken_of st (refused x) = record { state = st; answer = take_answer.Refused x }
-taken_of st (accepted c) =
-    record { state = left_state st c; answer = take_answer.HandedOut c (record { 0 = head_length st c }) }
+taken_of st (Err x) = record { state = st; answer = Err x }
+taken_of st (Ok c) =
+    record { state = left_state st c; answer = Ok (record { channel = c; octets = record { 0 = head_length st c } }) }
 
 -- only the packet's octets are written
 abbrev pub out_after : State → List ℕ → Result ℕ → List ℕ → List ℕ
-out_after st m (refused x) out = out
-out_after st m (accepted c) out = overwrite (packet_at st m (head_place st c)) out
+out_after st m (Err x) out = out
+out_after st m (Ok c) out = overwrite (packet_at st m (head_place st c)) out

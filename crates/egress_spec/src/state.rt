@@ -14,6 +14,7 @@ pub const SLOT: usize = 1024;
 pub const MEMORY: usize = 65536;
 
 // A channel has eight places, `8 * c` to `8 * c + 7`, in a ring: its head is at place `heads[c]` of them, and it holds `counts[c]`.
+// Kept as four arrays: C's row has them one behind the other, and the laws of turns speak of heads and counts alone.
 #[derive(Clone, Copy)]
 pub struct State {
     pub heads: [u8; CHANNELS],
@@ -25,29 +26,23 @@ pub struct State {
     pub next: u8,
 }
 
-#[derive(Clone, Copy)]
-pub enum OfferAnswer {
-    Copied,
-    Refused(Refusal),
-}
-
 // The outlet then, and the answer to an offer.
 #[derive(Clone, Copy)]
 pub struct Offered {
     pub state: State,
-    pub answer: OfferAnswer,
+    pub answer: Result<(), Refusal>,
 }
 
 // A packet handed out stands in the first `octets` of what was lent.
 #[derive(Clone, Copy)]
-pub enum TakeAnswer {
-    HandedOut { channel: u8, octets: OctetCount },
-    Refused(Refusal),
+pub struct HandedOut {
+    pub channel: u8,
+    pub octets: OctetCount,
 }
 
 // The outlet then, and the answer to a take.
 #[derive(Clone, Copy)]
 pub struct Taken {
     pub state: State,
-    pub answer: TakeAnswer,
+    pub answer: Result<HandedOut, Refusal>,
 }

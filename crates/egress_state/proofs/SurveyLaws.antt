@@ -1,24 +1,22 @@
 -- One place more in a survey: what it says of the state, and which slots are then used.
 use mathlib.Core.Path.{◌≡◌, refl, sym, ◌∙◌, ap}
-use mathlib.Core.Bool.{Bool, true, false, true≢false, cond, not, ◌&&◌, ◌||◌, and-false}
-use mathlib.Core.List.{List, [], ◌∷◌}
-use Prim.Native.Nat.{ℕ, zero, suc, ◌+◌, ◌*◌, ◌/◌, ◌≤◌, ◌<◌}
+use mathlib.Core.Bool.{Bool, true, false, true≢false, ◌||◌, and-false}
+use mathlib.Core.List.{List}
+use Prim.Native.Nat.{ℕ, zero, suc, ◌+◌, ◌*◌, ◌/◌, ◌<◌}
 use native.Mathlib.Omega.{arith}
 use native.Mathlib.Numerals.{add-one}
-use lib.Dec.{eqb, leb, ltb}
+use lib.Dec.{eqb}
 use lib.ListN.{length, length-set, get_or, set, replicate}
 use lib.Seq.{get_or-set_same, get_or-set_other}
-use borrow.Author.Tests.{eqb-true, eqb-false, eq-eqb, ne_eqb, ltb-true}
+use borrow.Author.Tests.{eqb-true, eqb-false, eq-eqb, ne_eqb}
 use Rattle.egress_spec.specs.declared.state.State.{State}
-use Rattle.egress_state.specs.declared.survey.Seen.{Seen}
 use Rattle.egress_state.specs.Survey.{SeenOf}
-use Rattle.egress_spec.specs.Step.{admits}
 use Rattle.egress_spec.specs.Places.{held_at, held, slot_at, length_fits, used_below}
 use Rattle.egress_spec.specs.Places.{place_ok, all_upto, numbers_ok, sound}
 use mir.Val.{Fits}
 use mir.Syntax.{w64}
 use Rattle.egress_spec.proofs.PlaceLaws.{slot-fits}
-use Rattle.egress_spec.proofs.Upto.{and_left, and_right, upto-at, upto-fails, upto-more}
+use Rattle.egress_spec.proofs.Upto.{upto-fails, upto-more}
 
 -- the slots that are used at the places below `k`
 abbrev pub Marks : State → ℕ → List Bool → Type 0

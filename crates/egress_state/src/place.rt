@@ -45,13 +45,11 @@ pub fn turn(counts: [u8; CHANNELS], next: usize) -> usize
     ensures { result ≡ turn_of 8 counts next }
 {
     let mut c = next;
-    let mut n: usize = CHANNELS;
-    while 0 < n {
+    for _ in 0..CHANNELS {
         if counts[c] > 0 {
             return c;
         }
         c = behind(c);
-        n -= 1;
     }
     CHANNELS
 }

@@ -39,12 +39,10 @@ fn slot_fits(slot: u8) -> bool
 fn slots_fit(state: State) -> bool
     ensures { result ≡ all_upto (slot_ok state) 64 }
 {
-    let mut k: usize = 0;
-    while k < SLOTS {
+    for k in 0..SLOTS {
         if !slot_fits(state.slots[k]) {
             return false;
         }
-        k += 1;
     }
     true
 }
@@ -60,12 +58,10 @@ fn channel_fits(head: u8, count: u8) -> bool
 fn numbers_fit(state: State) -> bool
     ensures { result ≡ numbers_ok state }
 {
-    let mut c: usize = 0;
-    while c < CHANNELS {
+    for c in 0..CHANNELS {
         if !channel_fits(state.heads[c], state.counts[c]) {
             return false;
         }
-        c += 1;
     }
     if CHANNELS <= (state.next as usize) {
         return false;
@@ -83,12 +79,10 @@ pub fn survey(state: State, memory: usize) -> Seen
     if !numbers_fit(state) {
         return Seen { sound: false, used };
     }
-    let mut c: usize = 0;
-    while c < CHANNELS {
+    for c in 0..CHANNELS {
         let head = state.heads[c];
         let count = state.counts[c];
-        let mut i: usize = 0;
-        while i < HELD {
+        for i in 0..HELD {
             let k = HELD * c + i;
             if is_held(k, head, count) {
                 if !length_fits(state.lengths[k]) {
@@ -100,9 +94,7 @@ pub fn survey(state: State, memory: usize) -> Seen
                 }
                 used[slot] = true;
             }
-            i += 1;
         }
-        c += 1;
     }
     Seen { sound: true, used }
 }
@@ -111,12 +103,5 @@ pub fn survey(state: State, memory: usize) -> Seen
 pub fn free_slot(used: [bool; SLOTS]) -> usize
     ensures { result ≡ seek 64 (λ s. get_or used s false) 0 }
 {
-    let mut s: usize = 0;
-    while s < SLOTS {
-        if !used[s] {
-            return s;
-        }
-        s += 1;
-    }
-    s
+    used.iter().position(|taken| !*taken).unwrap_or(SLOTS)
 }

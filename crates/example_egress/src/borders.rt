@@ -1,7 +1,7 @@
 // Every number of an outlet's state tried at its borders (02, K10, refusal 64): a line for a number, and in
 // it a mark for each place of the state where it was put, `x` if a take then refuses with 64 and `.` if not.
 // Each channel holds four packets, in the first four of its eight places.
-use egress_spec::state::{CHANNELS, SLOT, SLOTS, State, TakeAnswer};
+use egress_spec::state::{CHANNELS, SLOT, SLOTS, State};
 use example_printing::{number, print};
 use std::io::Stdout;
 use wire_spec::refusal::Refusal;
@@ -25,11 +25,8 @@ fn is_unsound(state: State, memory: &[u8]) -> bool {
     let taken = egress::take(state, memory, &mut out);
     let answer = taken.answer;
     match answer {
-        TakeAnswer::Refused(refusal) => refusal.number == Refusal::OUTLET_UNSOUND,
-        TakeAnswer::HandedOut {
-            channel: _,
-            octets: _,
-        } => false,
+        Err(refusal) => refusal.number == Refusal::OUTLET_UNSOUND,
+        Ok(_) => false,
     }
 }
 

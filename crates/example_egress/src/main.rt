@@ -4,7 +4,7 @@
 // served in its turn. Every call and its answer is printed. Then the states that 64 refuses (`borders`).
 mod borders;
 
-use egress_spec::state::{CHANNELS, MEMORY, OfferAnswer, State, TakeAnswer};
+use egress_spec::state::{CHANNELS, HandedOut, MEMORY, State};
 use example_printing::{number, print, print_octets, print_refusal};
 use std::io::Stdout;
 
@@ -19,8 +19,8 @@ fn offer(stdout: Stdout, state: State, channel: u8, packet: u8, memory: &mut [u8
     let offered = egress::offer(state, channel, &octets, memory);
     let answer = offered.answer;
     match answer {
-        OfferAnswer::Copied => print(stdout, b"copied\n"),
-        OfferAnswer::Refused(refusal) => print_refusal(stdout, refusal),
+        Ok(()) => print(stdout, b"copied\n"),
+        Err(refusal) => print_refusal(stdout, refusal),
     }
     offered.state
 }
@@ -32,8 +32,8 @@ fn take(stdout: Stdout, state: State, memory: &[u8]) -> State {
     print(stdout, b"take: ");
     let answer = taken.answer;
     match answer {
-        TakeAnswer::Refused(refusal) => print_refusal(stdout, refusal),
-        TakeAnswer::HandedOut { channel, octets } => {
+        Err(refusal) => print_refusal(stdout, refusal),
+        Ok(HandedOut { channel, octets }) => {
             let n = octets.0;
             number(stdout, b"channel ", channel as u64);
             print(stdout, b" ");

@@ -5,22 +5,20 @@
 ghost use Rattle.std.specs.Prelude.{◌≤◌, length};
 
 use example_printing::{number, print_cells, print_octets, print_refusal};
-use fieldfile_reader::field::FieldRead;
 use fieldfile_spec::format::HEAD_SIZE;
 use std::fs::File;
 use std::io;
 use std::io::{Read, Stdout, Write};
 use wire_spec::count::OctetCount;
 use wire_spec::number::Timestamp;
-use wire_spec::written::Written;
 
 // Writes the first octets of a file.
 fn begin(stdout: Stdout, to: &mut File) {
     let mut out = [0u8; 64];
     let begun = fieldfile_writer::begin(&mut out);
     match begun {
-        Written::Refused(refusal) => print_refusal(stdout, refusal),
-        Written::Octets(at) => {
+        Err(refusal) => print_refusal(stdout, refusal),
+        Ok(at) => {
             let n = at.0;
             if n <= 64 {
                 let _ = to.write_all(&out[..n]);
@@ -34,8 +32,8 @@ fn append(stdout: Stdout, to: &mut File, time: u32, f: u8, cells: &[u16]) {
     let mut out = [0u8; 64];
     let written = fieldfile_writer::write_field(Timestamp(time), f, cells, &mut out);
     match written {
-        Written::Refused(refusal) => print_refusal(stdout, refusal),
-        Written::Octets(size) => {
+        Err(refusal) => print_refusal(stdout, refusal),
+        Ok(size) => {
             let n = size.0;
             if n <= 64 {
                 let _ = to.write_all(&out[..n]);
@@ -49,11 +47,11 @@ fn show(stdout: Stdout, file: &[u8], at: usize) -> usize {
     let mut cells = [0u16; 32];
     let read = fieldfile_reader::read_field(file, OctetCount(at), &mut cells);
     match read {
-        FieldRead::Refused(refusal) => {
+        Err(refusal) => {
             print_refusal(stdout, refusal);
             at
         }
-        FieldRead::Field(summary) => {
+        Ok(summary) => {
             let time = summary.timestamp;
             let next = summary.next;
             number(stdout, b"at=", at as u64);
@@ -113,6 +111,7 @@ fn read_full(file: &mut File, octets: &mut [u8]) -> usize
     ensures { result ≤ length octets.new }
 {
     let mut done = 0;
+    // Kept as a while: a read may take fewer octets than there is room for.
     while done < octets.len() {
         match file.read(&mut octets[done..]) {
             Ok(0) => return done,

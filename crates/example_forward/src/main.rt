@@ -6,15 +6,16 @@
 ghost use Rattle.std.specs.Prelude.{◌<◌};
 
 use anc_record::header::Header;
-use depacketizer::state::{Depacketizer, Opened};
+use depacketizer::state::Depacketizer;
 use depacketizer_forward::packet_cells;
 use depacketizer_spec::state::{Answer, Field};
 use example_printing::{number, print, print_octets, print_refusal};
 use rtp_strict_reader::packet::Head;
 use std::io::Stdout;
+use wire_spec::count::OctetCount;
 use wire_spec::layout::Layout;
 use wire_spec::number::{PacketNumber, Timestamp};
-use wire_spec::written::Written;
+use wire_spec::refusal::Refusal;
 
 const PACKETS: usize = 9;
 
@@ -55,10 +56,10 @@ fn head(packet: u32, marker: bool, time: Timestamp, f: u8) -> Head {
 }
 
 // The octets written, or 0.
-fn size_of(stdout: Stdout, written: Written) -> usize {
+fn size_of(stdout: Stdout, written: Result<OctetCount, Refusal>) -> usize {
     match written {
-        Written::Octets(size) => size.0,
-        Written::Refused(refusal) => {
+        Ok(size) => size.0,
+        Err(refusal) => {
             print_refusal(stdout, refusal);
             0
         }
@@ -152,14 +153,12 @@ fn forward_field(stdout: Stdout, field: Field, k: usize, store: &[u16])
     }
     let first = k + 1 - field.packets;
     let mut rest = store;
-    let mut index: u16 = 0;
-    while (index as usize) < field.packets {
+    for index in 0..field.packets as u16 {
         let n = send_on(stdout, field, first, index, rest);
         if n > rest.len() {
             return;
         }
         rest = &rest[n..];
-        index += 1;
     }
 }
 
@@ -208,7 +207,7 @@ fn arrive(stdout: Stdout, state: Depacketizer, k: usize, store: &mut [u16]) -> D
 fn main(rt: HostRuntime) {
     let stdout = rt.stdout();
     let opened = Depacketizer::open(1, 112);
-    let Opened::Open(depacketizer) = opened else {
+    let Ok(depacketizer) = opened else {
         return;
     };
     let mut now = depacketizer;

@@ -6,12 +6,11 @@ ghost use Rattle.std.specs.Prelude.{◌<◌};
 
 use anc_record::header::Header;
 use example_printing::{number, print, print_refusal};
-use rtp_strict_reader::packet::{Head, Read};
+use rtp_strict_reader::packet::Head;
 use std::io::Stdout;
 use wire_spec::layout::{FRONT_SIZE, LEAST_CLEAR, Layout, MOST_CLEAR};
 use wire_spec::limit::{MAX_CELLS, MAX_PACKET, MAX_RECORDS};
 use wire_spec::number::{PacketNumber, Timestamp};
-use wire_spec::written::Written;
 
 // Record A of 01.
 const A: [u16; Header::CELLS] = [0, 9, 0, 0, 0, 0x41, 5, 0, 0];
@@ -59,8 +58,8 @@ fn sum(cells: &[u16]) -> u16 {
 fn read_back(stdout: Stdout, octets: &[u8], cells: &mut [u16]) {
     let read = rtp_strict_reader::read_strict(Layout::Rfc8331, octets, cells);
     match read {
-        Read::Refused(refusal) => print_refusal(stdout, refusal),
-        Read::Packet(summary) => {
+        Err(refusal) => print_refusal(stdout, refusal),
+        Ok(summary) => {
             let n = summary.cells;
             number(stdout, b"read ", summary.records as u64);
             number(stdout, b" ", n as u64);
@@ -76,8 +75,8 @@ fn read_back(stdout: Stdout, octets: &[u8], cells: &mut [u16]) {
 fn there_and_back(stdout: Stdout, list: &[u16], out: &mut [u8], cells: &mut [u16]) {
     let written = rtp_writer::write(Layout::Rfc8331, head(), list, out);
     match written {
-        Written::Refused(refusal) => print_refusal(stdout, refusal),
-        Written::Octets(size) => {
+        Err(refusal) => print_refusal(stdout, refusal),
+        Ok(size) => {
             let n = size.0;
             number(stdout, b"written ", n as u64);
             print(stdout, b" ");
@@ -181,7 +180,7 @@ fn run_bits(stdout: Stdout, packet: &mut [u8], cells: &mut [u16]) {
 fn run_changes(stdout: Stdout, out: &mut [u8], cells: &mut [u16]) {
     let a = A;
     let written = rtp_writer::write(Layout::Rfc8331, head(), &a, out);
-    let Written::Octets(size) = written else {
+    let Ok(size) = written else {
         return;
     };
     let n = size.0;

@@ -3,11 +3,10 @@
 // then what was read and its cells. The first four are the frames of 01, "`fieldlist`"; the last are in the layout of the drafts of
 // 2015 (02, K3).
 use example_printing::{number, print, print_cells, print_octets, print_refusal};
-use rtp_strict_reader::packet::{Head, Read};
+use rtp_strict_reader::packet::Head;
 use std::io::Stdout;
 use wire_spec::layout::Layout;
 use wire_spec::number::{PacketNumber, Timestamp};
-use wire_spec::written::Written;
 
 fn print_head(stdout: Stdout, head: Head) {
     let packet = head.number;
@@ -27,8 +26,8 @@ fn read_back(stdout: Stdout, layout: Layout, octets: &[u8]) {
     let mut cells = [0u16; 32];
     let read = rtp_strict_reader::read_strict(layout, octets, &mut cells);
     match read {
-        Read::Refused(refusal) => print_refusal(stdout, refusal),
-        Read::Packet(summary) => {
+        Err(refusal) => print_refusal(stdout, refusal),
+        Ok(summary) => {
             number(stdout, b"records=", summary.records as u64);
             let head = summary.head;
             print_head(stdout, head);
@@ -45,8 +44,8 @@ fn there_and_back(stdout: Stdout, layout: Layout, head: Head, cells: &[u16]) {
     let mut out = [0u8; 64];
     let written = rtp_writer::write(layout, head, cells, &mut out);
     match written {
-        Written::Refused(refusal) => print_refusal(stdout, refusal),
-        Written::Octets(size) => {
+        Err(refusal) => print_refusal(stdout, refusal),
+        Ok(size) => {
             let n = size.0;
             if n <= 64 {
                 print_octets(stdout, &out[..n]);

@@ -51,24 +51,15 @@ fn put_cell(out: &mut [u8], at: usize, i: u64, j: u64, k: u64, l: u16, r: u16) -
     put_sides(out, next, b" ", l as u64, r as u64)
 }
 
-fn least(a: usize, b: usize) -> usize
-    ensures { result ≡ min a b }
-{
-    if a < b { a } else { b }
-}
-
 // The lines of the record `j` of both fields at the position `i`, from its cells: as far as both go.
 pub fn put_cells(out: &mut [u8], at: usize, i: u64, j: u64, left: &[u16], right: &[u16]) -> usize
     requires { at + line_room * min (length left.now) (length right.now) ≤ length out.old }
     ensures put { Put out.old at (diff_text (cell_lines i j left.now right.now)) out.new result }
     ensures upper_bound { result ≤ at + line_room * min (length left.now) (length right.now) }
 {
-    let n = least(left.len(), right.len());
-    let mut k: usize = 0;
     let mut to = at;
-    while k < n {
+    for k in 0..left.len().min(right.len()) {
         to = put_cell(out, to, i, j, k as u64, left[k], right[k]);
-        k += 1;
     }
     to
 }

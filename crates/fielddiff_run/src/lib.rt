@@ -3,14 +3,15 @@
 // lines of a record, or writing the text that waits. Each function asks that places lie within the buffers. `lread` and `rread` hold octets of the left and
 // the right file, `lstore` and `rstore` the cells of a field of either.
 ghost use Rattle.std.specs.Prelude.{◌≡◌, ◌+◌, ◌^◌, ◌<◌, ◌≤◌, length};
-ghost use Rattle.fielddiff_turn.specs.Turns.{Bounds, Ended, Enough, Now, Stands, Turned, text_room};
+ghost use Rattle.program_spec.specs.Turns.{Stopped, max_turns};
+ghost use Rattle.fielddiff_side.specs.Side.{opened};
+ghost use Rattle.fielddiff_turn.specs.Turns.{At, Bounds, Ended, Enough, Now, Stands, Turned, at, started, text_room, turning};
 
 use fielddiff_side::{Side, advance, is_reading};
 use fielddiff_turn::{
     Phase, Run, TEXT_ROOM, close, flush, print_places, start, turn_records, with_left, with_right,
 };
-use program::buffers::turns_left;
-use program::progress::is_watched;
+use program::progress::{is_watched, show};
 use program::streams::{Sink, Source};
 use program_arguments::failures::{fail_to_read, fail_to_write};
 use std::io::Stderr;
@@ -21,6 +22,7 @@ const INPUT_SIZE: usize = 65536;
 const TEXT_SIZE: usize = 2 * TEXT_ROOM;
 
 // Before the lines of a position: a turn of a file that is being read, or these lines.
+// Kept as parameters of both files: of a struct of `&mut` fields each function would have to say that every field holds the same reference still.
 fn turn_places(
     left_from: &mut Source,
     right_from: &mut Source,
@@ -79,8 +81,11 @@ pub fn turn(
 
 // `failed` lasts for one turn, so that a read that failed is reported once.
 fn report_read(err: Stderr, side: Side, name: &[u8], from: &Source) {
-    if side.failed {
-        fail_to_read(err, b"fielddiff", name, from.reason());
+    if !side.failed {
+        return;
+    }
+    if let Some(reason) = from.reason() {
+        fail_to_read(err, b"fielddiff", name, reason);
     }
 }
 
@@ -96,6 +101,41 @@ fn report_reads(
     let right = run.right;
     report_read(err, left, left_name, left_from);
     report_read(err, right, right_name, right_from);
+}
+
+// Turn after turn, until the list ends, a read fails in the middle of a file, or a write fails; a proved loop ends, so 2^64 - 1 at the most.
+fn make_turns(
+    left_from: &mut Source,
+    right_from: &mut Source,
+    to: &mut Sink,
+    err: Stderr,
+    lopen: bool,
+    ropen: bool,
+    watched: Option<Stderr>,
+    left_name: &[u8],
+    right_name: &[u8],
+    lread: &mut [u8],
+    rread: &mut [u8],
+    lstore: &mut [u16],
+    rstore: &mut [u16],
+    out: &mut [u8],
+) -> Run
+    requires { Enough (length lread.old) (length rread.old) (length lstore.old) (length rstore.old) (length out.old) }
+    ensures { (from : At) × (from.run ≡ started (opened lopen) (opened ropen)) × Stopped turning max_turns from (at result lread.new rread.new lstore.new rstore.new out.new) }
+{
+    let mut run = start(fielddiff_side::start(lopen), fielddiff_side::start(ropen));
+    for made in 0..u64::MAX {
+        run = turn(
+            left_from, right_from, to, run, lread, rread, lstore, rstore, out,
+        );
+        let goes_on = run.open;
+        show(made + 1, goes_on, watched);
+        report_reads(err, run, left_name, left_from, right_name, right_from);
+        if !goes_on {
+            break;
+        }
+    }
+    run
 }
 
 // Prints the differences of two files, each open for reading, or not open and read as empty. Where the run
@@ -119,15 +159,10 @@ pub fn compare_within(
     requires { Enough (length lread.old) (length rread.old) (length lstore.old) (length rstore.old) (length out.old) }
     ensures { Ended lopen ropen lread.new rread.new lstore.new rstore.new out.new result }
 {
-    let mut run = start(fielddiff_side::start(lopen), fielddiff_side::start(ropen));
-    let mut turns = u64::MAX;
-    while turns > 0 {
-        run = turn(
-            left_from, right_from, to, run, lread, rread, lstore, rstore, out,
-        );
-        turns = turns_left(turns, run.open, watched);
-        report_reads(err, run, left_name, left_from, right_name, right_from);
-    }
+    let run = make_turns(
+        left_from, right_from, to, err, lopen, ropen, watched, left_name, right_name, lread, rread,
+        lstore, rstore, out,
+    );
     close(to, run, out)
 }
 
@@ -164,7 +199,10 @@ pub fn compare(
         &mut rstore,
         &mut out,
     );
-    if after.filled > 0 {
-        fail_to_write(rt.stderr(), b"fielddiff", b"", to.reason());
+    if after.filled == 0 {
+        return;
+    }
+    if let Some(reason) = to.reason() {
+        fail_to_write(rt.stderr(), b"fielddiff", b"", reason);
     }
 }

@@ -12,7 +12,7 @@ use lib.ListN.{length, take, drop}
 use Rattle.wire_spec.specs.declared.refusal.Refusal.{Refusal}
 use Rattle.wire_spec.specs.Bits.{splice}
 use Rattle.wire_spec.specs.Layout.{rfc8331}
-use Rattle.wire_spec.specs.Result.{Result, refused, accepted, refuse, Checks, judge, ◌then◌}
+use Rattle.wire_spec.specs.Result.{Result, Err, Ok, refuse, Checks, judge, ◌then◌}
 use Rattle.wire_spec.specs.Anc.{Record, Each, anc_size, data_count, read_anc, behind, read_run, run_size}
 use Rattle.wire_spec.specs.Cells.{cells_of, head_cells, list_of}
 use Rattle.wire_spec.specs.Writing.{max_field_records, max_field_cells}
@@ -36,32 +36,31 @@ use Rattle.fieldfile_scan.specs.declared.state.Part.{Part}
 use Rattle.fieldfile_scan.specs.declared.state.State.{State}
 use Rattle.fieldfile_scan.specs.declared.state.State.TheVariants as state
 use Rattle.fieldfile_scan.specs.declared.state.Scanned.{Scanned}
-use Rattle.fieldfile_scan.specs.declared.state.Scanned.TheVariants as scanned
 use Rattle.fieldfile_scan.specs.Scan.{InReach, Reachable, field_begun, finished, header_scanned, kept_of, onward, packet_of, part_kept, part_scanned, scan, store_then}
 use Rattle.fielddiff_side.specs.declared.Standing.TheVariants as held
 use Rattle.fielddiff_side.specs.Side.{HeldReachable, Short, StandsAs, stood_as, used_of}
 
 -- a refusal: 54 is only the end
-stops-stand : (n : ℕ) (store : List ℕ) (x : Refusal) → x.number ≡ n → (i : ℕ) → StandsAs (stood_as (scanned.Refused (record { number = n; index = i }))) store (over x)
+stops-stand : (n : ℕ) (store : List ℕ) (x : Refusal) → x.number ≡ n → (i : ℕ) → StandsAs (stood_as (Err (record { number = n; index = i }))) store (over x)
 stops-stand n store x e i = go (eqb n end_number) refl
   where
-    go : (b : Bool) → eqb n end_number ≡ b → StandsAs (stood_as (scanned.Refused (record { number = n; index = i }))) store (over x)
+    go : (b : Bool) → eqb n end_number ≡ b → StandsAs (stood_as (Err (record { number = n; index = i }))) store (over x)
     go true h = rw h (x, refl, e ∙ eqb-true n end_number h)
     go false h = rw h (x, refl, e, eqb-false n end_number h)
 
-stops-reach : (x : Refusal) → HeldReachable (stood_as (scanned.Refused x))
+stops-reach : (x : Refusal) → HeldReachable (stood_as (Err x))
 stops-reach x = go (eqb x.number end_number) refl
   where
-    go : (b : Bool) → eqb x.number end_number ≡ b → HeldReachable (stood_as (scanned.Refused x))
+    go : (b : Bool) → eqb x.number end_number ≡ b → HeldReachable (stood_as (Err x))
     go true h = rw h tt
     go false h = rw h tt
 
 -- a turn reaches a state that the next can start from, and uses no more octets than are at hand
-pub record Steps (y : Scanned) (w : List ℕ) : Type 0 where
+pub record Steps (y : Result Scanned) (w : List ℕ) : Type 0 where
   pub reach : HeldReachable (stood_as y)
   pub fits : used_of y ≤ length w
 
-steps-stops : (x : Refusal) (w : List ℕ) → Steps (scanned.Refused x) w
+steps-stops : (x : Refusal) (w : List ℕ) → Steps (Err x) w
 steps-stops x w = record { reach = stops-reach x; fits = omega arith }
 
 count-below : (v : Version) (w : List ℕ) → count_field v w < 65536
@@ -72,10 +71,10 @@ head-there : (w : List ℕ) → Passed (file_checks w) → file_head_size ≤ le
 unfolding file_checks
 head-there w p = leb-true file_head_size (length w) (and-true (leb file_head_size (length w)) (is_version (version_field w)) p.1.0).0
 
-head-steps : (w : List ℕ) (r : Result ℕ) → judge 0 (file_checks w) (accepted file_head_size) ≡ r → Steps (onward (state.Between (version_of w)) r) w
-head-steps w (refused x) e = steps-stops x w
-head-steps w (accepted n) e =
-    let p = judge-accepts 0 (file_checks w) (accepted file_head_size) n e in
+head-steps : (w : List ℕ) (r : Result ℕ) → judge 0 (file_checks w) (Ok file_head_size) ≡ r → Steps (onward (state.Between (version_of w)) r) w
+head-steps w (Err x) e = steps-stops x w
+head-steps w (Ok n) e =
+    let p = judge-accepts 0 (file_checks w) (Ok file_head_size) n e in
     let k : file_head_size ≡ n = accepted-inj p.1 in
     record { reach = tt; fits = omega (arith, head-there w p.0, k) }
 
@@ -85,7 +84,7 @@ header-steps v [] = steps-stops end_of_file []
 header-steps v (o ∷ w) = go (leb (field_header_size v) (length (o ∷ w))) refl (file_f_ok (file_f_field (o ∷ w)))
   where
     go : (a : Bool) → leb (field_header_size v) (length (o ∷ w)) ≡ a → (b : Bool)
-        → Steps (onward (state.Within (field_begun v (o ∷ w))) (cond a (cond b (accepted (field_header_size v)) (refuse 53 0)) (refuse 52 0))) (o ∷ w)
+        → Steps (onward (state.Within (field_begun v (o ∷ w))) (cond a (cond b (Ok (field_header_size v)) (refuse 53 0)) (refuse 52 0))) (o ∷ w)
     go false e b = steps-stops (record { number = 52; index = 0 }) (o ∷ w)
     go true e false = steps-stops (record { number = 53; index = 0 }) (o ∷ w)
     go true e true = record { reach = (omega (arith, count-below v (o ∷ w)), omega arith); fits = leb-true (field_header_size v) (length (o ∷ w)) e }
@@ -101,7 +100,7 @@ record-size : (r : Record) → length (cells_of r) ≡ head_cells + length r.wor
 record-size r = omega arith
 
 -- the octets and the words of a packet
-one_size : (w : List ℕ) (r : Record) → read_anc rfc8331 0 w ≡ accepted r → (anc_size rfc8331 (data_count rfc8331 w) ≡ run_size rfc8331 (r ∷ [])) × Short r
+one_size : (w : List ℕ) (r : Record) → read_anc rfc8331 0 w ≡ Ok r → (anc_size rfc8331 (data_count rfc8331 w) ≡ run_size rfc8331 (r ∷ [])) × Short r
 one_size w r e =
     let c = count-read rfc8331 w 0 r e in
     let d : data_count rfc8331 w < 256 = mod-lt _ (lit< tt) in
@@ -110,9 +109,9 @@ one_size w r e =
 packet-steps : (p : Part) (n : ℕ) (w : List ℕ) → p.left ≡ suc n → InReach p → Steps (packet_of p (read_run rfc8331 0 1 w)) w
 packet-steps p n w eq reach = subst (λ (r : Result (List Record × List ℕ)). Steps (packet_of p r) w) (sym (run-one rfc8331 0 w)) (go (read_anc rfc8331 0 w) refl)
   where
-    go : (r : Result Record) → read_anc rfc8331 0 w ≡ r → Steps (packet_of p (r then λ z. accepted (z ∷ [], behind rfc8331 w))) w
-    go (refused x) e = steps-stops (record { number = x.number; index = p.records }) w
-    go (accepted r) e =
+    go : (r : Result Record) → read_anc rfc8331 0 w ≡ r → Steps (packet_of p (r then λ z. Ok (z ∷ [], behind rfc8331 w))) w
+    go (Err x) e = steps-stops (record { number = x.number; index = p.records }) w
+    go (Ok r) e =
         let o = one_size w r e in
         let l : length (list_of (r ∷ [])) ≡ head_cells + length r.words = ap length (append-nil (cells_of r)) ∙ record-size r in
         record { reach = (omega (arith, eq, reach.0), omega (arith, reach.1, l, o.1)); fits = omega (arith, anc-fits 0 w r e, o.0) }
@@ -122,22 +121,22 @@ part-steps p zero w eq reach = limit-steps p w (within_limits p.records p.cells)
 part-steps p (suc n) w eq reach = packet-steps p n w eq reach
 
 pub scan_steps : (st : State) (w : List ℕ) → Reachable st → Steps (scan st w) w
-scan_steps state.Start w h = head-steps w (judge 0 (file_checks w) (accepted file_head_size)) refl
+scan_steps state.Start w h = head-steps w (judge 0 (file_checks w) (Ok file_head_size)) refl
 scan_steps (state.Between v) w h = header-steps v w
 scan_steps (state.Within p) w h = part-steps p p.left w refl h
 
 -- what a turn of the code says of the file
-pub record Went (y : Scanned) (w store' : List ℕ) (x : Standing) : Type 0 where
+pub record Went (y : Result Scanned) (w store' : List ℕ) (x : Standing) : Type 0 where
   pub to : Standing
   pub stands : StandsAs (stood_as y) store' to
   pub same : (s : List ℕ) → AtHand (most_size rfc8331) w s → rest_of x s ≡ rest_of to (drop (used_of y) s)
 
 -- a turn of the code beside one of the definition
-record Tied (v : Version) (t : Turn) (y : Scanned) (store' : List ℕ) : Type 0 where
+record Tied (v : Version) (t : Turn) (y : Result Scanned) (store' : List ℕ) : Type 0 where
   pub stands : StandsAs (stood_as y) store' (standing_after v t)
   pub left : (s : List ℕ) → left_after t s ≡ drop (used_of y) s
 
-tied-stops : (v : Version) (x : Refusal) (n i : ℕ) (store : List ℕ) → x.number ≡ n → Tied v (stops x) (scanned.Refused (record { number = n; index = i })) store
+tied-stops : (v : Version) (x : Refusal) (n i : ℕ) (store : List ℕ) → x.number ≡ n → Tied v (stops x) (Err (record { number = n; index = i })) store
 tied-stops v x n i store e = record { stands = stops-stand n store x e i; left = λ s. refl }
 
 -- A FIELD'S HEADER
@@ -148,8 +147,8 @@ header-tied v (o ∷ w) store room = go (leb (field_header_size v) (length (o �
   where
     go : (a : Bool) → leb (field_header_size v) (length (o ∷ w)) ≡ a → (b : Bool)
         → Tied v
-        (turn_of (cond a (cond b (accepted (goes (within (timestamp_field (o ∷ w)) (file_f_field (o ∷ w)) (count_field v (o ∷ w)) []) (field_header_size v))) (refuse 53 0)) (refuse 52 0)))
-        (onward (state.Within (field_begun v (o ∷ w))) (cond a (cond b (accepted (field_header_size v)) (refuse 53 0)) (refuse 52 0))) store
+        (turn_of (cond a (cond b (Ok (goes (within (timestamp_field (o ∷ w)) (file_f_field (o ∷ w)) (count_field v (o ∷ w)) []) (field_header_size v))) (refuse 53 0)) (refuse 52 0)))
+        (onward (state.Within (field_begun v (o ∷ w))) (cond a (cond b (Ok (field_header_size v)) (refuse 53 0)) (refuse 52 0))) store
     go false e b = tied-stops v (record { number = 52; index = 0 }) 52 0 store refl
     go true e false = tied-stops v (record { number = 53; index = 0 }) 53 0 store refl
     go true e true =
@@ -188,7 +187,7 @@ module _ (p : Part) (rs : List Record) (w store : List ℕ) (holds : Holds (reco
   each_append (x ∷ xs) r h k = (h.0, each_append xs r h.1 k)
 
   -- the store keeps what the definition holds
-  kept-holds : (r : Record) → Holds (record { records = p.records + 1; cells = p.cells + length (list_of (r ∷ [])); store = kept_of p (accepted (r ∷ [], behind rfc8331 w)) store }) (rs ++ (r ∷ []))
+  kept-holds : (r : Record) → Holds (record { records = p.records + 1; cells = p.cells + length (list_of (r ∷ [])); store = kept_of p (Ok (r ∷ [], behind rfc8331 w)) store }) (rs ++ (r ∷ []))
   kept-holds r =
       let h : Held = record { records = p.records; cells = p.cells; store = store } in
       let one : cells_of r ≡ list_of (r ∷ []) = sym (append-nil (cells_of r)) in
@@ -196,7 +195,7 @@ module _ (p : Part) (rs : List Record) (w store : List ℕ) (holds : Holds (reco
       subst (λ (z : Held). Holds z (rs ++ (r ∷ []))) (λ i. record { records = p.records + 1; cells = p.cells + n i; store = (stored r one n i) }) (holds_more h rs r holds)
     where
       stored : (r : Record) → cells_of r ≡ list_of (r ∷ []) → (n : head_cells + length r.words ≡ length (list_of (r ∷ [])))
-          → cond (within_limits (p.records + 1) (p.cells + (head_cells + length r.words))) (splice store p.cells (cells_of r)) store ≡ kept_of p (accepted (r ∷ [], behind rfc8331 w)) store
+          → cond (within_limits (p.records + 1) (p.cells + (head_cells + length r.words))) (splice store p.cells (cells_of r)) store ≡ kept_of p (Ok (r ∷ [], behind rfc8331 w)) store
       stored r one n =
           (λ i. cond (within_limits (p.records + 1) (p.cells + n i)) (splice store p.cells (one i)) store)
           ∙ go (within_limits (p.records + 1) (p.cells + length (list_of (r ∷ [])))) refl
@@ -214,16 +213,16 @@ module _ (p : Part) (rs : List Record) (w store : List ℕ) (holds : Holds (reco
   unfolding window.turn
   packet-tied n eq =
       subst (λ (r : Result (List Record × List ℕ)). Tied p.version (turn_of (read_anc rfc8331 (length rs) w then on_record)) (packet_of p r) (kept_of p r store)) (sym (run-one rfc8331 0 w))
-      (subst (λ (r : Result Record). Tied p.version (turn_of (r then on_record)) (packet_of p (read_anc rfc8331 0 w then λ z. accepted (z ∷ [], behind rfc8331 w))) (kept_of p (read_anc rfc8331 0 w then λ z. accepted (z ∷ [], behind rfc8331 w)) store)) (sym (anc-index rfc8331 (length rs) 0 w))
+      (subst (λ (r : Result Record). Tied p.version (turn_of (r then on_record)) (packet_of p (read_anc rfc8331 0 w then λ z. Ok (z ∷ [], behind rfc8331 w))) (kept_of p (read_anc rfc8331 0 w then λ z. Ok (z ∷ [], behind rfc8331 w)) store)) (sym (anc-index rfc8331 (length rs) 0 w))
       (go (read_anc rfc8331 0 w) refl))
     where
       on_record : Record → Result Turn
-      on_record r = accepted (goes (within p.timestamp.0 p.f n (rs ++ (r ∷ []))) (anc_size rfc8331 (data_count rfc8331 w)))
+      on_record r = Ok (goes (within p.timestamp.0 p.f n (rs ++ (r ∷ []))) (anc_size rfc8331 (data_count rfc8331 w)))
 
       go : (r : Result Record) → read_anc rfc8331 0 w ≡ r
-          → Tied p.version (turn_of (reindex (length rs) r then on_record)) (packet_of p (r then λ z. accepted (z ∷ [], behind rfc8331 w))) (kept_of p (r then λ z. accepted (z ∷ [], behind rfc8331 w)) store)
-      go (refused x) e = tied-stops p.version (record { number = x.number; index = length rs }) x.number p.records store refl
-      go (accepted r) e =
+          → Tied p.version (turn_of (reindex (length rs) r then on_record)) (packet_of p (r then λ z. Ok (z ∷ [], behind rfc8331 w))) (kept_of p (r then λ z. Ok (z ∷ [], behind rfc8331 w)) store)
+      go (Err x) e = tied-stops p.version (record { number = x.number; index = length rs }) x.number p.records store refl
+      go (Ok r) e =
           let o = one_size w r e in
           let m : n ≡ p.left - 1 = omega (arith, eq) in
           record {
@@ -236,7 +235,7 @@ module _ (p : Part) (rs : List Record) (w store : List ℕ) (holds : Holds (reco
   part-tied (suc n) eq = packet-tied n eq
 
 -- a turn in the fields
-tied-went : (v : Version) (st : window.State) (y : Scanned) (w store' : List ℕ) → Tied v (window.turn st w) y store' → Went y w store' (reading v st)
+tied-went : (v : Version) (st : window.State) (y : Result Scanned) (w store' : List ℕ) → Tied v (window.turn st w) y store' → Went y w store' (reading v st)
 tied-went v st y w store' t =
     record {
       to = standing_after v (window.turn st w);
@@ -245,23 +244,23 @@ tied-went v st y w store' t =
     }
 
 -- THE HEAD
-refused-any : {A B : Type 0} (ts : Checks) (a : A) (x : Refusal) (r : Result B) → judge 0 ts (accepted a) ≡ refused x → judge 0 ts r ≡ refused x
+refused-any : {A B : Type 0} (ts : Checks) (a : A) (x : Refusal) (r : Result B) → judge 0 ts (Ok a) ≡ Err x → judge 0 ts r ≡ Err x
 refused-any [] a x r e = let z : ◌≡◌ {A = ℕ} 0 1 = cc in absurd (omega arith)
 refused-any ((true, n) ∷ ts) a x r e = refused-any ts a x r e
-refused-any ((false, n) ∷ ts) a x r e = let q : record { number = n; index = 0 } ≡ x = cc in ap refused q
+refused-any ((false, n) ∷ ts) a x r e = let q : record { number = n; index = 0 } ≡ x = cc in ap Err q
 
 head_near : (w s : List ℕ) → AtHand (most_size rfc8331) w s → (file_checks s ≡ file_checks w) × (version_of s ≡ version_of w)
 head_near w s h = head-at-hand w s (fewer file_head_size (most_size rfc8331) w s (rw (size-rfc8331 255) (omega arith)) h)
 
-head-went : (store w : List ℕ) (r : Result ℕ) → judge 0 (file_checks w) (accepted file_head_size) ≡ r → Went (onward (state.Between (version_of w)) r) w store starts
-head-went store w (refused x) e =
+head-went : (store w : List ℕ) (r : Result ℕ) → judge 0 (file_checks w) (Ok file_head_size) ≡ r → Went (onward (state.Between (version_of w)) r) w store starts
+head-went store w (Err x) e =
     record {
       to = over x;
       stands = stops-stand x.number store x refl x.index;
-      same = λ s h. head-refused s x (ap (λ (ts : Checks). judge {A = Unit {0}} 0 ts (accepted tt)) (head_near w s h).0 ∙ refused-any (file_checks w) file_head_size x (accepted tt) e);
+      same = λ s h. head-refused s x (ap (λ (ts : Checks). judge {A = Unit {0}} 0 ts (Ok tt)) (head_near w s h).0 ∙ refused-any (file_checks w) file_head_size x (Ok tt) e);
     }
-head-went store w (accepted n) e =
-    let p = judge-accepts 0 (file_checks w) (accepted file_head_size) n e in
+head-went store w (Ok n) e =
+    let p = judge-accepts 0 (file_checks w) (Ok file_head_size) n e in
     let k : file_head_size ≡ n = accepted-inj p.1 in
     record {
       to = reading (version_of w) (between (version_of w));
@@ -274,7 +273,7 @@ head-went store w (accepted n) e =
 -- ONE TURN OF THE CODE
 pub scan-went : (st : State) (store w : List ℕ) (x : Standing) → max_field_cells ≤ length store → StandsAs (held.Reading st) store x → Went (scan st w) w (store_then st w store) x
 scan-went state.Start store w x room h =
-    subst (Went (scan state.Start w) w store) (sym h) (head-went store w (judge 0 (file_checks w) (accepted file_head_size)) refl)
+    subst (Went (scan state.Start w) w store) (sym h) (head-went store w (judge 0 (file_checks w) (Ok file_head_size)) refl)
 scan-went (state.Between v) store w x room h =
     subst (Went (header_scanned v w) w store) (sym h) (tied-went v (between v) (header_scanned v w) w store (header-tied v w store room))
 scan-went (state.Within p) store w x room (rs, e, holds, few) =

@@ -1,6 +1,7 @@
 -- One of the two files: what is held of it between the turns, and what is to come of it (02, K14).
 -- No contract of the libraries says what the operating system's calls do, so it is assumed here that a read puts the next octets of its file, as many as it
 -- answers, where it is told to, and answers 0 only at the file's end.
+use Rattle.wire_spec.specs.Result.{Result, Ok, Err}
 use Rattle.std.specs.Prelude.{◌≡◌, Bool, true, false, cond, not, ◌&&◌, ◌||◌, List, [], ◌++◌, ℕ, ◌+◌, ◌-◌, ◌≤◌, ◌<◌, eqb, ltb, ℤ, pos, length, take, drop}
 use Rattle.std.specs.Int.Signed.{lt_z}
 use Rattle.wire_spec.specs.declared.refusal.Refusal.{Refusal}
@@ -76,18 +77,18 @@ is_reading held.Ended = false
 is_reading (held.Refused n) = false
 
 -- by what a turn gave: 54 is only the end
-abbrev pub stood_as : Scanned → Held
-stood_as (scanned.Refused x) = cond (eqb x.number end_number) held.Ended (held.Refused x.number)
-stood_as (scanned.Field k v) = held.Field k v
-stood_as (scanned.On st n) = held.Reading st
+abbrev pub stood_as : Result Scanned → Held
+stood_as (Err x) = cond (eqb x.number end_number) held.Ended (held.Refused x.number)
+stood_as (Ok (scanned.Field k v)) = held.Field k v
+stood_as (Ok (scanned.On st n)) = held.Reading st
 
-abbrev pub used_of : Scanned → ℕ
-used_of (scanned.Refused x) = 0
-used_of (scanned.Field k v) = 0
-used_of (scanned.On st n) = n.0
+abbrev pub used_of : Result Scanned → ℕ
+used_of (Err x) = 0
+used_of (Ok (scanned.Field k v)) = 0
+used_of (Ok (scanned.On st n)) = n.0
 
 -- behind a turn
-abbrev pub behind_turn : Side → Scanned → Side
+abbrev pub behind_turn : Side → Result Scanned → Side
 behind_turn d y = record { standing = stood_as y; at = d.at + used_of y; end = d.end; more = d.more; failed = false }
 
 -- what the file has at the position

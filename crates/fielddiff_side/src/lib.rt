@@ -19,6 +19,7 @@ use wire_spec::refusal::Refusal;
 pub const WINDOW: usize = 328;
 
 // Still being read; a field, with the file's version; the end (54); or the number of a refusal.
+// Kept whole: the four are what a file can be at between two turns, and each turn asks for one of them.
 #[derive(Clone, Copy)]
 pub enum Standing {
     Reading(State),
@@ -56,21 +57,7 @@ pub fn start(open: bool) -> Side
 fn is_at_start(standing: Standing) -> bool
     ensures { result ≡ is_at_start standing }
 {
-    match standing {
-        Standing::Reading(state) => {
-            match state {
-                State::Start => true,
-                State::Between(_) => false,
-                State::Within(_) => false,
-            }
-        }
-        Standing::Field {
-            found: _,
-            version: _,
-        } => false,
-        Standing::Ended => false,
-        Standing::Refused(_) => false,
-    }
+    matches!(standing, Standing::Reading(State::Start))
 }
 
 // Moves what is left to the front, and reads more behind it. There must be room, as a read without any is
@@ -108,31 +95,27 @@ fn read_more(from: &mut Source, side: Side, input: &mut [u8]) -> Side
 }
 
 // By what a turn gave.
-fn stood(scanned: Scanned) -> Standing
+fn stood(scanned: Result<Scanned, Refusal>) -> Standing
     ensures { result ≡ stood_as scanned }
 {
     match scanned {
-        Scanned::Refused(refusal) => {
+        Err(refusal) => {
             if refusal.number == Refusal::END_OF_FILE {
                 return Standing::Ended;
             }
             Standing::Refused(refusal.number)
         }
-        Scanned::Field { found, version } => Standing::Field { found, version },
-        Scanned::On { state, used: _ } => Standing::Reading(state),
+        Ok(Scanned::Field { found, version }) => Standing::Field { found, version },
+        Ok(Scanned::On { state, .. }) => Standing::Reading(state),
     }
 }
 
-fn used_of(scanned: Scanned) -> usize
+fn used_of(scanned: Result<Scanned, Refusal>) -> usize
     ensures { result ≡ used_of scanned }
 {
     match scanned {
-        Scanned::Refused(_) => 0,
-        Scanned::Field {
-            found: _,
-            version: _,
-        } => 0,
-        Scanned::On { state: _, used } => used.0,
+        Ok(Scanned::On { used, .. }) => used.0,
+        _ => 0,
     }
 }
 
@@ -142,15 +125,12 @@ fn scan_on(state: State, side: Side, input: &[u8], store: &mut [u16]) -> Side
     ensures value { result ≡ behind_turn side (scan state (unscanned side input.now)) }
     ensures store_after { store.new ≡ store_then state (unscanned side input.now) store.old }
 {
-    let at = side.at;
-    let end = side.end;
-    let scanned = turn(state, &input[at..end], store);
+    let scanned = turn(state, &input[side.at..side.end], store);
     Side {
         standing: stood(scanned),
-        at: at + used_of(scanned),
-        end,
-        more: side.more,
+        at: side.at + used_of(scanned),
         failed: false,
+        ..side
     }
 }
 
@@ -176,28 +156,14 @@ pub fn advance(from: &mut Source, side: Side, input: &mut [u8], store: &mut [u16
             }
             scan_on(state, side, input, store)
         }
-        Standing::Field {
-            found: _,
-            version: _,
-        } => side,
-        Standing::Ended => side,
-        Standing::Refused(_) => side,
+        Standing::Field { .. } | Standing::Ended | Standing::Refused(_) => side,
     }
 }
 
 pub fn is_reading(side: Side) -> bool
     ensures { result ≡ is_reading side.standing }
 {
-    let standing = side.standing;
-    match standing {
-        Standing::Reading(_) => true,
-        Standing::Field {
-            found: _,
-            version: _,
-        } => false,
-        Standing::Ended => false,
-        Standing::Refused(_) => false,
-    }
+    matches!(side.standing, Standing::Reading(_))
 }
 
 // What the file has at the position.
@@ -207,7 +173,7 @@ pub fn place_of(side: Side) -> Place
     let standing = side.standing;
     match standing {
         Standing::Reading(_) => Place::Ended,
-        Standing::Field { found, version: _ } => Place::Field(found),
+        Standing::Field { found, .. } => Place::Field(found),
         Standing::Ended => Place::Ended,
         Standing::Refused(number) => Place::Refused(number),
     }
@@ -218,7 +184,7 @@ fn next_standing(standing: Standing) -> Standing
 {
     match standing {
         Standing::Reading(state) => Standing::Reading(state),
-        Standing::Field { found: _, version } => Standing::Reading(State::Between(version)),
+        Standing::Field { version, .. } => Standing::Reading(State::Between(version)),
         Standing::Ended => Standing::Ended,
         Standing::Refused(number) => Standing::Refused(number),
     }
@@ -228,12 +194,8 @@ fn next_standing(standing: Standing) -> Standing
 pub fn next(side: Side) -> Side
     ensures { result ≡ next_side side }
 {
-    let standing = side.standing;
     Side {
-        standing: next_standing(standing),
-        at: side.at,
-        end: side.end,
-        more: side.more,
-        failed: side.failed,
+        standing: next_standing(side.standing),
+        ..side
     }
 }

@@ -6,7 +6,7 @@ use native.Mathlib.Omega.{arith}
 use lib.ListN.{length, drop}
 use Rattle.wire_spec.specs.declared.refusal.Refusal.{Refusal}
 use Rattle.wire_spec.specs.Layout.{rfc8331}
-use Rattle.wire_spec.specs.Result.{Result, refused, accepted, judge}
+use Rattle.wire_spec.specs.Result.{Result, Err, Ok, judge}
 use Rattle.wire_spec.proofs.ResultLaws.{Passed}
 use Rattle.fieldfile_spec.specs.declared.format.Version.{Version}
 use Rattle.fieldfile_spec.specs.File.{FieldContent, field_then, file_head_size, file_checks, version_of}
@@ -24,8 +24,8 @@ unfolding fields_from
 between-rest v s = go (next (between v) s) refl
   where
     go : (r : Result (FieldContent × List ℕ)) → next (between v) s ≡ r → onward r (λ rest. fields_in v rest) ≡ onward r (λ rest. fields_from (length s) v rest)
-    go (refused x) e = refl
-    go (accepted q) e = ap (field_then q.0) (sym (any-bound (length s) v q.1 (next-shorter v s q.0 q.1 e)))
+    go (Err x) e = refl
+    go (Ok q) e = ap (field_then q.0) (sym (any-bound (length s) v q.1 (next-shorter v s q.0 q.1 e)))
 
 -- behind a field the file is read on
 pub field-rest : (v : Version) (k : FieldContent) (s : List ℕ) → rest_of (has v k) s ≡ field_then k (rest_of (reading v (between v)) s)
@@ -48,5 +48,5 @@ head-rest s h =
     reads-one (file-reads s h) (fields_in (version_of s) (drop file_head_size s)) (fields_read (suc (length (drop file_head_size s))) (version_of s) (drop file_head_size s) (omega arith))
     ∙ sym (between-rest (version_of s) (drop file_head_size s))
 
-pub head-refused : (s : List ℕ) (x : Refusal) → judge {A = Unit {0}} 0 (file_checks s) (accepted tt) ≡ refused x → rest_of starts s ≡ rest_of (over x) s
+pub head-refused : (s : List ℕ) (x : Refusal) → judge {A = Unit {0}} 0 (file_checks s) (Ok tt) ≡ Err x → rest_of starts s ≡ rest_of (over x) s
 head-refused s x e = file-refused s x e

@@ -16,7 +16,7 @@ use Rattle.fielddiff_spec.specs.Text.{diff_text, comparison}
 use Rattle.fielddiff_spec.specs.Rest.{starts}
 use Rattle.fielddiff_spec.proofs.FromLaws.{from-0}
 use Rattle.program_spec.specs.Buffers.{Begins}
-use Rattle.program_spec.specs.Turns.{LastTurn, Passed, started as no-turn, turned, turns_of}
+use Rattle.program_spec.specs.Turns.{LastTurn, Passed, Stopped, max_turns, started as no-turn, turned, turns_of}
 use Rattle.program_spec.proofs.TurnLaws.{Prints, always, counts-turns, run-prints}
 use Rattle.fielddiff_side.specs.Side.{MayCome, is_broken, opened, unscanned}
 use Rattle.fielddiff_turn.specs.declared.Run.{Run}
@@ -201,3 +201,22 @@ module _ {read_left read_right written : List ℕ} {v : Run} {left_input right_i
       ap (λ (j : ℕ). written ++ take j out) d
       ∙ ap (λ (l : List ℕ). written ++ l) (sym (append-nil (take v.filled out)) ∙ sym (ap (λ (l : List Line). take v.filled out ++ diff_text l) e))
       ∙ z.prints s t m k
+
+-- A RUN THAT HAS STOPPED, and is closed
+pub run-ended : {lo ro : Bool} {from : At} → Starts lo ro from → {here : At} → Stopped turning max_turns from here → {r : Run} → Closed here.run r
+    → Ended lo ro here.left_input here.right_input here.left_store here.right_store here.out r
+run-ended {from = from} e {here} f {r} c =
+    record {
+      from = from;
+      starts = e;
+      read_left = f.read.0;
+      read_right = f.read.1;
+      written = f.written;
+      before = here.run;
+      passed = f.passed;
+      closed = c;
+      ends = f.ends;
+      closes = run-closes e f.passed;
+      begins = run-begins (run-stands e f.passed) r;
+      complete = λ h. run-whole (run-stands e f.passed) r c h;
+    }

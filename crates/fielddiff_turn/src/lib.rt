@@ -58,17 +58,11 @@ pub fn flush(to: &mut Sink, run: Run, out: &[u8]) -> Run
     requires { run.filled ≤ length out.now }
     ensures { RunFlushed run result }
 {
-    let left = run.left;
-    let right = run.right;
-    let phase = run.phase;
     let text = program::buffers::flush(to, begin(run.filled), out);
     Run {
-        left,
-        right,
-        position: run.position,
-        phase,
         filled: text.filled,
         open: run.open & text.open,
+        ..run
     }
 }
 
@@ -159,15 +153,11 @@ fn record_end(store: &[u16], at: usize) -> usize
 fn with_phase(run: Run, phase: Phase, filled: usize) -> Run
     ensures { result ≡ with_phase run phase filled }
 {
-    let left = run.left;
-    let right = run.right;
     Run {
-        left,
-        right,
-        position: run.position,
         phase,
         filled,
         open: true,
+        ..run
     }
 }
 
@@ -191,11 +181,10 @@ fn print_record(run: Run, records: Records, left: &[u16], right: &[u16], out: &m
         &right[right_at..right_end],
     );
     let behind = Records {
-        position: records.position,
         index: records.index + 1,
-        count: records.count,
         left: left_end,
         right: right_end,
+        ..records
     };
     with_phase(run, Phase::Comparing(behind), filled)
 }
@@ -203,28 +192,22 @@ fn print_record(run: Run, records: Records, left: &[u16], right: &[u16], out: &m
 pub fn with_left(run: Run, left: Side) -> Run
     ensures { result ≡ with_left run left }
 {
-    let right = run.right;
     Run {
         left,
-        right,
-        position: run.position,
         phase: Phase::Places,
-        filled: run.filled,
         open: !(left.failed & left.more),
+        ..run
     }
 }
 
 pub fn with_right(run: Run, right: Side) -> Run
     ensures { result ≡ with_right run right }
 {
-    let left = run.left;
     Run {
-        left,
         right,
-        position: run.position,
         phase: Phase::Places,
-        filled: run.filled,
         open: !(right.failed & right.more),
+        ..run
     }
 }
 

@@ -1,10 +1,9 @@
 -- A file that was written field by field, read field by field.
+use Rattle.wire_spec.specs.Result.{Ok, Err}
 use Rattle.std.specs.Prelude.{◌≡◌, List, [], ◌∷◌, ◌++◌, ℕ, ◌+◌, ◌^◌, ◌<◌, ◌≤◌, length, take, drop}
 use Rattle.wire_spec.specs.declared.count.OctetCount.{OctetCount}
-use Rattle.wire_spec.specs.declared.written.Written.TheVariants as written
 use Rattle.wire_spec.specs.Anc.{Record}
 use Rattle.wire_spec.specs.Cells.{list_in, Lists}
-use Rattle.fieldfile_reader.specs.declared.field.FieldRead.TheVariants as read
 use Rattle.fieldfile_reader.specs.Answers.{read_returns, read_leaves}
 use Rattle.fieldfile_writer.specs.Entry.{field_returns, field_leaves}
 
@@ -16,7 +15,7 @@ pub record Wrote : Type 0 where
   pub out : List ℕ
   pub size : OctetCount
   pub typed : timestamp < 2 ^ 32
-  pub returned : field_returns timestamp f cells out ≡ written.Octets size
+  pub returned : field_returns timestamp f cells out ≡ Ok size
 
 -- the octets that it left, and those of calls one behind the other
 abbrev pub octets_of : Wrote → List ℕ
@@ -32,7 +31,7 @@ pub record ReadBack (file : List ℕ) (at : ℕ) (w : Wrote) (lent : List ℕ) :
   pub records : List Record
   pub lists : Lists records w.cells
   pub returns : read_returns file at lent
-      ≡ read.Field (record {
+      ≡ Ok (record {
         timestamp = record { 0 = w.timestamp };
         f = w.f;
         records = length records;
@@ -44,5 +43,5 @@ pub record ReadBack (file : List ℕ) (at : ℕ) (w : Wrote) (lent : List ℕ) :
 
 -- from the offset `at` on the fields are read one after the other, each into any list that is long enough, and then 54
 abbrev pub ReadOn : (file : List ℕ) (at : ℕ) → List Wrote → Type 0
-ReadOn file at [] = (lent : List ℕ) → read_returns file at lent ≡ read.Refused (record { number = 54; index = 0 })
+ReadOn file at [] = (lent : List ℕ) → read_returns file at lent ≡ Err (record { number = 54; index = 0 })
 ReadOn file at (w ∷ ws) = ((lent : List ℕ) → length w.cells ≤ length lent → ReadBack file at w lent) × ReadOn file (at + w.size.0) ws

@@ -12,9 +12,3 @@ pub struct Summary {
     pub cells: usize,
     pub next: OctetCount,
 }
-
-#[derive(Clone, Copy)]
-pub enum FieldRead {
-    Field(Summary),
-    Refused(Refusal),
-}

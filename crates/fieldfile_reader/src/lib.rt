@@ -13,27 +13,21 @@ pub mod version;
 
 use anc_reader::read::read_run;
 use check::check;
-use field::FieldRead;
+use field::Summary;
 use version::{header_size, version_at};
 use wire_spec::count::OctetCount;
 use wire_spec::layout::Layout;
 use wire_spec::limit::READ_INDEX;
-use wire_spec::refusal::Refusal;
+use wire_spec::refusal::{Refusal, refuse};
 
 // Reads the field at an offset: its records into the first cells, and what stands beside them.
-pub fn read_field(file: &[u8], at: OctetCount, cells: &mut [u16]) -> FieldRead
+pub fn read_field(file: &[u8], at: OctetCount, cells: &mut [u16]) -> Result<Summary, Refusal>
     ensures value { result ≡ read_returns file.now at.0 cells.old }
     ensures cells_after { cells.new ≡ read_leaves file.now at.0 cells.old }
 {
-    let checked = check(file, at);
-    let FieldRead::Field(summary) = checked else {
-        return checked;
-    };
+    let summary = check(file, at)?;
     if cells.len() < summary.cells {
-        return FieldRead::Refused(Refusal {
-            number: Refusal::LIST_TOO_SHORT,
-            index: 0,
-        });
+        return refuse(Refusal::LIST_TOO_SHORT);
     }
     let from = at.0 + header_size(version_at(file));
     read_run(
@@ -43,5 +37,5 @@ pub fn read_field(file: &[u8], at: OctetCount, cells: &mut [u16]) -> FieldRead
         READ_INDEX,
         cells,
     );
-    checked
+    Ok(summary)
 }

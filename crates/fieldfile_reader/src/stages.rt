@@ -1,16 +1,15 @@
 // The stages of reading before the ANC data packets (01, "Field file").
 ghost use Rattle.std.specs.Prelude.{◌&&◌, ◌≡◌, ◌≤◌, eqb, leb, length};
 ghost use Rattle.wire_spec.specs.Bits.{bits_at};
-ghost use Rattle.wire_spec.specs.Result.{accepted, judge};
+ghost use Rattle.wire_spec.specs.Result.{Ok, judge};
 ghost use Rattle.wire_offsets.specs.Stage.{stage_of};
 ghost use Rattle.fieldfile_spec.specs.File.{field_header_checks, field_header_size, file_checks, file_head_size, file_name, is_version, name_bits, name_size, offset_checks};
 
 use crate::rules::f_ok;
 use crate::version::header_size;
 use fieldfile_spec::format::{F_AT, HEAD_SIZE, NAME, NAME_SIZE, VERSION_1, VERSION_2, Version};
-use wire_offsets::stage::Stage;
 use wire_spec::count::OctetCount;
-use wire_spec::refusal::Refusal;
+use wire_spec::refusal::{Refusal, refuse};
 use wire_words::octet::{pair_at, wide};
 
 // The file starts with `ANF`.
@@ -29,22 +28,22 @@ fn version_ok(number: usize) -> bool
 }
 
 // 50, 51: the octets of the head.
-pub fn check_file(file: &[u8]) -> Stage
-    ensures { result ≡ stage_of (judge 0 (file_checks file.now) (accepted file_head_size)) }
+pub fn check_file(file: &[u8]) -> Result<OctetCount, Refusal>
+    ensures { result ≡ stage_of (judge 0 (file_checks file.now) (Ok file_head_size)) }
 {
     if file.len() < NAME_SIZE {
-        return Stage::refuse(Refusal::NOT_ANF);
+        return refuse(Refusal::NOT_ANF);
     }
     if !name_ok(file) {
-        return Stage::refuse(Refusal::NOT_ANF);
+        return refuse(Refusal::NOT_ANF);
     }
     if file.len() < HEAD_SIZE {
-        return Stage::refuse(Refusal::FILE_VERSION_WRONG);
+        return refuse(Refusal::FILE_VERSION_WRONG);
     }
     if !version_ok(pair_at(file, NAME_SIZE)) {
-        return Stage::refuse(Refusal::FILE_VERSION_WRONG);
+        return refuse(Refusal::FILE_VERSION_WRONG);
     }
-    Stage::Passed(OctetCount(HEAD_SIZE))
+    Ok(OctetCount(HEAD_SIZE))
 }
 
 // The offset is behind the head, and not past the end.
@@ -55,28 +54,28 @@ fn offset_ok(file: &[u8], at: OctetCount) -> bool
 }
 
 // 55, 54: the offset, where a field starts.
-pub(crate) fn check_offset(file: &[u8], at: OctetCount) -> Stage
-    ensures { result ≡ stage_of (judge 0 (offset_checks file.now at.0) (accepted at.0)) }
+pub(crate) fn check_offset(file: &[u8], at: OctetCount) -> Result<OctetCount, Refusal>
+    ensures { result ≡ stage_of (judge 0 (offset_checks file.now at.0) (Ok at.0)) }
 {
     if !offset_ok(file, at) {
-        return Stage::refuse(Refusal::OFFSET_INVALID);
+        return refuse(Refusal::OFFSET_INVALID);
     }
     if at.0 == file.len() {
-        return Stage::refuse(Refusal::END_OF_FILE);
+        return refuse(Refusal::END_OF_FILE);
     }
-    Stage::Passed(at)
+    Ok(at)
 }
 
 // 52, 53, of the field at the front of the octets: the octets of its header.
-pub fn check_header(octets: &[u8], version: Version) -> Stage
-    ensures { result ≡ stage_of (judge 0 (field_header_checks version octets.now) (accepted (field_header_size version))) }
+pub fn check_header(octets: &[u8], version: Version) -> Result<OctetCount, Refusal>
+    ensures { result ≡ stage_of (judge 0 (field_header_checks version octets.now) (Ok (field_header_size version))) }
 {
     let header = header_size(version);
     if octets.len() < header {
-        return Stage::refuse(Refusal::FIELD_HEADER_CUT);
+        return refuse(Refusal::FIELD_HEADER_CUT);
     }
     if !f_ok(octets[F_AT]) {
-        return Stage::refuse(Refusal::FILE_F_INVALID);
+        return refuse(Refusal::FILE_F_INVALID);
     }
-    Stage::Passed(OctetCount(header))
+    Ok(OctetCount(header))
 }

@@ -2,7 +2,7 @@
 use Rattle.std.specs.Prelude.{cond, ◌&&◌, List, [], ◌∷◌, ℕ, zero, suc, ◌+◌, ◌-◌, ◌*◌, ◌≤◌, leb, length}
 use Rattle.wire_spec.specs.Bits.{splice}
 use Rattle.wire_spec.specs.Layout.{rfc8331}
-use Rattle.wire_spec.specs.Result.{Result, refused, accepted, judge}
+use Rattle.wire_spec.specs.Result.{Result, Err, Ok, judge}
 use Rattle.wire_spec.specs.Words.{header_numbers}
 use Rattle.wire_spec.specs.Anc.{Record, read_run, run_size}
 use Rattle.wire_spec.specs.Cells.{head_cells, list_of}
@@ -23,13 +23,13 @@ abbrev pub InReach : Part → Type 0
 InReach p = (p.left + p.records ≤ max_count) × (p.cells ≤ p.records * (head_cells + header_numbers))
 
 -- the answer of a stage that goes on
-abbrev pub onward : State → Result ℕ → Scanned
-onward st (refused x) = scanned.Refused x
-onward st (accepted n) = scanned.On st (record { 0 = n })
+abbrev pub onward : State → Result ℕ → Result Scanned
+onward st (Err x) = Err x
+onward st (Ok n) = Ok (scanned.On st (record { 0 = n }))
 
 -- 50, 51
-abbrev pub head_scanned : List ℕ → Scanned
-head_scanned w = onward (state.Between (version_of w)) (judge 0 (file_checks w) (accepted file_head_size))
+abbrev pub head_scanned : List ℕ → Result Scanned
+head_scanned w = onward (state.Between (version_of w)) (judge 0 (file_checks w) (Ok file_head_size))
 
 -- a field of which no packet is read yet
 abbrev pub field_begun : Version → List ℕ → Part
@@ -44,17 +44,17 @@ field_begun v w =
     }
 
 -- 54, 52, 53
-abbrev pub header_scanned : Version → List ℕ → Scanned
-header_scanned v [] = scanned.Refused end_of_file
+abbrev pub header_scanned : Version → List ℕ → Result Scanned
+header_scanned v [] = Err end_of_file
 header_scanned v (o ∷ w) =
-    onward (state.Within (field_begun v (o ∷ w))) (judge 0 (field_header_checks v (o ∷ w)) (accepted (field_header_size v)))
+    onward (state.Within (field_begun v (o ∷ w))) (judge 0 (field_header_checks v (o ∷ w)) (Ok (field_header_size v)))
 
 -- 21, or the field
-abbrev pub finished : Part → Scanned
+abbrev pub finished : Part → Result Scanned
 finished p =
     cond (within_limits p.records p.cells)
-    (scanned.Field (record { timestamp = p.timestamp; f = p.f; records = p.records; cells = p.cells }) p.version)
-    (scanned.Refused (record { number = 21; index = 0 }))
+    (Ok (scanned.Field (record { timestamp = p.timestamp; f = p.f; records = p.records; cells = p.cells }) p.version))
+    (Err (record { number = 21; index = 0 }))
 
 -- one packet more
 abbrev pub counted : Part → (cells : ℕ) → Part
@@ -69,17 +69,17 @@ counted p n =
     }
 
 -- 9 to 16, "the ANC packet" as index
-abbrev pub packet_of : Part → Result (List Record × List ℕ) → Scanned
-packet_of p (refused x) = scanned.Refused (record { number = x.number; index = p.records })
-packet_of p (accepted q) = scanned.On (state.Within (counted p (length (list_of q.0)))) (record { 0 = run_size rfc8331 q.0 })
+abbrev pub packet_of : Part → Result (List Record × List ℕ) → Result Scanned
+packet_of p (Err x) = Err (record { number = x.number; index = p.records })
+packet_of p (Ok q) = Ok (scanned.On (state.Within (counted p (length (list_of q.0)))) (record { 0 = run_size rfc8331 q.0 }))
 
-abbrev pub packet_scanned : Part → List ℕ → Scanned
+abbrev pub packet_scanned : Part → List ℕ → Result Scanned
 packet_scanned p w = packet_of p (read_run rfc8331 0 1 w)
 
 -- the store then: the packet's cells behind those before it, where the field stays within the limits and the store has room
 abbrev pub kept_of : Part → Result (List Record × List ℕ) → List ℕ → List ℕ
-kept_of p (refused x) store = store
-kept_of p (accepted q) store =
+kept_of p (Err x) store = store
+kept_of p (Ok q) store =
     let n = p.cells + length (list_of q.0) in
     cond (within_limits (p.records + 1) n && leb n (length store)) (splice store p.cells (list_of q.0)) store
 
@@ -87,11 +87,11 @@ abbrev pub kept : Part → List ℕ → List ℕ → List ℕ
 kept p w store = kept_of p (read_run rfc8331 0 1 w) store
 
 -- ONE TURN
-abbrev pub part_scanned : (left : ℕ) → Part → List ℕ → Scanned
+abbrev pub part_scanned : (left : ℕ) → Part → List ℕ → Result Scanned
 part_scanned zero p w = finished p
 part_scanned (suc n) p w = packet_scanned p w
 
-abbrev pub scan : State → List ℕ → Scanned
+abbrev pub scan : State → List ℕ → Result Scanned
 scan state.Start w = head_scanned w
 scan (state.Between v) w = header_scanned v w
 scan (state.Within p) w = part_scanned p.left p w

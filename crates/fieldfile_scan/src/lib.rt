@@ -10,7 +10,7 @@ ghost use Rattle.fieldfile_scan.specs.Scan.{InReach, Reachable, counted, finishe
 
 pub mod state;
 
-use anc_reader::check::{Run, check_run};
+use anc_reader::check::check_run;
 use anc_reader::read::read_run;
 use fieldfile_reader::rules::within_limits;
 use fieldfile_reader::stages::{check_file, check_header};
@@ -18,43 +18,33 @@ use fieldfile_reader::version::{count_at, version_at};
 use fieldfile_scan_spec::found::Found;
 use fieldfile_spec::format::{F_AT, Version};
 use state::{Part, Scanned, State};
-use wire_offsets::stage::Stage;
 use wire_spec::count::OctetCount;
 use wire_spec::layout::Layout;
 use wire_spec::limit::READ_INDEX;
 use wire_spec::number::Timestamp;
-use wire_spec::refusal::Refusal;
+use wire_spec::refusal::{Refusal, refuse, refuse_at};
 use wire_words::octet::quad_at;
 
 // The head of the file: 50, 51.
-fn scan_head(window: &[u8]) -> Scanned
+fn scan_head(window: &[u8]) -> Result<Scanned, Refusal>
     ensures { result ≡ head_scanned window.now }
 {
-    let stage = check_file(window);
-    let Stage::Passed(size) = stage else {
-        return Scanned::Refused(stage.refusal());
-    };
-    Scanned::On {
+    let size = check_file(window)?;
+    Ok(Scanned::On {
         state: State::Between(version_at(window)),
         used: size,
-    }
+    })
 }
 
 // The header of a field: 54, 52, 53.
-fn scan_header(version: Version, window: &[u8]) -> Scanned
+fn scan_header(version: Version, window: &[u8]) -> Result<Scanned, Refusal>
     ensures { result ≡ header_scanned version window.now }
 {
     if window.len() == 0 {
-        return Scanned::Refused(Refusal {
-            number: Refusal::END_OF_FILE,
-            index: 0,
-        });
+        return refuse(Refusal::END_OF_FILE);
     }
-    let stage = check_header(window, version);
-    let Stage::Passed(size) = stage else {
-        return Scanned::Refused(stage.refusal());
-    };
-    Scanned::On {
+    let size = check_header(window, version)?;
+    Ok(Scanned::On {
         state: State::Within(Part {
             version,
             timestamp: Timestamp(quad_at(window, 0)),
@@ -64,22 +54,19 @@ fn scan_header(version: Version, window: &[u8]) -> Scanned
             cells: 0,
         }),
         used: size,
-    }
+    })
 }
 
 // Behind the last packet: 21, or the field.
-fn finish(part: Part) -> Scanned
+fn finish(part: Part) -> Result<Scanned, Refusal>
     ensures { result ≡ finished part }
 {
     if !within_limits(part.records, part.cells) {
-        return Scanned::Refused(Refusal {
-            number: Refusal::OVER_LIMIT,
-            index: 0,
-        });
+        return refuse(Refusal::OVER_LIMIT);
     }
     let version = part.version;
     let timestamp = part.timestamp;
-    Scanned::Field {
+    Ok(Scanned::Field {
         found: Found {
             timestamp,
             f: part.f,
@@ -87,7 +74,7 @@ fn finish(part: Part) -> Scanned
             cells: part.cells,
         },
         version,
-    }
+    })
 }
 
 // The cells of the packet at the front, behind those before it; past the limits none.
@@ -125,28 +112,25 @@ fn count(part: Part, cells: usize) -> Part
 }
 
 // The next packet: 9 to 16.
-fn scan_packet(part: Part, window: &[u8], store: &mut [u16]) -> Scanned
+fn scan_packet(part: Part, window: &[u8], store: &mut [u16]) -> Result<Scanned, Refusal>
     requires { InReach part × (0 < part.left) }
     ensures value { result ≡ packet_scanned part window.now }
     ensures store_after { store.new ≡ kept part window.now store.old }
 {
-    let run = check_run(Layout::Rfc8331, window, 1);
-    let Run::Accepted { octets, cells } = run else {
-        let refusal = run.refusal();
-        return Scanned::Refused(Refusal {
-            number: refusal.number,
-            index: part.records,
-        });
-    };
-    keep(part, cells, window, store);
-    Scanned::On {
-        state: State::Within(count(part, cells)),
-        used: octets,
+    match check_run(Layout::Rfc8331, window, 1) {
+        Ok(run) => {
+            keep(part, run.cells, window, store);
+            Ok(Scanned::On {
+                state: State::Within(count(part, run.cells)),
+                used: run.octets,
+            })
+        }
+        Err(refusal) => refuse_at(refusal.number, part.records),
     }
 }
 
 // In a field: the next packet, or what stands behind the last.
-fn scan_part(part: Part, window: &[u8], store: &mut [u16]) -> Scanned
+fn scan_part(part: Part, window: &[u8], store: &mut [u16]) -> Result<Scanned, Refusal>
     requires { InReach part }
     ensures value { result ≡ part_scanned part.left part window.now }
     ensures store_after { store.new ≡ part_kept part.left part window.now store.old }
@@ -158,7 +142,7 @@ fn scan_part(part: Part, window: &[u8], store: &mut [u16]) -> Scanned
 }
 
 // One turn.
-pub fn turn(state: State, window: &[u8], store: &mut [u16]) -> Scanned
+pub fn turn(state: State, window: &[u8], store: &mut [u16]) -> Result<Scanned, Refusal>
     requires { Reachable state }
     ensures value { result ≡ scan state window.now }
     ensures store_after { store.new ≡ store_then state window.now store.old }

@@ -3,7 +3,6 @@ use fieldfile_scan_spec::found::Found;
 use fieldfile_spec::format::Version;
 use wire_spec::count::OctetCount;
 use wire_spec::number::Timestamp;
-use wire_spec::refusal::Refusal;
 
 // In a field: what its header says, the packets that are still to be read, and the records and cells that were.
 #[derive(Clone, Copy)]
@@ -24,10 +23,9 @@ pub enum State {
     Within(Part),
 }
 
-// The refusal (54 at the end), a field of a file of this version, or where the reading then stands, so many octets on.
+// A field of a file of this version, or where the reading then stands, so many octets on. It is refused by 54 at the end.
 #[derive(Clone, Copy)]
 pub enum Scanned {
-    Refused(Refusal),
     Field { found: Found, version: Version },
     On { state: State, used: OctetCount },
 }

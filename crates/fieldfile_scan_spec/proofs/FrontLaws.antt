@@ -15,7 +15,7 @@ use Rattle.wire_spec.specs.declared.layout.Layout.TheVariants as layout
 use Rattle.wire_spec.specs.Bits.{to_bits, bits, num, bits_at, row_at}
 use Rattle.wire_spec.specs.Words.{word_bits, header_numbers, all_clear, sum_low, checksum_word}
 use Rattle.wire_spec.specs.Layout.{Layout, s_bits, stream_bits, r_bits, alignment, least_size}
-use Rattle.wire_spec.specs.Result.{Result, refused, accepted, refuse, Checks, judge, ◌then◌}
+use Rattle.wire_spec.specs.Result.{Result, Err, Ok, refuse, Checks, judge, ◌then◌}
 use Rattle.wire_spec.specs.Anc.{Record, padding, body_bits, anc_size, did_at, words_at, data_count, anc_record, header_words, are_header_words, headers_ok, r_ok, words_ok, checksum_ok, alignment_ok, anc_checks, read_anc, behind, read_run, run_size}
 use Rattle.wire_spec.proofs.BitLaws.{length-bits}
 use Rattle.wire_spec.proofs.SizeLaws.{size-bits, size-rfc8331, size-draft2015, least_size_lem}
@@ -113,7 +113,7 @@ module _ (L : Layout) (w t : List ℕ) (least : least_size L ≤ length w) where
     -- a packet that is whole is read the same, whatever follows it
     pub anc-front : (i : ℕ) → read_anc L i (w ++ t) ≡ read_anc L i w
     unfolding read_anc
-    anc-front i = ap₂ (λ (cs : Checks) (r : Record). judge i cs (accepted r)) checks-front record-front
+    anc-front i = ap₂ (λ (cs : Checks) (r : Record). judge i cs (Ok r)) checks-front record-front
 
 -- octets enough for the largest packet are enough
 module _ (L : Layout) (w s : List ℕ) (h : AtHand (most_size L) w s) where
@@ -132,64 +132,64 @@ module _ (L : Layout) (w s : List ℕ) (h : AtHand (most_size L) w s) where
 
 -- what follows a step that follows
 pub then-then : {A B C : Type 0} (x : Result A) (f : A → Result B) (g : B → Result C) → ((x then f) then g) ≡ (x then λ a. f a then g)
-then-then (refused x) f g = refl
-then-then (accepted a) f g = refl
+then-then (Err x) f g = refl
+then-then (Ok a) f g = refl
 
-pub then_same : {A B : Type 0} (x : Result A) (f g : A → Result B) → ((a : A) → x ≡ accepted a → f a ≡ g a) → (x then f) ≡ (x then g)
-then_same (refused x) f g h = refl
-then_same (accepted a) f g h = h a refl
+pub then_same : {A B : Type 0} (x : Result A) (f g : A → Result B) → ((a : A) → x ≡ Ok a → f a ≡ g a) → (x then f) ≡ (x then g)
+then_same (Err x) f g h = refl
+then_same (Ok a) f g h = h a refl
 
 -- a run's answer with a record in front of it, and with octets behind it
 abbrev headed : Record → List Record × List ℕ → Result (List Record × List ℕ)
-headed r q = accepted (r ∷ q.0, q.1)
+headed r q = Ok (r ∷ q.0, q.1)
 
 abbrev followed : List ℕ → List Record × List ℕ → Result (List Record × List ℕ)
-followed t q = accepted (q.0, q.1 ++ t)
+followed t q = Ok (q.0, q.1 ++ t)
 
 -- THE INDEX of a packet goes only into its refusal, so a packet may be read as the first of a run of one
 abbrev pub reindex : {A : Type 0} → ℕ → Result A → Result A
-reindex i (refused x) = refuse x.number i
-reindex i (accepted a) = accepted a
+reindex i (Err x) = refuse x.number i
+reindex i (Ok a) = Ok a
 
 pub anc-index : (L : Layout) (i j : ℕ) (s : List ℕ) → read_anc L i s ≡ reindex i (read_anc L j s)
 unfolding read_anc
 anc-index L i j s = go (anc_checks L s)
   where
-    go : (ts : Checks) → judge i ts (accepted (anc_record L s)) ≡ reindex i (judge j ts (accepted (anc_record L s)))
+    go : (ts : Checks) → judge i ts (Ok (anc_record L s)) ≡ reindex i (judge j ts (Ok (anc_record L s)))
     go [] = refl
     go ((true, n) ∷ ts) = go ts
     go ((false, n) ∷ ts) = refl
 
-pub run-one : (L : Layout) (i : ℕ) (s : List ℕ) → read_run L i 1 s ≡ (read_anc L i s then λ r. accepted (r ∷ [], behind L s))
+pub run-one : (L : Layout) (i : ℕ) (s : List ℕ) → read_run L i 1 s ≡ (read_anc L i s then λ r. Ok (r ∷ [], behind L s))
 unfolding read_run
 run-one L i s = refl
 
 -- A RUN IN TWO PARTS
 pub run-split : (L : Layout) (i m n : ℕ) (s : List ℕ)
-    → read_run L i (m + n) s ≡ (read_run L i m s then λ p. read_run L (i + m) n p.1 then λ q. accepted (p.0 ++ q.0, q.1))
+    → read_run L i (m + n) s ≡ (read_run L i m s then λ p. read_run L (i + m) n p.1 then λ q. Ok (p.0 ++ q.0, q.1))
 unfolding read_run
 run-split L i zero n s = let e : i + 0 ≡ i = omega arith in rw (zero-add n, e) (sym (same (read_run L i n s)))
   where
-    same : (r : Result (List Record × List ℕ)) → (r then λ q. accepted (q.0, q.1)) ≡ r
-    same (refused x) = refl
-    same (accepted q) = refl
+    same : (r : Result (List Record × List ℕ)) → (r then λ q. Ok (q.0, q.1)) ≡ r
+    same (Err x) = refl
+    same (Ok q) = refl
 run-split L i (suc m) n s =
     let e : suc m + n ≡ suc (m + n) = omega arith in
     let f : i + suc m ≡ i + 1 + m = omega arith in
     ap (λ (k : ℕ). read_run L i k s) e
     ∙ then_same (read_anc L i s) _ _
     (λ r h.
-    ap (λ x. x then λ q. accepted (r ∷ q.0, q.1)) (run-split L (i + 1) m n (behind L s))
+    ap (λ x. x then λ q. Ok (r ∷ q.0, q.1)) (run-split L (i + 1) m n (behind L s))
     ∙ then-then (read_run L (i + 1) m (behind L s)) _ _
     ∙ then_same (read_run L (i + 1) m (behind L s)) _ _
     (λ p k.
     then-then (read_run L (i + 1 + m) n p.1) _ _
-    ∙ ap (λ (j : ℕ). read_run L j n p.1 then λ q. accepted (r ∷ p.0 ++ q.0, q.1)) (sym f))
+    ∙ ap (λ (j : ℕ). read_run L j n p.1 then λ q. Ok (r ∷ p.0 ++ q.0, q.1)) (sym f))
     ∙ sym (then-then (read_run L (i + 1) m (behind L s)) _ _))
     ∙ sym (then-then (read_anc L i s) _ _)
 
 -- a run leaves the octets behind its packets
-pub run-rest : (L : Layout) (i n : ℕ) (s : List ℕ) (rs : List Record) (rest : List ℕ) → read_run L i n s ≡ accepted (rs, rest) → rest ≡ drop (run_size L rs) s
+pub run-rest : (L : Layout) (i n : ℕ) (s : List ℕ) (rs : List Record) (rest : List ℕ) → read_run L i n s ≡ Ok (rs, rest) → rest ≡ drop (run_size L rs) s
 unfolding read_run
 run-rest L i zero s rs rest e = let q : ◌≡◌ {A = List Record × List ℕ} ([], s) (rs, rest) = accepted-inj e in
     sym (ap (λ (z : List Record × List ℕ). z.1) q) ∙ ap (λ (z : List Record × List ℕ). drop (run_size L z.0) s) q
@@ -206,7 +206,7 @@ run-rest L i (suc n) s rs rest e =
 
 -- SEVERAL PACKETS AT ONCE: `n` packets need no more octets than `n` of the largest
 pub run-front : (L : Layout) (i n : ℕ) (w t : List ℕ) → n * most_size L ≤ length w
-    → read_run L i n (w ++ t) ≡ (read_run L i n w then λ q. accepted (q.0, q.1 ++ t))
+    → read_run L i n (w ++ t) ≡ (read_run L i n w then λ q. Ok (q.0, q.1 ++ t))
 unfolding read_run
 run-front L i zero w t h = refl
 run-front L i (suc n) w t h =
@@ -217,7 +217,7 @@ run-front L i (suc n) w t h =
     let z : anc_size L (data_count L w) ≤ length w = omega arith in
     let e : behind L (w ++ t) ≡ behind L w ++ t =
     ap (λ (x : ℕ). drop (anc_size L x) (w ++ t)) (count-front L w t l) ∙ drop-append-le (anc_size L (data_count L w)) w t z in
-    ap (λ (r : Result Record). r then λ r. read_run L (i + 1) n (behind L (w ++ t)) then λ q. accepted (r ∷ q.0, q.1)) (anc-front L w t l z i)
+    ap (λ (r : Result Record). r then λ r. read_run L (i + 1) n (behind L (w ++ t)) then λ q. Ok (r ∷ q.0, q.1)) (anc-front L w t l z i)
     ∙ then_same (read_anc L i w) _ _
     (λ r k.
     ap (λ (x : List ℕ). read_run L (i + 1) n x then headed r) e

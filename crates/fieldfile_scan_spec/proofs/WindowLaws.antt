@@ -12,7 +12,7 @@ use lib.Seq.{drop-drop, append_snoc}
 use borrow.Author.Tests.{le-leb, leb-true, eq-eqb, ne_eqb}
 use Rattle.wire_spec.specs.declared.refusal.Refusal.{Refusal}
 use Rattle.wire_spec.specs.Layout.{rfc8331}
-use Rattle.wire_spec.specs.Result.{Result, refused, accepted, refuse, Checks, judge, ◌then◌}
+use Rattle.wire_spec.specs.Result.{Result, Err, Ok, refuse, Checks, judge, ◌then◌}
 use Rattle.wire_spec.specs.Anc.{Record, anc_size, data_count, anc_record, anc_checks, read_anc, behind, read_run, run_size}
 use Rattle.wire_spec.specs.Cells.{cells_of, list_of}
 use Rattle.wire_spec.specs.Writing.{max_field_records, max_field_cells}
@@ -77,7 +77,7 @@ judge-then ((true, n) ∷ ts) r f = judge-then ts r f
 judge-then ((false, n) ∷ ts) r f = refl
 
 -- a turn that checks first
-judge-turn : (ts : Checks) (t : Turn) (s : List ℕ) (r : Result (FieldContent × List ℕ)) → r ≡ after t s → judge 0 ts r ≡ after (turn_of (judge 0 ts (accepted t))) s
+judge-turn : (ts : Checks) (t : Turn) (s : List ℕ) (r : Result (FieldContent × List ℕ)) → r ≡ after t s → judge 0 ts r ≡ after (turn_of (judge 0 ts (Ok t))) s
 judge-turn [] t s r e = e
 judge-turn ((true, n) ∷ ts) t s r e = judge-turn ts t s r e
 judge-turn ((false, n) ∷ ts) t s r e = refl
@@ -85,16 +85,16 @@ judge-turn ((false, n) ∷ ts) t s r e = refl
 -- ONE TURN
 -- what follows a run in the definition: the limits and the field, and the octets behind it
 abbrev limited : (t f : ℕ) (before : List Record) → List Record × List ℕ → Result (FieldContent × List ℕ)
-limited t f before q = judge 0 (limit_checks (before ++ q.0)) (accepted (content t f (before ++ q.0), q.1))
+limited t f before q = judge 0 (limit_checks (before ++ q.0)) (Ok (content t f (before ++ q.0), q.1))
 
 abbrev field_of : List ℕ → List Record × List ℕ → Result FieldContent
-field_of x q = judge 0 (limit_checks q.0) (accepted (content (timestamp_field x) (file_f_field x) q.0))
+field_of x q = judge 0 (limit_checks q.0) (Ok (content (timestamp_field x) (file_f_field x) q.0))
 
 abbrev placed : Version → List ℕ → FieldContent → Result (FieldContent × List ℕ)
-placed v x k = accepted (k, drop (field_size v k.records) x)
+placed v x k = Ok (k, drop (field_size v k.records) x)
 
 abbrev headed : Record → List Record × List ℕ → Result (List Record × List ℕ)
-headed r q = accepted (r ∷ q.0, q.1)
+headed r q = Ok (r ∷ q.0, q.1)
 
 -- before a field
 before-field : (v : Version) (w s : List ℕ) → AtHand (most_size rfc8331) w s → next (between v) s ≡ after (turn (between v) w) s
@@ -110,7 +110,7 @@ before-field v (o ∷ w) (p ∷ s) h = header-turn v (o ∷ w) (p ∷ s) (header
   where
     header-turn : (v : Version) (y x : List ℕ) → SameHeader v y x
         → (judge 0 (field_header_checks v x) (read_run rfc8331 0 (count_field v x) (drop (field_header_size v) x) then field_of x) then placed v x)
-        ≡ after (turn_of (judge 0 (field_header_checks v y) (accepted (goes (within (timestamp_field y) (file_f_field y) (count_field v y) []) (field_header_size v))))) x
+        ≡ after (turn_of (judge 0 (field_header_checks v y) (Ok (goes (within (timestamp_field y) (file_f_field y) (count_field v y) []) (field_header_size v))))) x
     header-turn v y x q =
         let size = field_header_size v in
         let run = read_run rfc8331 0 (count_field v x) (drop size x) in
@@ -121,8 +121,8 @@ before-field v (o ∷ w) (p ∷ s) h = header-turn v (o ∷ w) (p ∷ s) (header
         (then-then run (field_of x) (placed v x)
         ∙ then_same run (λ z. field_of x z then placed v x) (limited (timestamp_field y) (file_f_field y) [])
         (λ z e.
-        judge-then (limit_checks z.0) (accepted (content (timestamp_field x) (file_f_field x) z.0)) (placed v x)
-        ∙ ap₂ (λ (c : FieldContent) (u : List ℕ). judge 0 (limit_checks z.0) (accepted (c, u)))
+        judge-then (limit_checks z.0) (Ok (content (timestamp_field x) (file_f_field x) z.0)) (placed v x)
+        ∙ ap₂ (λ (c : FieldContent) (u : List ℕ). judge 0 (limit_checks z.0) (Ok (c, u)))
         (λ i. content (q.timestamp i) (q.f i) z.0)
         (sym (drop-drop (run_size rfc8331 z.0) size x) ∙ sym (run-rest rfc8331 0 (count_field v x) (drop size x) z.0 z.1 e)))
         ∙ ap (λ (c : ℕ). read_run rfc8331 0 c (drop size x) then limited (timestamp_field y) (file_f_field y) []) q.count)
@@ -131,8 +131,8 @@ before-field v (o ∷ w) (p ∷ s) h = header-turn v (o ∷ w) (p ∷ s) (header
 in_field : (t f n : ℕ) (before : List Record) (w s : List ℕ) → AtHand (most_size rfc8331) w s → next (within t f n before) s ≡ after (turn (within t f n before) w) s
 unfolding next turn read_run
 in_field t f zero before w s h =
-    ap (λ (rs : List Record). judge 0 (limit_checks rs) (accepted (content t f rs, s))) (append-nil before)
-    ∙ judge-turn (limit_checks before) (gives (content t f before)) s (accepted (content t f before, s)) refl
+    ap (λ (rs : List Record). judge 0 (limit_checks rs) (Ok (content t f rs, s))) (append-nil before)
+    ∙ judge-turn (limit_checks before) (gives (content t f before)) s (Ok (content t f before, s)) refl
 in_field t f (suc n) before w s h =
     let a = anc-at-hand rfc8331 w s h (length before) in
     then-then (read_anc rfc8331 (length before) s) (λ z. read_run rfc8331 (length before + 1) n (behind rfc8331 s) then headed z) (limited t f before)
@@ -141,14 +141,14 @@ in_field t f (suc n) before w s h =
   where
     go : (r : Result Record) → data_count rfc8331 s ≡ data_count rfc8331 w
         → (r then λ z. (read_run rfc8331 (length before + 1) n (behind rfc8331 s) then headed z) then limited t f before)
-        ≡ after (turn_of (r then λ z. accepted (goes (within t f n (before ++ (z ∷ []))) (anc_size rfc8331 (data_count rfc8331 w))))) s
-    go (refused x) e = refl
-    go (accepted z) e =
+        ≡ after (turn_of (r then λ z. Ok (goes (within t f n (before ++ (z ∷ []))) (anc_size rfc8331 (data_count rfc8331 w))))) s
+    go (Err x) e = refl
+    go (Ok z) e =
         let l : length before + 1 ≡ length (before ++ (z ∷ [])) = sym (length-append before (z ∷ [])) in
         then-then (read_run rfc8331 (length before + 1) n (behind rfc8331 s)) (headed z) (limited t f before)
         ∙ ap₂ (λ (j : ℕ) (u : List ℕ). read_run rfc8331 j n u then λ q. limited t f before (z ∷ q.0, q.1)) l (ap (λ (c : ℕ). drop (anc_size rfc8331 c) s) e)
         ∙ then_same (read_run rfc8331 (length (before ++ (z ∷ []))) n (drop (anc_size rfc8331 (data_count rfc8331 w)) s)) (λ q. limited t f before (z ∷ q.0, q.1)) (limited t f (before ++ (z ∷ [])))
-        (λ q k. ap (λ (rs : List Record). judge 0 (limit_checks rs) (accepted (content t f rs, q.1))) (sym (append_snoc before z q.0)))
+        (λ q k. ap (λ (rs : List Record). judge 0 (limit_checks rs) (Ok (content t f rs, q.1))) (sym (append_snoc before z q.0)))
 
 pub turn-next : (st : State) (w s : List ℕ) → AtHand (most_size rfc8331) w s → next st s ≡ after (turn st w) s
 turn-next (between v) w s h = before-field v w s h
@@ -173,20 +173,20 @@ fewer-turns (between v) to (o ∷ w) used e = go (field_header_checks v (o ∷ w
         below version.One = omega (arith, bits_at-lt (o ∷ w) 40 8)
         below version.Two = omega (arith, bits_at-lt (o ∷ w) 40 16)
 
-    go : (ts : Checks) → turn_of (judge 0 ts (accepted (goes (within (timestamp_field (o ∷ w)) (file_f_field (o ∷ w)) (count_field v (o ∷ w)) []) (field_header_size v)))) ≡ goes to used → turns_left to < 65537
+    go : (ts : Checks) → turn_of (judge 0 ts (Ok (goes (within (timestamp_field (o ∷ w)) (file_f_field (o ∷ w)) (count_field v (o ∷ w)) []) (field_header_size v)))) ≡ goes to used → turns_left to < 65537
     go [] e = let q : within (timestamp_field (o ∷ w)) (file_f_field (o ∷ w)) (count_field v (o ∷ w)) [] ≡ to = cc in subst (λ (z : State). turns_left z < 65537) q (omega (arith, small))
     go ((true, n) ∷ ts) e = go ts e
     go ((false, n) ∷ ts) e = let z : ◌≡◌ {A = ℕ} 0 1 = cc in absurd (omega arith)
 fewer-turns (within t f zero before) to w used e = go (within_limits (length before) (length (list_of before))) e
   where
-    go : (b : Bool) → turn_of (cond b (accepted (gives (content t f before))) (refuse 21 0)) ≡ goes to used → turns_left to < 1
+    go : (b : Bool) → turn_of (cond b (Ok (gives (content t f before))) (refuse 21 0)) ≡ goes to used → turns_left to < 1
     go true e = let z : ◌≡◌ {A = ℕ} 0 1 = cc in absurd (omega arith)
     go false e = let z : ◌≡◌ {A = ℕ} 0 1 = cc in absurd (omega arith)
 fewer-turns (within t f (suc n) before) to w used e = go (read_anc rfc8331 (length before) w) e
   where
-    go : (r : Result Record) → turn_of (r then λ z. accepted (goes (within t f n (before ++ (z ∷ []))) (anc_size rfc8331 (data_count rfc8331 w)))) ≡ goes to used → turns_left to < suc (suc n)
-    go (refused x) e = let z : ◌≡◌ {A = ℕ} 0 1 = cc in absurd (omega arith)
-    go (accepted z) e = let q : within t f n (before ++ (z ∷ [])) ≡ to = cc in subst (λ (y : State). turns_left y < suc (suc n)) q (omega arith)
+    go : (r : Result Record) → turn_of (r then λ z. Ok (goes (within t f n (before ++ (z ∷ []))) (anc_size rfc8331 (data_count rfc8331 w)))) ≡ goes to used → turns_left to < suc (suc n)
+    go (Err x) e = let z : ◌≡◌ {A = ℕ} 0 1 = cc in absurd (omega arith)
+    go (Ok z) e = let q : within t f n (before ++ (z ∷ [])) ≡ to = cc in subst (λ (y : State). turns_left y < suc (suc n)) q (omega arith)
 
 -- so with any way of filling the octets at hand the turns end, in what the definition gives
 pub turns-end : ((x : List ℕ) → (w : List ℕ) × AtHand (most_size rfc8331) w x) → (st : State) (s : List ℕ) → Turns st s (next st s)
@@ -248,25 +248,25 @@ head-at-hand w s h = subst (λ (z : List ℕ). (file_checks z ≡ file_checks w)
         let q : w ++ h.behind ≡ w = ap (λ (z : List ℕ). w ++ z) e ∙ append-nil w in
         (ap file_checks q, ap version_of q)
 
-refused-inj : {A : Type 0} {x y : Refusal} → ◌≡◌ {A = Result A} (refused x) (refused y) → x ≡ y
+refused-inj : {A : Type 0} {x y : Refusal} → ◌≡◌ {A = Result A} (Err x) (Err y) → x ≡ y
 refused-inj e = cc
 
-not-both : {A : Type 0} {x : Refusal} {a : A} → refused x ≡ accepted a → ⊥
+not-both : {A : Type 0} {x : Refusal} {a : A} → Err x ≡ Ok a → ⊥
 not-both e = let z : ◌≡◌ {A = ℕ} 0 1 = cc in omega arith
 
-judge-refused : {A : Type 0} (ts : Checks) (x : Refusal) → judge {A = Unit {0}} 0 ts (accepted tt) ≡ refused x → (r : Result A) → judge 0 ts r ≡ refused x
+judge-refused : {A : Type 0} (ts : Checks) (x : Refusal) → judge {A = Unit {0}} 0 ts (Ok tt) ≡ Err x → (r : Result A) → judge 0 ts r ≡ Err x
 judge-refused [] x e r = let z : ◌≡◌ {A = ℕ} 0 1 = cc in absurd (omega arith)
 judge-refused ((true, n) ∷ ts) x e r = judge-refused ts x e r
-judge-refused ((false, n) ∷ ts) x e r = ap refused (refused-inj e)
+judge-refused ((false, n) ∷ ts) x e r = ap Err (refused-inj e)
 
 -- A WHOLE FILE
-pub anc-fits : (i : ℕ) (s : List ℕ) (r : Record) → read_anc rfc8331 i s ≡ accepted r → anc_size rfc8331 (data_count rfc8331 s) ≤ length s
+pub anc-fits : (i : ℕ) (s : List ℕ) (r : Record) → read_anc rfc8331 i s ≡ Ok r → anc_size rfc8331 (data_count rfc8331 s) ≤ length s
 unfolding read_anc anc_checks
 anc-fits i s r e =
-    let q = judge-accepts i (anc_checks rfc8331 s) (accepted (anc_record rfc8331 s)) r e in
+    let q = judge-accepts i (anc_checks rfc8331 s) (Ok (anc_record rfc8331 s)) r e in
     leb-true (anc_size rfc8331 (data_count rfc8331 s)) (length s) q.0.1.1.0
 
-run_fits : (i n : ℕ) (s : List ℕ) (rs : List Record) (rest : List ℕ) → read_run rfc8331 i n s ≡ accepted (rs, rest) → run_size rfc8331 rs ≤ length s
+run_fits : (i n : ℕ) (s : List ℕ) (rs : List Record) (rest : List ℕ) → read_run rfc8331 i n s ≡ Ok (rs, rest) → run_size rfc8331 rs ≤ length s
 unfolding read_run
 run_fits i zero s rs rest e = let q : [] ≡ rs = ap (λ (z : List Record × List ℕ). z.0) (accepted-inj e) in subst (λ (z : List Record). run_size rfc8331 z ≤ length s) q (omega arith)
 run_fits i (suc n) s rs rest e =
@@ -279,12 +279,12 @@ run_fits i (suc n) s rs rest e =
     let d = length-drop (anc_size rfc8331 (data_count rfc8331 s)) s in
     subst (λ (z : List Record). run_size rfc8331 z ≤ length s) q (omega arith)
 
-field_fits : (v : Version) (s : List ℕ) (k : FieldContent) → read_front v s ≡ accepted k → field_size v k.records ≤ length s
+field_fits : (v : Version) (s : List ℕ) (k : FieldContent) → read_front v s ≡ Ok k → field_size v k.records ≤ length s
 unfolding read_front field_header_checks
 field_fits v s k e =
     let h = judge-accepts 0 (field_header_checks v s) _ k e in
     let q = then-accepts (read_run rfc8331 0 (count_field v s) (drop (field_header_size v) s)) (field_of s) k h.1 in
-    let l = judge-accepts 0 (limit_checks q.0.0) (accepted (content (timestamp_field s) (file_f_field s) q.0.0)) k q.2 in
+    let l = judge-accepts 0 (limit_checks q.0.0) (Ok (content (timestamp_field s) (file_f_field s) q.0.0)) k q.2 in
     let rs : q.0.0 ≡ k.records = ap (λ (z : FieldContent). z.records) (accepted-inj l.1) in
     let m = run_fits 0 (count_field v s) (drop (field_header_size v) s) q.0.0 q.0.1 q.1 in
     let d = length-drop (field_header_size v) s in
@@ -293,7 +293,7 @@ field_fits v s k e =
 
 module _ (s : List ℕ) (head : Passed (file_checks s)) where
   abbrev to_next : ℕ → FieldContent → Result (FieldContent × ℕ)
-  to_next at k = accepted (k, at + field_size (version_of s) k.records)
+  to_next at k = Ok (k, at + field_size (version_of s) k.records)
 
   -- the field at an offset is the next one of the octets from there on
   at_field : (at : ℕ) → file_head_size ≤ at → at < length s → read_field s at ≡ (read_front (version_of s) (drop at s) then to_next at)
@@ -303,7 +303,7 @@ module _ (s : List ℕ) (head : Passed (file_checks s)) where
       let b : eqb at (length s) ≡ false = ne_eqb at (length s) (λ e. omega arith) in
       judge-passes 0 (file_checks s) _ head ∙ judge-passes 0 (offset_checks s at) _ (a, (ap not b, tt))
 
-  at-end : (at : ℕ) → file_head_size ≤ at → at ≡ length s → read_field s at ≡ refused end_of_file
+  at-end : (at : ℕ) → file_head_size ≤ at → at ≡ length s → read_field s at ≡ Err end_of_file
   unfolding read_field offset_checks
   at-end at h l =
       let a : leb file_head_size at && leb at (length s) ≡ true = and_both (le-leb file_head_size at h) (le-leb at (length s) (omega arith)) in
@@ -329,8 +329,8 @@ module _ (s : List ℕ) (head : Passed (file_checks s)) where
         where
           both : (r : Result FieldContent) → read_front (version_of s) (o ∷ x) ≡ r
               → read_on (r then to_next at) (λ to. read_from bound s to) ≡ onward (r then placed (version_of s) (o ∷ x)) (λ rest. fields_from bound (version_of s) rest)
-          both (refused y) q = refl
-          both (accepted k) q =
+          both (Err y) q = refl
+          both (Ok k) q =
               let f = field_fits (version_of s) (o ∷ x) k q in
               let d : length (drop at s) ≡ suc (length x) = ap length e in
               ap (field_then k)
@@ -339,7 +339,7 @@ module _ (s : List ℕ) (head : Passed (file_checks s)) where
 
 -- THE FIELDS ONE BY ONE, from the octets behind the head on: what `read_file` gives, and nothing else
 -- each field takes octets
-pub next-shorter : (v : Version) (s : List ℕ) (k : FieldContent) (rest : List ℕ) → next (between v) s ≡ accepted (k, rest) → length rest < length s
+pub next-shorter : (v : Version) (s : List ℕ) (k : FieldContent) (rest : List ℕ) → next (between v) s ≡ Ok (k, rest) → length rest < length s
 unfolding next
 next-shorter v [] k rest e = let z : ◌≡◌ {A = ℕ} 0 1 = cc in absurd (omega arith)
 next-shorter v (o ∷ s) k rest e =
@@ -361,8 +361,8 @@ fields_read (suc bound) v s h = go (next (between v) s) refl (λ rest l. fields_
   where
     go : (r : Result (FieldContent × List ℕ)) → next (between v) s ≡ r → ((rest : List ℕ) → length rest < bound → Reads v rest (fields_from bound v rest))
         → Reads v s (onward r (λ rest. fields_from bound v rest))
-    go (refused x) e more = ends e
-    go (accepted q) e more = follows e (more q.1 (omega (arith, next-shorter v s q.0 q.1 e)))
+    go (Err x) e more = ends e
+    go (Ok q) e more = follows e (more q.1 (omega (arith, next-shorter v s q.0 q.1 e)))
 
 -- A FILE WHOSE HEAD PASSES
 pub file-reads : (s : List ℕ) → Passed (file_checks s) → Reads (version_of s) (drop file_head_size s) (read_file s)
@@ -383,6 +383,6 @@ reads-one {v} (follows {rest = t} {k = k} e m) q (follows {rest = u} {k = l} {r 
     ap₂ field_then (ap (λ (z : FieldContent × List ℕ). z.0) c) i
 
 -- A FILE WHOSE HEAD IS REFUSED
-pub file-refused : (s : List ℕ) (x : Refusal) → judge {A = Unit {0}} 0 (file_checks s) (accepted tt) ≡ refused x → read_file s ≡ no_field x
+pub file-refused : (s : List ℕ) (x : Refusal) → judge {A = Unit {0}} 0 (file_checks s) (Ok tt) ≡ Err x → read_file s ≡ no_field x
 unfolding read_from read_field
 file-refused s x e = ap (λ (r : Result (FieldContent × ℕ)). read_on r (λ to. read_from (length s) s to)) (judge-refused (file_checks s) x e _)

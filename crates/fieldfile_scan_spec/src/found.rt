@@ -11,6 +11,7 @@ pub struct Found {
 }
 
 // A field, the file's end (54), or the number that its reading was refused with.
+// Kept whole: the end and a refusal are compared with the other file's place as a field is, and `fielddiff` prints the number.
 #[derive(Clone, Copy)]
 pub enum Place {
     Field(Found),

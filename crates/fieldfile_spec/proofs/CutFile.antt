@@ -14,11 +14,11 @@ use borrow.Author.Tests.{leb-true, leb-false, le-leb, lt-leb, ne_eqb}
 use Rattle.wire_spec.specs.Bits.{to_bits, num, bits, octets, field_bits, bits_at, row_at, pack}
 use Rattle.wire_spec.specs.Words.{word_bits, header_numbers}
 use Rattle.wire_spec.specs.Layout.{rfc8331, least_size}
-use Rattle.wire_spec.specs.Result.{refused, accepted, refuse, ◌then◌}
+use Rattle.wire_spec.specs.Result.{Err, Ok, refuse, ◌then◌}
 use Rattle.wire_spec.specs.Anc.{Record, WellFormed, Each, anc_octets, run_octets, anc_size, run_size, did_at, data_count, anc_record, headers_ok, are_header_words, anc_checks, read_anc, behind, read_run}
 use Rattle.wire_spec.proofs.BitLaws.{length-pack, below-octets, below-take}
 use Rattle.wire_spec.proofs.Window.{bits_at-slice}
-use Rattle.wire_spec.proofs.ResultLaws.{Passed, judge-accepts, judge-passes}
+use Rattle.wire_spec.proofs.ResultLaws.{judge-accepts, judge-passes}
 use Rattle.wire_spec.proofs.SizeLaws.{length-anc}
 use Rattle.wire_spec.proofs.AncLaws.{accepts-iff, count-read, below-run}
 use Rattle.fieldfile_spec.specs.declared.format.Version.{Version}
@@ -53,7 +53,7 @@ module _ (r : Record) (w : WellFormed rfc8331 r) (i m : ℕ) (cut : m < anc_size
   cut-size h =
       let s = take m whole in
       let all = (accepts-iff rfc8331 whole (below-octets _ _) i r).1 (w, take_all (anc_size rfc8331 (length r.words)) whole (omega (arith, length-anc rfc8331 r))) in
-      let p = (judge-accepts i (anc_checks rfc8331 whole) (accepted (anc_record rfc8331 whole)) r all).0 in
+      let p = (judge-accepts i (anc_checks rfc8331 whole) (Ok (anc_record rfc8331 whole)) r all).0 in
       let e1 = cut-bits whole m (did_at rfc8331) word_bits (omega arith) in
       let e2 = cut-bits whole m (did_at rfc8331 + word_bits) word_bits (omega arith) in
       let e3 = cut-bits whole m (did_at rfc8331 + word_bits + word_bits) word_bits (omega arith) in
@@ -93,7 +93,7 @@ module _ (i : ℕ) (r : Record) (rs : List Record) (m : ℕ) (w : WellFormed rfc
       let lo : length o ≡ size = length-anc rfc8331 r in
       let left = take (m - size) (run_octets rfc8331 rs) in
       let parts : s ≡ o ++ left = beyond o (run_octets rfc8331 rs) m (omega arith) ∙ ap (λ (x : ℕ). o ++ take (m - x) (run_octets rfc8331 rs)) lo in
-      let one : read_anc rfc8331 i s ≡ accepted r = (accepts-iff rfc8331 s (below-take 256 m (o ++ run_octets rfc8331 rs) (below-run rfc8331 (r ∷ rs))) i r).1 (w, ap (take size) parts ∙ take_at o left size lo) in
+      let one : read_anc rfc8331 i s ≡ Ok r = (accepts-iff rfc8331 s (below-take 256 m (o ++ run_octets rfc8331 rs) (below-run rfc8331 (r ∷ rs))) i r).1 (w, ap (take size) parts ∙ take_at o left size lo) in
       let rest : behind rfc8331 s ≡ left = ap (λ (x : ℕ). drop (anc_size rfc8331 x) s) (count-read rfc8331 s i r one) ∙ ap (drop size) parts ∙ drop_at o left size lo in
       let n : i + 1 + cut_packet (m - size) rs ≡ i + suc (cut_packet (m - size) rs) = omega arith in
       rw (one, rest, more (m - size) (omega arith), n)
@@ -132,11 +132,11 @@ module _ (v : Version) (k : FieldContent) (w : WellFormedField v k) (m : ℕ) (s
       let r = run-cut 0 rs w.records (m - field_header_size v) (omega arith) in
       judge-passes 0 (field_header_checks v s) _ f.passed ∙ rw (f.count, f.behind, r, zero-add (cut_packet (m - field_header_size v) rs))
 
-  field_cut : read_front v (take m (field_octets v k)) ≡ refused (cut_end v m k)
+  field_cut : read_front v (take m (field_octets v k)) ≡ Err (cut_end v m k)
   field_cut = let z : eqb m 0 ≡ false = ne_eqb m 0 (λ (e : m ≡ 0). omega arith) in rw z (go (leb (field_header_size v) m) refl)
     where
       go : (t : Bool) → leb (field_header_size v) m ≡ t
-          → read_front v (take m (field_octets v k)) ≡ refused (cond t (record { number = 9; index = cut_packet (m - field_header_size v) k.records }) (record { number = 52; index = 0 }))
+          → read_front v (take m (field_octets v k)) ≡ Err (cond t (record { number = 9; index = cut_packet (m - field_header_size v) k.records }) (record { number = 52; index = 0 }))
       go true e = cut-run (leb-true (field_header_size v) m e)
       go false e = cut-header (leb-false (field_header_size v) m e)
 
@@ -157,9 +157,9 @@ fields-cut v s pre (k ∷ ks) m w e p l = go (leb (field_size v k.records) m) re
         let t = take (m - size) (fields_octets v ks) in
         let left : take m (o ++ fields_octets v ks) ≡ o ++ t = beyond o (fields_octets v ks) m (omega arith) ∙ ap (λ (x : ℕ). o ++ take (m - x) (fields_octets v ks)) lo in
         let parts : s ≡ pre ++ (o ++ t) = e ∙ ap (λ (x : List ℕ). pre ++ x) left in
-        let one : read_field s (length pre) ≡ accepted (k, length pre + size) =
+        let one : read_field s (length pre) ≡ Ok (k, length pre + size) =
         at_field v s pre (o ++ t) parts p l (omega (arith, length-append o t, header-least v))
-        ∙ ap (λ x. x then λ k. accepted (k, length pre + field_size v k.records)) (field-read v k w.0 t (below-take 256 (m - size) (fields_octets v ks) (below-fields v ks))) in
+        ∙ ap (λ x. x then λ k. Ok (k, length pre + field_size v k.records)) (field-read v k w.0 t (below-take 256 (m - size) (fields_octets v ks) (below-fields v ks))) in
         let next : length (pre ++ o) ≡ length pre + size = length-append pre o ∙ ap (λ (x : ℕ). length pre + x) lo in
         goes one (subst (λ (x : ℕ). Reading s x (cut_fields v (m - size) ks).fields (cut_fields v (m - size) ks).end) next (more (pre ++ o) (m - size) (parts ∙ sym (append_assoc pre o t)) (omega arith)))
     go false h more =
@@ -170,11 +170,11 @@ fields-cut v s pre (k ∷ ks) m w e p l = go (leb (field_size v k.records) m) re
         let parts : s ≡ pre ++ take m o = e ∙ ap (λ (x : List ℕ). pre ++ x) left in
         ends (stops m a parts)
       where
-        stops : (m : ℕ) → m < field_size v k.records → s ≡ pre ++ take m (field_octets v k) → read_field s (length pre) ≡ refused (cut_end v m k)
+        stops : (m : ℕ) → m < field_size v k.records → s ≡ pre ++ take m (field_octets v k) → read_field s (length pre) ≡ Err (cut_end v m k)
         stops zero a parts = at-end v s pre [] parts p l refl
         stops (suc m) a parts =
             at_field v s pre (take (suc m) (field_octets v k)) parts p l (omega (arith, length-take-le (suc m) (field_octets v k) (omega (arith, length-field v k))))
-            ∙ ap (λ x. x then λ k. accepted (k, length pre + field_size v k.records)) (field_cut v k w.0 (suc m) (omega arith) a)
+            ∙ ap (λ x. x then λ k. Ok (k, length pre + field_size v k.records)) (field_cut v k w.0 (suc m) (omega arith) a)
 
 -- a file that is cut behind its head
 behind-head : (v : Version) → (ks : List FieldContent) → Each (WellFormedField v) ks → (m : ℕ) → read_file (file_head v ++ take m (fields_octets v ks)) ≡ cut_fields v m ks

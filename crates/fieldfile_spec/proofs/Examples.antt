@@ -8,7 +8,7 @@ use lib.Dec.{eqb, leb}
 use lib.ListN.{length, take, set}
 use Rattle.wire_spec.specs.Bits.{to_bits, num, bits, octets, bits_at, row_at, field_bits}
 use Rattle.wire_spec.specs.Words.{header_word, checksum_word}
-use Rattle.wire_spec.specs.Result.{Result, Checks, accepted, refuse, judge}
+use Rattle.wire_spec.specs.Result.{Result, Checks, Ok, refuse, judge}
 use Rattle.wire_spec.specs.Anc.{anc_size, anc_record, headers_ok, r_ok, words_ok, checksum_ok, alignment_ok, anc_checks, read_anc, read_run}
 use Rattle.wire_spec.specs.Cells.{cells_in, cells_of, list_of, max_index, cell_record, head_in_range, cell_checks, records_from, clear_from}
 use Rattle.wire_spec.proofs.Examples.{a, a_octets, b, b_octets}
@@ -40,16 +40,16 @@ file1 =
 
 -- the octets of the file, written by one head and two fields, and a field without records
 pub written : (file_octets version.Two (first ∷ second ∷ []) ≡ file)
-    × (write_head 5 ≡ accepted (take 5 file))
-    × (write_field 1000 2 (list_of (a ∷ [])) 19 ≡ accepted first_octets)
-    × (write_field 0x01020304 3 (list_of (a ∷ b ∷ [])) 100 ≡ accepted second_octets)
-    × (write_field 0x01020304 3 (cells_in 1 a ++ cells_in max_index b) 100 ≡ accepted second_octets)
-    × (write_field 7 0 [] 7 ≡ accepted (0 ∷ 0 ∷ 0 ∷ 7 ∷ 0 ∷ 0 ∷ 0 ∷ []))
+    × (write_head 5 ≡ Ok (take 5 file))
+    × (write_field 1000 2 (list_of (a ∷ [])) 19 ≡ Ok first_octets)
+    × (write_field 0x01020304 3 (list_of (a ∷ b ∷ [])) 100 ≡ Ok second_octets)
+    × (write_field 0x01020304 3 (cells_in 1 a ++ cells_in max_index b) 100 ≡ Ok second_octets)
+    × (write_field 7 0 [] 7 ≡ Ok (0 ∷ 0 ∷ 0 ∷ 7 ∷ 0 ∷ 0 ∷ 0 ∷ []))
 unfolding to_bits num octets field_bits header_word checksum_word anc_size cell_record head_in_range cell_checks records_from clear_from
 written = (refl, refl, refl, refl, refl, refl)
 
 -- read at 5, at the offset after the first field, and at the end
-pub read : (read_into file 5 9 ≡ accepted (first, 24)) × (read_into file 24 20 ≡ accepted (second, 55)) × (read_into file 55 0 ≡ refuse 54 0)
+pub read : (read_into file 5 9 ≡ Ok (first, 24)) × (read_into file 24 20 ≡ Ok (second, 55)) × (read_into file 55 0 ≡ refuse 54 0)
 unfolding to_bits num bits bits_at row_at header_word checksum_word anc_size anc_record headers_ok r_ok words_ok checksum_ok alignment_ok anc_checks read_anc read_run field_header_checks read_front version_of file_checks offset_checks read_field read_into
 read = (refl, refl, refl)
 
@@ -64,7 +64,7 @@ whole = (refl, refl, refl, refl)
 -- "The reader takes versions 1 and 2" (02, K2): a version 1 file is the octets of its version, is read field by field, and ends in 52
 -- where under six octets of a header are left
 pub version-1 : (file_octets version.One (first ∷ second ∷ []) ≡ file1)
-    × (read_into file1 5 9 ≡ accepted (first, 23))
+    × (read_into file1 5 9 ≡ Ok (first, 23))
     × (read_file file1 ≡ record { fields = first ∷ second ∷ []; end = end_of_file })
     × (read_file (take 28 file1) ≡ record { fields = first ∷ []; end = record { number = 52; index = 0 } })
     × (read_file (take 29 file1) ≡ record { fields = first ∷ []; end = record { number = 9; index = 0 } })

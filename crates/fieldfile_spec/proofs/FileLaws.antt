@@ -14,10 +14,10 @@ use borrow.Author.Tests.{eq-eqb, ne_eqb, eqb-true, leb-true, le-leb}
 use Rattle.wire_spec.specs.declared.refusal.Refusal.{Refusal}
 use Rattle.wire_spec.specs.Bits.{bits_at, pack, Fit, Below}
 use Rattle.wire_spec.specs.Layout.{rfc8331}
-use Rattle.wire_spec.specs.Result.{Result, refused, accepted, refuse, ◌then◌}
+use Rattle.wire_spec.specs.Result.{Result, Err, Ok, refuse, ◌then◌}
 use Rattle.wire_spec.specs.Anc.{Record, run_octets}
 use Rattle.wire_spec.specs.Cells.{list_of, Lists}
-use Rattle.wire_spec.specs.Writing.{max_field_records, max_field_cells}
+use Rattle.wire_spec.specs.Writing.{max_field_records}
 use Rattle.wire_spec.proofs.BitLaws.{Reads, packed, unpacked, length-pack, below-octets, below-append}
 use Rattle.wire_spec.proofs.ResultLaws.{Passed, accepted-inj, judge-accepts, judge-passes, then-accepts, and-true, and_both}
 use Rattle.wire_spec.proofs.AncLaws.{below-run}
@@ -25,7 +25,7 @@ use Rattle.wire_spec.proofs.CellLaws.{list-iff, lists_length}
 use Rattle.wire_spec.proofs.PacketLaws.{not_eqb}
 use Rattle.fieldfile_spec.specs.declared.format.Version.{Version}
 use Rattle.fieldfile_spec.specs.declared.format.Version.TheVariants as version
-use Rattle.fieldfile_spec.specs.File.{file_name, version_number, written_version, version_field, is_version, version_said, version_of, count_bits, name_bits, version_bits, name_size, file_head_size, timestamp_bits, field_header_size, FieldContent, file_fields, file_head, field_header_fields, field_octets, field_size, fields_octets, file_octets, WellFormedField, read_front, file_checks, offset_checks, read_field, read_into, field_records, write_field, field_then, read_on, read_from}
+use Rattle.fieldfile_spec.specs.File.{file_name, version_number, written_version, version_field, is_version, version_said, version_of, count_bits, name_bits, name_size, file_head_size, timestamp_bits, FieldContent, file_fields, file_head, field_header_fields, field_octets, field_size, fields_octets, file_octets, WellFormedField, read_front, file_checks, offset_checks, read_field, read_into, field_records, write_field, field_then, read_on, read_from}
 use Rattle.fieldfile_spec.proofs.FrontLaws.{header-least, length-field, front-iff}
 use Rattle.fieldfile_spec.proofs.WritesLaws.{Writes, writes}
 
@@ -45,7 +45,7 @@ pub below-file : (v : Version) → (ks : List FieldContent) → Below 256 (file_
 below-file v ks = below-append 256 (file_head v) (fields_octets v ks) (below-octets _ _) (below-fields v ks)
 
 -- the octets of a well-formed field are read as that field, whatever follows them
-pub field-read : (v : Version) → (k : FieldContent) → WellFormedField v k → (t : List ℕ) → Below 256 t → read_front v (field_octets v k ++ t) ≡ accepted k
+pub field-read : (v : Version) → (k : FieldContent) → WellFormedField v k → (t : List ℕ) → Below 256 t → read_front v (field_octets v k ++ t) ≡ Ok k
 field-read v k w t b =
     (front-iff v (field_octets v k ++ t) k (below-append 256 (field_octets v k) t (below_field v k) b)).1 (w, take_at (field_octets v k) t (field_size v k.records) (length-field v k))
 
@@ -54,10 +54,10 @@ counts : (n : ℕ) → n ≤ max_field_records → n < 2 ^ count_bits written_ve
 counts n h = omega arith
 
 -- A FIELD WRITTEN AND READ IS THE SAME FIELD, whatever follows it: its records are those of the list, "apart from this cell" (02, K13)
-pub written_read : (ts f : ℕ) (cells : List ℕ) (room : ℕ) (o : List ℕ) → ts < 2 ^ timestamp_bits → write_field ts f cells room ≡ accepted o
+pub written_read : (ts f : ℕ) (cells : List ℕ) (room : ℕ) (o : List ℕ) → ts < 2 ^ timestamp_bits → write_field ts f cells room ≡ Ok o
     → (rs : List Record) × Lists rs cells × WellFormedField written_version (record { timestamp = ts; f = f; records = rs })
     × (o ≡ field_octets written_version (record { timestamp = ts; f = f; records = rs })) × (length o ≤ room)
-    × ((t : List ℕ) → Below 256 t → read_front written_version (o ++ t) ≡ accepted (record { timestamp = ts; f = f; records = rs }))
+    × ((t : List ℕ) → Below 256 t → read_front written_version (o ++ t) ≡ Ok (record { timestamp = ts; f = f; records = rs }))
 written_read ts f cells room o h e =
     let a = then-accepts (field_records f cells room) _ o e in
     let rs = a.0 in
@@ -136,7 +136,7 @@ module _ (v : Version) (s pre t : List ℕ) (parts : s ≡ pre ++ t) (head : IsF
       judge-passes 0 (file_checks s) _ head.0 ∙ rw (a, b, c)
 
   -- some: the field at their front
-  pub at_field : 0 < length t → read_field s (length pre) ≡ (read_front v t then λ k. accepted (k, length pre + field_size v k.records))
+  pub at_field : 0 < length t → read_field s (length pre) ≡ (read_front v t then λ k. Ok (k, length pre + field_size v k.records))
   unfolding read_field offset_checks
   at_field h =
       let a : leb file_head_size (length pre) ≡ true = le-leb file_head_size (length pre) long in
@@ -147,11 +147,11 @@ module _ (v : Version) (s pre t : List ℕ) (parts : s ≡ pre ++ t) (head : IsF
 
 -- THE SAME THROUGH A FILE: a field written behind anything that the head starts, whatever follows it, is read at its offset as the
 -- same timestamp, F and records, "apart from this cell", and the offset after it is that of what follows
-pub appended-read : (ts f : ℕ) (cells : List ℕ) (room : ℕ) (o : List ℕ) → ts < 2 ^ timestamp_bits → write_field ts f cells room ≡ accepted o
+pub appended-read : (ts f : ℕ) (cells : List ℕ) (room : ℕ) (o : List ℕ) → ts < 2 ^ timestamp_bits → write_field ts f cells room ≡ Ok o
     → (pre t : List ℕ) → Below 256 pre → Below 256 t → (lent : ℕ) → length cells ≤ lent
     → let at = length (file_head written_version ++ pre) in
     (rs : List Record) × Lists rs cells
-    × (read_into ((file_head written_version ++ pre) ++ (o ++ t)) at lent ≡ accepted (record { timestamp = ts; f = f; records = rs }, at + length o))
+    × (read_into ((file_head written_version ++ pre) ++ (o ++ t)) at lent ≡ Ok (record { timestamp = ts; f = f; records = rs }, at + length o))
 unfolding read_into
 appended-read ts f cells room o h e pre t bp bt lent l =
     let w = written_read ts f cells room o h e in
@@ -163,19 +163,19 @@ appended-read ts f cells room o h e pre t bp bt lent l =
     let bo : Below 256 o = subst (Below 256) (sym w.3) (below_field written_version k) in
     let p : IsFile written_version s =
     subst (IsFile written_version) (sym (append_assoc (file_head written_version) pre (o ++ t))) (head-passes written_version (pre ++ (o ++ t)) (below-append 256 pre (o ++ t) bp (below-append 256 o t bo bt))) in
-    let one : read_field s at ≡ accepted (k, at + field_size written_version rs) =
+    let one : read_field s at ≡ Ok (k, at + field_size written_version rs) =
     at_field written_version s (file_head written_version ++ pre) (o ++ t) refl p (omega (arith, length-append (file_head written_version) pre, length-head written_version)) (omega (arith, length-append o t, header-least written_version))
-    ∙ ap (λ x. x then λ k. accepted (k, at + field_size written_version k.records)) (w.5 t bt) in
+    ∙ ap (λ x. x then λ k. Ok (k, at + field_size written_version k.records)) (w.5 t bt) in
     let c : leb (length (list_of rs)) lent ≡ true = le-leb (length (list_of rs)) lent (omega (arith, lists_length rs cells w.1)) in
-    (rs, w.1, rw (one, c) (ap (λ (n : ℕ). accepted (k, at + n)) (sym size)))
+    (rs, w.1, rw (one, c) (ap (λ (n : ℕ). Ok (k, at + n)) (sym size)))
 
 -- a reading from the offset `at` on: the fields one after the other, and the refusal that ends it
 pub data Reading (s : List ℕ) : ℕ → List FieldContent → Refusal → Type 0 where
-  ends : {at : ℕ} {x : Refusal} → read_field s at ≡ refused x → Reading s at [] x
-  goes : {at next : ℕ} {k : FieldContent} {ks : List FieldContent} {x : Refusal} → read_field s at ≡ accepted (k, next) → Reading s next ks x → Reading s at (k ∷ ks) x
+  ends : {at : ℕ} {x : Refusal} → read_field s at ≡ Err x → Reading s at [] x
+  goes : {at next : ℕ} {k : FieldContent} {ks : List FieldContent} {x : Refusal} → read_field s at ≡ Ok (k, next) → Reading s next ks x → Reading s at (k ∷ ks) x
 
 -- each field moves the offset on
-moves : (s : List ℕ) (at : ℕ) (q : FieldContent × ℕ) → read_field s at ≡ accepted q → (at < length s) × (at < q.1)
+moves : (s : List ℕ) (at : ℕ) (q : FieldContent × ℕ) → read_field s at ≡ Ok q → (at < length s) × (at < q.1)
 unfolding read_field offset_checks
 moves s at q e =
     let v = version_of s in
@@ -199,8 +199,8 @@ reading s (suc bound) at h = go (read_field s at) refl (λ next l. reading s bou
     go : (r : Result (FieldContent × ℕ)) → read_field s at ≡ r
         → ((next : ℕ) → length s - next < bound → Reading s next (read_from bound s next).fields (read_from bound s next).end)
         → Reading s at (read_on r (λ next. read_from bound s next)).fields (read_on r (λ next. read_from bound s next)).end
-    go (refused x) e more = ends e
-    go (accepted q) e more = let m = moves s at q e in goes e (more q.1 (omega arith))
+    go (Err x) e more = ends e
+    go (Ok q) e more = let m = moves s at q e in goes e (more q.1 (omega arith))
 
 -- .. and there is no other
 pub reading-is : {s : List ℕ} {at : ℕ} {ks : List FieldContent} {x : Refusal} → Reading s at ks x → (bound : ℕ) → length s - at < bound

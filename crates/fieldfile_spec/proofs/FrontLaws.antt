@@ -12,7 +12,7 @@ use lib.Seq.{take-add, take_at, drop_at}
 use borrow.Author.Tests.{eqb-true, leb-true, le-leb}
 use Rattle.wire_spec.specs.Bits.{width, pack, Below, Fit}
 use Rattle.wire_spec.specs.Layout.{rfc8331}
-use Rattle.wire_spec.specs.Result.{Result, accepted, judge, ◌then◌}
+use Rattle.wire_spec.specs.Result.{Result, Ok, judge, ◌then◌}
 use Rattle.wire_spec.specs.Anc.{Record, run_octets, run_size, read_run}
 use Rattle.wire_spec.specs.Cells.{list_of}
 use Rattle.wire_spec.specs.Writing.{max_field_records, max_field_cells}
@@ -21,7 +21,7 @@ use Rattle.wire_spec.proofs.ResultLaws.{Passed, accepted-inj, judge-accepts, jud
 use Rattle.wire_spec.proofs.AncLaws.{run-iff, length_run}
 use Rattle.fieldfile_spec.specs.declared.format.Version.{Version}
 use Rattle.fieldfile_spec.specs.declared.format.Version.TheVariants as version
-use Rattle.fieldfile_spec.specs.File.{FieldContent, file_f_bits, timestamp_bits, count_bits, field_header_size, field_header_fields, field_octets, field_size, file_f_ok, within_limits, WellFormedField, timestamp_field, file_f_field, count_field, field_read, field_header_checks, limit_checks, read_front}
+use Rattle.fieldfile_spec.specs.File.{FieldContent, file_f_bits, timestamp_bits, field_header_size, field_header_fields, field_octets, field_size, file_f_ok, within_limits, WellFormedField, timestamp_field, file_f_field, count_field, field_read, field_header_checks, limit_checks, read_front}
 
 -- F is a number of its octet
 pub f-small : (f : ℕ) → file_f_ok f ≡ true → f < 2 ^ file_f_bits
@@ -83,7 +83,7 @@ header-found v s k t w e =
 pub record Answer (v : Version) (s : List ℕ) (k : FieldContent) : Type 0 where
   pub header : Passed (field_header_checks v s)
   pub rest : List ℕ
-  pub ran : read_run rfc8331 0 (count_field v s) (drop (field_header_size v) s) ≡ accepted (k.records, rest)
+  pub ran : read_run rfc8331 0 (count_field v s) (drop (field_header_size v) s) ≡ Ok (k.records, rest)
   pub limits : within_limits (length k.records) (length (list_of k.records)) ≡ true
   pub read : field_read s k.records ≡ k
 
@@ -91,27 +91,27 @@ module _ (v : Version) (s : List ℕ) (k : FieldContent) where
   abbrev run : Result (List Record × List ℕ)
   run = read_run rfc8331 0 (count_field v s) (drop (field_header_size v) s)
 
-  pub answer-iff : (read_front v s ≡ accepted k) ↔ Answer v s k
+  pub answer-iff : (read_front v s ≡ Ok k) ↔ Answer v s k
   unfolding read_front
   answer-iff = (
     λ e.
         let h = judge-accepts 0 (field_header_checks v s) _ k e in
         let r = then-accepts run _ k h.1 in
-        let l = judge-accepts 0 (limit_checks r.0.0) (accepted (field_read s r.0.0)) k r.2 in
+        let l = judge-accepts 0 (limit_checks r.0.0) (Ok (field_read s r.0.0)) k r.2 in
         let same : field_read s r.0.0 ≡ k = accepted-inj l.1 in
         let rs : r.0.0 ≡ k.records = ap (λ (x : FieldContent). x.records) same in
         record {
           header = h.0;
           rest = r.0.1;
-          ran = r.1 ∙ ap (λ (x : List Record). accepted (x, r.0.1)) rs;
+          ran = r.1 ∙ ap (λ (x : List Record). Ok (x, r.0.1)) rs;
           limits = subst (λ (x : List Record). within_limits (length x) (length (list_of x)) ≡ true) rs l.0.0;
           read = ap (field_read s) (sym rs) ∙ same;
         },
     λ a.
         judge-passes 0 (field_header_checks v s) _ a.header
-        ∙ ap (λ x. x then λ q. judge 0 (limit_checks q.0) (accepted (field_read s q.0))) a.ran
+        ∙ ap (λ x. x then λ q. judge 0 (limit_checks q.0) (Ok (field_read s q.0))) a.ran
         ∙ judge-passes 0 (limit_checks k.records) _ (a.limits, tt)
-        ∙ ap accepted a.read,
+        ∙ ap Ok a.read,
   )
 
   -- what stands in the octets of a field that is accepted
@@ -155,5 +155,5 @@ module _ (v : Version) (s : List ℕ) (k : FieldContent) where
       }
 
   -- A FIELD is accepted exactly when the octets of a well-formed field stand at the front
-  pub front-iff : Below 256 s → (read_front v s ≡ accepted k) ↔ (WellFormedField v k × (take (field_size v k.records) s ≡ field_octets v k))
+  pub front-iff : Below 256 s → (read_front v s ≡ Ok k) ↔ (WellFormedField v k × (take (field_size v k.records) s ≡ field_octets v k))
   front-iff b = (λ e. answer-stands b (answer-iff.0 e), λ p. answer-iff.1 (stands-answer b p.0 p.1))

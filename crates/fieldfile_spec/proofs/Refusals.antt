@@ -13,7 +13,7 @@ use borrow.Author.Tests.{eq-eqb, ne_eqb, eqb-true, eqb-false, leb-true, leb-fals
 use Rattle.wire_spec.specs.declared.refusal.Refusal.{Refusal}
 use Rattle.wire_spec.specs.Bits.{Fields, to_bits, num, octets, bits_at, field_bits, pack, Fit, Below}
 use Rattle.wire_spec.specs.Layout.{rfc8331}
-use Rattle.wire_spec.specs.Result.{Result, refused, accepted, refuse, Checks, judge, ◌then◌}
+use Rattle.wire_spec.specs.Result.{Result, Err, Ok, refuse, Checks, judge, ◌then◌}
 use Rattle.wire_spec.specs.Anc.{Record, run_size, read_run}
 use Rattle.wire_spec.specs.Cells.{list_of, read_list}
 use Rattle.wire_spec.specs.Writing.{max_field_records, max_field_cells}
@@ -191,77 +191,77 @@ module _ (s : List ℕ) (b : Below 256 s) where
           → read_run rfc8331 0 (count_field v t) (drop (header_octets v) t) ≡ r
       runs_same e = ap (λ (n : ℕ). read_run rfc8331 0 (count_field v t) (drop n t)) (sym (header-octets v)) ∙ e
 
-      front-refused : There s at v → read_front v t ≡ refused x → Refuses s at room x
+      front-refused : There s at v → read_front v t ≡ Err x → Refuses s at room x
       unfolding read_front
       front-refused h e = first (judge-refused 0 (field_header_checks v t) _ x e)
         where
-          limits : Headed s at v → (q : List Record × List ℕ) → read_run rfc8331 0 (count_field v t) (drop (field_header_size v) t) ≡ accepted q
-              → Fails 0 (limit_checks q.0) x ⊎ (Passed (limit_checks q.0) × (accepted (field_read t q.0) ≡ refused x)) → Refuses s at room x
+          limits : Headed s at v → (q : List Record × List ℕ) → read_run rfc8331 0 (count_field v t) (drop (field_header_size v) t) ≡ Ok q
+              → Fails 0 (limit_checks q.0) x ⊎ (Passed (limit_checks q.0) × (Ok (field_read t q.0) ≡ Err x)) → Refuses s at room x
           limits d q e (inl (inl f)) = over_limit v d q.0 q.1 (runs_same e) (limits-false (length q.0) (length (list_of q.0)) f.0) f.1
           limits d q e (inl (inr f)) = absurd f.1
           limits d q e (inr f) = absurd (not-refused f.1)
 
-          run : Headed s at v → (read_run rfc8331 0 (count_field v t) (drop (field_header_size v) t) ≡ refused x)
-              ⊎ ((q : List Record × List ℕ) × (read_run rfc8331 0 (count_field v t) (drop (field_header_size v) t) ≡ accepted q)
-              × (judge 0 (limit_checks q.0) (accepted (field_read t q.0)) ≡ refused x))
+          run : Headed s at v → (read_run rfc8331 0 (count_field v t) (drop (field_header_size v) t) ≡ Err x)
+              ⊎ ((q : List Record × List ℕ) × (read_run rfc8331 0 (count_field v t) (drop (field_header_size v) t) ≡ Ok q)
+              × (judge 0 (limit_checks q.0) (Ok (field_read t q.0)) ≡ Err x))
               → Refuses s at room x
           run d (inl e) = packet v d (runs_same e)
           run d (inr p) = limits d p.0 p.1 (judge-refused 0 (limit_checks p.0.0) _ x p.2)
 
           first : Fails 0 (field_header_checks v t) x
               ⊎ (Passed (field_header_checks v t)
-              × ((read_run rfc8331 0 (count_field v t) (drop (field_header_size v) t) then λ q. judge 0 (limit_checks q.0) (accepted (field_read t q.0))) ≡ refused x))
+              × ((read_run rfc8331 0 (count_field v t) (drop (field_header_size v) t) then λ q. judge 0 (limit_checks q.0) (Ok (field_read t q.0))) ≡ Err x))
               → Refuses s at room x
           first (inl f) = header-fails h f
           first (inr p) = run (headed h p.0) (then-refused (read_run rfc8331 0 (count_field v t) (drop (field_header_size v) t)) _ x p.1)
 
-    field-refused : read_field s at ≡ refused x → Refuses s at room x
+    field-refused : read_field s at ≡ Err x → Refuses s at room x
     unfolding read_field
     field-refused e = file (judge-refused 0 (file_checks s) _ x e)
       where
-        front : There s at (version_of s) → (read_front (version_of s) t ≡ refused x)
-            ⊎ ((k : FieldContent) × (read_front (version_of s) t ≡ accepted k) × (◌≡◌ {A = Result (FieldContent × ℕ)} (accepted (k, at + field_size (version_of s) k.records)) (refused x))) → Refuses s at room x
+        front : There s at (version_of s) → (read_front (version_of s) t ≡ Err x)
+            ⊎ ((k : FieldContent) × (read_front (version_of s) t ≡ Ok k) × (◌≡◌ {A = Result (FieldContent × ℕ)} (Ok (k, at + field_size (version_of s) k.records)) (Err x))) → Refuses s at room x
         front h (inl e) = front-refused (version_of s) h e
         front h (inr p) = absurd (not-refused p.2)
 
-        offset : Passed (file_checks s) → Fails 0 (offset_checks s at) x ⊎ (Passed (offset_checks s at) × (field_at (version_of s) s at ≡ refused x)) → Refuses s at room x
+        offset : Passed (file_checks s) → Fails 0 (offset_checks s at) x ⊎ (Passed (offset_checks s at) × (field_at (version_of s) s at ≡ Err x)) → Refuses s at room x
         offset p (inl f) = offset-fails p f
         offset p (inr q) = front (there p q.0) (then-refused (read_front (version_of s) t) _ x q.1)
 
-        file : Fails 0 (file_checks s) x ⊎ (Passed (file_checks s) × (judge 0 (offset_checks s at) (field_at (version_of s) s at) ≡ refused x)) → Refuses s at room x
+        file : Fails 0 (file_checks s) x ⊎ (Passed (file_checks s) × (judge 0 (offset_checks s at) (field_at (version_of s) s at) ≡ Err x)) → Refuses s at room x
         file (inl f) = file-fails f
         file (inr p) = offset p.0 (judge-refused 0 (offset_checks s at) _ x p.1)
 
-    into-refused : read_into s at room ≡ refused x → Refuses s at room x
+    into-refused : read_into s at room ≡ Err x → Refuses s at room x
     unfolding read_into
     into-refused e = go (then-refused (read_field s at) _ x e)
       where
-        last : (q : FieldContent × ℕ) → read_field s at ≡ accepted q
-            → Fails 0 ((leb (length (list_of q.0.records)) room, 14) ∷ []) x ⊎ (Passed ((leb (length (list_of q.0.records)) room, 14) ∷ []) × (accepted q ≡ refused x))
+        last : (q : FieldContent × ℕ) → read_field s at ≡ Ok q
+            → Fails 0 ((leb (length (list_of q.0.records)) room, 14) ∷ []) x ⊎ (Passed ((leb (length (list_of q.0.records)) room, 14) ∷ []) × (Ok q ≡ Err x))
             → Refuses s at room x
         last q h (inl (inl f)) = list_short q.0 q.1 h (leb-false (length (list_of q.0.records)) room f.0) f.1
         last q h (inl (inr f)) = absurd f.1
         last q h (inr f) = absurd (not-refused f.1)
 
-        go : (read_field s at ≡ refused x)
-            ⊎ ((q : FieldContent × ℕ) × (read_field s at ≡ accepted q) × (judge 0 ((leb (length (list_of q.0.records)) room, 14) ∷ []) (accepted q) ≡ refused x)) → Refuses s at room x
+        go : (read_field s at ≡ Err x)
+            ⊎ ((q : FieldContent × ℕ) × (read_field s at ≡ Ok q) × (judge 0 ((leb (length (list_of q.0.records)) room, 14) ∷ []) (Ok q) ≡ Err x)) → Refuses s at room x
         go (inl e) = field-refused e
-        go (inr p) = last p.0 p.1 (judge-refused 0 ((leb (length (list_of p.0.0.records)) room, 14) ∷ []) (accepted p.0) x p.2)
+        go (inr p) = last p.0 p.1 (judge-refused 0 ((leb (length (list_of p.0.0.records)) room, 14) ∷ []) (Ok p.0) x p.2)
 
     -- AND BACK
-    early : read_field s at ≡ refused x → read_into s at room ≡ refused x
+    early : read_field s at ≡ Err x → read_into s at room ≡ Err x
     unfolding read_into
     early e = rw e
 
-    file-refuses : Fails 0 (file_checks s) x → read_into s at room ≡ refused x
+    file-refuses : Fails 0 (file_checks s) x → read_into s at room ≡ Err x
     unfolding read_field
     file-refuses f = early (fails-judge 0 (file_checks s) _ x f)
 
-    offset-refuses : Passed (file_checks s) → Fails 0 (offset_checks s at) x → read_into s at room ≡ refused x
+    offset-refuses : Passed (file_checks s) → Fails 0 (offset_checks s at) x → read_into s at room ≡ Err x
     unfolding read_field
     offset-refuses p f = early (judge-passes 0 (file_checks s) _ p ∙ fails-judge 0 (offset_checks s at) _ x f)
 
-    front-refuses : (v : Version) → There s at v → read_front v t ≡ refused x → read_into s at room ≡ refused x
+    front-refuses : (v : Version) → There s at v → read_front v t ≡ Err x → read_into s at room ≡ Err x
     unfolding read_field offset_checks
     front-refuses v h e =
         let p = head_passed v h.head in
@@ -280,7 +280,7 @@ module _ (s : List ℕ) (b : Below 256 s) where
         → read_run rfc8331 0 (count_field v t) (drop (field_header_size v) t) ≡ r
     run-same v e = ap (λ (n : ℕ). read_run rfc8331 0 (count_field v t) (drop n t)) (header-octets v) ∙ e
 
-    back : Refuses s at room x → read_into s at room ≡ refused x
+    back : Refuses s at room x → read_into s at room ≡ Err x
     unfolding file_checks offset_checks field_header_checks read_front read_into
     back (not_anf h e) = file-refuses (inl (name-false, e))
       where
@@ -316,59 +316,59 @@ module _ (s : List ℕ) (b : Below 256 s) where
         front-refuses v h.there (judge-passes 0 (field_header_checks v t) _ (header-passed v h) ∙ rw (run-same v e))
     back (over_limit v h rs rest r o e) =
         front-refuses v h.there
-        (judge-passes 0 (field_header_checks v t) _ (header-passed v h) ∙ rw (run-same v r, over-limits (length rs) (length (list_of rs)) o) (ap refused (sym e)))
-    back (list_short k next h l e) = rw (h, lt-leb (length (list_of k.records)) room l) (ap refused (sym e))
+        (judge-passes 0 (field_header_checks v t) _ (header-passed v h) ∙ rw (run-same v r, over-limits (length rs) (length (list_of rs)) o) (ap Err (sym e)))
+    back (list_short k next h l e) = rw (h, lt-leb (length (list_of k.records)) room l) (ap Err (sym e))
 
-    pub read-refuses : (read_into s at room ≡ refused x) ↔ Refuses s at room x
+    pub read-refuses : (read_into s at room ≡ Err x) ↔ Refuses s at room x
     read-refuses = (into-refused, back)
 
 -- WRITING
 module _ (timestamp f : ℕ) (cells : List ℕ) (room : ℕ) (x : Refusal) where
-  records-refused : field_records f cells room ≡ refused x → refuses.WriteRefuses f cells room x
+  records-refused : field_records f cells room ≡ Err x → refuses.WriteRefuses f cells room x
   records-refused e = head (judge-refused 0 ((file_f_ok f, 53) ∷ []) _ x e)
     where
-      room-fails : IsF f → (rs : List Record) → read_list cells ≡ accepted rs
-          → Fails 0 (room_checks rs (length cells) room) x ⊎ (Passed (room_checks rs (length cells) room) × (accepted rs ≡ refused x)) → refuses.WriteRefuses f cells room x
+      room-fails : IsF f → (rs : List Record) → read_list cells ≡ Ok rs
+          → Fails 0 (room_checks rs (length cells) room) x ⊎ (Passed (room_checks rs (length cells) room) × (Ok rs ≡ Err x)) → refuses.WriteRefuses f cells room x
       room-fails h rs q (inl (inl g)) = refuses.over_limit h rs q (limits-false (length rs) (length cells) g.0) g.1
       room-fails h rs q (inl (inr (g, inl k))) = refuses.no_room h rs q (limits-true (length rs) (length cells) g) (leb-false (7 + run_size rfc8331 rs) room k.0) k.1
       room-fails h rs q (inl (inr (g, inr k))) = absurd k.1
       room-fails h rs q (inr g) = absurd (not-refused g.1)
 
-      list : IsF f → (read_list cells ≡ refused x) ⊎ ((rs : List Record) × (read_list cells ≡ accepted rs) × (judge 0 (room_checks rs (length cells) room) (accepted rs) ≡ refused x))
+      list : IsF f → (read_list cells ≡ Err x) ⊎ ((rs : List Record) × (read_list cells ≡ Ok rs) × (judge 0 (room_checks rs (length cells) room) (Ok rs) ≡ Err x))
           → refuses.WriteRefuses f cells room x
       list h (inl e) = refuses.list h e
-      list h (inr p) = room-fails h p.0 p.1 (judge-refused 0 (room_checks p.0 (length cells) room) (accepted p.0) x p.2)
+      list h (inr p) = room-fails h p.0 p.1 (judge-refused 0 (room_checks p.0 (length cells) room) (Ok p.0) x p.2)
 
       head : Fails 0 ((file_f_ok f, 53) ∷ []) x
-          ⊎ (Passed ((file_f_ok f, 53) ∷ []) × ((read_list cells then λ rs. judge 0 (room_checks rs (length cells) room) (accepted rs)) ≡ refused x)) → refuses.WriteRefuses f cells room x
+          ⊎ (Passed ((file_f_ok f, 53) ∷ []) × ((read_list cells then λ rs. judge 0 (room_checks rs (length cells) room) (Ok rs)) ≡ Err x)) → refuses.WriteRefuses f cells room x
       head (inl (inl g)) = refuses.wrong_f (f-not f g.0) g.1
       head (inl (inr g)) = absurd g.1
       head (inr p) = list ((f-iff f).0 p.0.0) (then-refused (read_list cells) _ x p.1)
 
-  refuses-records : refuses.WriteRefuses f cells room x → field_records f cells room ≡ refused x
-  refuses-records (refuses.wrong_f h e) = rw (f-false f h) (ap refused (sym e))
+  refuses-records : refuses.WriteRefuses f cells room x → field_records f cells room ≡ Err x
+  refuses-records (refuses.wrong_f h e) = rw (f-false f h) (ap Err (sym e))
   refuses-records (refuses.list h e) = rw ((f-iff f).1 h, e)
-  refuses-records (refuses.over_limit h rs q o e) = rw ((f-iff f).1 h, q, over-limits (length rs) (length cells) o) (ap refused (sym e))
-  refuses-records (refuses.no_room h rs q o l e) = rw ((f-iff f).1 h, q, within-limits (length rs) (length cells) o, lt-leb (7 + run_size rfc8331 rs) room l) (ap refused (sym e))
+  refuses-records (refuses.over_limit h rs q o e) = rw ((f-iff f).1 h, q, over-limits (length rs) (length cells) o) (ap Err (sym e))
+  refuses-records (refuses.no_room h rs q o l e) = rw ((f-iff f).1 h, q, within-limits (length rs) (length cells) o, lt-leb (7 + run_size rfc8331 rs) room l) (ap Err (sym e))
 
-  pub write-refuses : (write_field timestamp f cells room ≡ refused x) ↔ refuses.WriteRefuses f cells room x
+  pub write-refuses : (write_field timestamp f cells room ≡ Err x) ↔ refuses.WriteRefuses f cells room x
   write-refuses = (
     λ e. go (then-refused (field_records f cells room) _ x e),
     λ r. rw (refuses-records r),
   )
     where
-      go : (field_records f cells room ≡ refused x)
-          ⊎ ((rs : List Record) × (field_records f cells room ≡ accepted rs)
-          × (◌≡◌ {A = Result (List ℕ)} (accepted (field_octets written_version (record { timestamp = timestamp; f = f; records = rs }))) (refused x)))
+      go : (field_records f cells room ≡ Err x)
+          ⊎ ((rs : List Record) × (field_records f cells room ≡ Ok rs)
+          × (◌≡◌ {A = Result (List ℕ)} (Ok (field_octets written_version (record { timestamp = timestamp; f = f; records = rs }))) (Err x)))
           → refuses.WriteRefuses f cells room x
       go (inl e) = records-refused e
       go (inr p) = absurd (not-refused p.2)
 
 -- "the first five octets are written by themselves (23)"
-pub begin-refuses : (room : ℕ) (x : Refusal) → (write_head room ≡ refused x) ↔ ((room < 5) × (x ≡ only 23))
-begin-refuses room x = (λ e. go (leb file_head_size room) refl e, λ p. rw (lt-leb file_head_size room p.0) (ap refused (sym p.1)))
+pub begin-refuses : (room : ℕ) (x : Refusal) → (write_head room ≡ Err x) ↔ ((room < 5) × (x ≡ only 23))
+begin-refuses room x = (λ e. go (leb file_head_size room) refl e, λ p. rw (lt-leb file_head_size room p.0) (ap Err (sym p.1)))
   where
-    go : (c : Bool) → leb file_head_size room ≡ c → cond c (accepted (file_head version.Two)) (refuse 23 0) ≡ refused x → (room < 5) × (x ≡ only 23)
+    go : (c : Bool) → leb file_head_size room ≡ c → cond c (Ok (file_head version.Two)) (refuse 23 0) ≡ Err x → (room < 5) × (x ≡ only 23)
     go true q e = absurd (not-refused e)
     go false q e = (leb-false file_head_size room q, sym (refused-inj e))
 

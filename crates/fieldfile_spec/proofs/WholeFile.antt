@@ -14,7 +14,7 @@ use borrow.Author.Tests.{eqb-true, leb-true}
 use Rattle.wire_spec.specs.declared.refusal.Refusal.{Refusal}
 use Rattle.wire_spec.specs.Bits.{Below}
 use Rattle.wire_spec.specs.Layout.{rfc8331}
-use Rattle.wire_spec.specs.Result.{Result, refused, accepted, Checks, judge, ◌then◌}
+use Rattle.wire_spec.specs.Result.{Result, Err, Ok, Checks, judge, ◌then◌}
 use Rattle.wire_spec.specs.Anc.{Each, anc_checks, read_run}
 use Rattle.wire_spec.proofs.BitLaws.{below-take, below-drop}
 use Rattle.wire_spec.proofs.ResultLaws.{Numbered, judge-numbered, then-numbered, Passed, accepted-inj, judge-accepts, then-accepts}
@@ -27,7 +27,7 @@ use Rattle.fieldfile_spec.proofs.CutFile.{whole-file}
 
 -- a refusal with another number comes from what follows
 judge-other : {A : Type 0} (i : ℕ) (ts : Checks) (r : Result A) (x : Refusal) → Each (λ (t : Bool × ℕ). t.1 ≡ x.number → ⊥) ts
-    → judge i ts r ≡ refused x → Passed ts × (r ≡ refused x)
+    → judge i ts r ≡ Err x → Passed ts × (r ≡ Err x)
 judge-other i [] r x h e = (tt, e)
 judge-other i ((true, n) ∷ ts) r x h e = let p = judge-other i ts r x h.1 e in ((refl, p.0), p.1)
 judge-other i ((false, n) ∷ ts) r x h e = let z : record { number = n; index = i } ≡ x = cc in absurd (h.0 (ap (λ (y : Refusal). y.number) z))
@@ -41,13 +41,13 @@ unfolding read_front field_header_checks anc_checks
 front-numbered v s =
     judge-numbered not_over53 0 (field_header_checks v s) _ refl
     (then-numbered not_over53 (read_run rfc8331 0 (count_field v s) _) _ (run-numbered not_over53 rfc8331 (λ s. refl) 0 (count_field v s) _)
-    (λ q. judge-numbered not_over53 0 (limit_checks q.0) (accepted (field_read s q.0)) refl tt))
+    (λ q. judge-numbered not_over53 0 (limit_checks q.0) (Ok (field_read s q.0)) refl tt))
 
-front-number : (v : Version) → (s : List ℕ) (x : Refusal) → read_front v s ≡ refused x → x.number ≤ 53
+front-number : (v : Version) → (s : List ℕ) (x : Refusal) → read_front v s ≡ Err x → x.number ≤ 53
 front-number v s x e = leb-true x.number 53 (subst (Numbered not_over53) e (front-numbered v s))
 
 -- 54 is given at the end of a file, and nowhere else
-end-only : (s : List ℕ) (at : ℕ) (x : Refusal) → x.number ≡ 54 → read_field s at ≡ refused x → Passed (file_checks s) × (at ≡ length s)
+end-only : (s : List ℕ) (at : ℕ) (x : Refusal) → x.number ≡ 54 → read_field s at ≡ Err x → Passed (file_checks s) × (at ≡ length s)
 unfolding read_field file_checks offset_checks
 end-only s at x n e =
     let f = judge-other 0 (file_checks s) _ x ((λ (z : 50 ≡ x.number). omega arith), ((λ (z : 51 ≡ x.number). omega arith), tt)) e in
@@ -55,13 +55,13 @@ end-only s at x n e =
     (f.0, go (eqb at (length s)) refl o.1)
   where
     go : (t : Bool) → eqb at (length s) ≡ t
-        → judge {A = FieldContent × ℕ} 0 ((not t, 54) ∷ []) (field_at (version_of s) s at) ≡ refused x → at ≡ length s
+        → judge {A = FieldContent × ℕ} 0 ((not t, 54) ∷ []) (field_at (version_of s) s at) ≡ Err x → at ≡ length s
     go true p e = eqb-true at (length s) p
     go false p e = absurd (more (read_front (version_of s) (drop at s)) refl e)
       where
-        more : (v : Result FieldContent) → read_front (version_of s) (drop at s) ≡ v → ◌then◌ {B = FieldContent × ℕ} v (λ k. accepted (k, at + field_size (version_of s) k.records)) ≡ refused x → ⊥
-        more (refused z) q e = let i : z ≡ x = cc in omega (arith, front-number (version_of s) (drop at s) x (q ∙ ap refused i))
-        more (accepted k) q e = let z : ◌≡◌ {A = ℕ} 0 1 = cc in omega arith
+        more : (v : Result FieldContent) → read_front (version_of s) (drop at s) ≡ v → ◌then◌ {B = FieldContent × ℕ} v (λ k. Ok (k, at + field_size (version_of s) k.records)) ≡ Err x → ⊥
+        more (Err z) q e = let i : z ≡ x = cc in omega (arith, front-number (version_of s) (drop at s) x (q ∙ ap Err i))
+        more (Ok k) q e = let z : ◌≡◌ {A = ℕ} 0 1 = cc in omega arith
 
 -- the octets from an offset on are those of the fields that are read there, up to 54
 stands : {s : List ℕ} {at : ℕ} {ks : List FieldContent} {x : Refusal} → Below 256 s → x.number ≡ 54 → Reading s at ks x
@@ -74,7 +74,7 @@ stands {s} {at} b n (goes {next = next} {k = k} {ks = ks} e r) =
     let o = judge-accepts 0 (offset_checks s at) _ (k, next) f.1 in
     let q = then-accepts (read_front v (drop at s)) _ (k, next) o.1 in
     let same = accepted-inj q.2 in
-    let front : read_front v (drop at s) ≡ accepted k = q.1 ∙ ap accepted (ap (λ (z : FieldContent × ℕ). z.0) same) in
+    let front : read_front v (drop at s) ≡ Ok k = q.1 ∙ ap Ok (ap (λ (z : FieldContent × ℕ). z.0) same) in
     let w = (front-iff v (drop at s) k (below-drop 256 at s b)).0 front in
     let size = field_size v k.records in
     let on : at + size ≡ next = ap (λ (z : FieldContent). at + field_size v z.records) (sym (ap (λ (z : FieldContent × ℕ). z.0) same)) ∙ ap (λ (z : FieldContent × ℕ). z.1) same in

@@ -3,9 +3,9 @@ use Rattle.std.specs.Prelude.{◌≡◌, Bool, true, not, cond, ◌&&◌, ◌||�
 use Rattle.wire_spec.specs.declared.refusal.Refusal.{Refusal}
 use Rattle.wire_spec.specs.Bits.{Fields, pack, bits_at}
 use Rattle.wire_spec.specs.Layout.{rfc8331}
-use Rattle.wire_spec.specs.Result.{Result, refused, accepted, no_refusal, Checks, judge, ◌then◌}
+use Rattle.wire_spec.specs.Result.{Result, Err, Ok, no_refusal, Checks, judge, ◌then◌}
 use Rattle.wire_spec.specs.Anc.{Record, WellFormed, Each, run_octets, run_size, read_run}
-use Rattle.wire_spec.specs.Cells.{list_of, read_list}
+use Rattle.wire_spec.specs.Cells.{list_of}
 use Rattle.wire_spec.specs.Writing.{max_field_records, max_field_cells, records_to_write}
 use Rattle.fieldfile_spec.specs.declared.format.Version.{Version}
 use Rattle.fieldfile_spec.specs.declared.format.Version.TheVariants as version
@@ -127,7 +127,7 @@ unfoldable pub read_front : Version → List ℕ → Result FieldContent
 read_front v s =
     judge 0 (field_header_checks v s)
     (read_run rfc8331 0 (count_field v s) (drop (field_header_size v) s) then
-    λ q. judge 0 (limit_checks q.0) (accepted (field_read s q.0)))
+    λ q. judge 0 (limit_checks q.0) (Ok (field_read s q.0)))
 
 -- the version that stands in a file's head, and whether it is one that is read
 abbrev pub version_field : List ℕ → ℕ
@@ -155,7 +155,7 @@ offset_checks s at = (leb file_head_size at && leb at (length s), 55) ∷ (not (
 
 -- "Reading at an offset: 50, 51, 55, 54, 52, 53, 9 to 12, 21, ..": the field at `at`, and "the offset after the field"
 abbrev pub field_at : Version → List ℕ → ℕ → Result (FieldContent × ℕ)
-field_at v s at = read_front v (drop at s) then λ k. accepted (k, at + field_size v k.records)
+field_at v s at = read_front v (drop at s) then λ k. Ok (k, at + field_size v k.records)
 
 unfoldable pub read_field : List ℕ → ℕ → Result (FieldContent × ℕ)
 read_field s at = judge 0 (file_checks s) (judge 0 (offset_checks s at) (field_at (version_of s) s at))
@@ -163,11 +163,11 @@ read_field s at = judge 0 (file_checks s) (judge 0 (offset_checks s at) (field_a
 -- ".., 14": the lent list of `room` cells is shorter than the records need
 unfoldable pub read_into : List ℕ → ℕ → ℕ → Result (FieldContent × ℕ)
 read_into s at room =
-    read_field s at then λ q. judge 0 ((leb (length (list_of q.0.records)) room, 14) ∷ []) (accepted q)
+    read_field s at then λ q. judge 0 ((leb (length (list_of q.0.records)) room, 14) ∷ []) (Ok q)
 
 -- "the first five octets are written by themselves (23)"
 abbrev pub write_head : ℕ → Result (List ℕ)
-write_head room = judge 0 ((leb file_head_size room, 23) ∷ []) (accepted (file_head written_version))
+write_head room = judge 0 ((leb file_head_size room, 23) ∷ []) (Ok (file_head written_version))
 
 -- 21, 23, for a list of so many cells and lent room for so many octets
 abbrev pub room_checks : List Record → (cells room : ℕ) → Checks
@@ -181,7 +181,7 @@ field_records f cells room = records_to_write ((file_f_ok f, 53) ∷ []) (λ rs.
 abbrev pub write_field : (timestamp f : ℕ) (cells : List ℕ) (room : ℕ) → Result (List ℕ)
 write_field timestamp f cells room =
     field_records f cells room then
-    λ rs. accepted (field_octets written_version (record { timestamp = timestamp; f = f; records = rs }))
+    λ rs. Ok (field_octets written_version (record { timestamp = timestamp; f = f; records = rs }))
 
 -- A whole file read: its fields in order, and the refusal that ended the reading.
 pub record FileRead : Type 0 where
@@ -201,8 +201,8 @@ field_then k behind = record { fields = k ∷ behind.fields; end = behind.end }
 
 -- a refusal ends the reading, and behind a field it goes on at the next offset
 abbrev pub read_on : Result (FieldContent × ℕ) → (ℕ → FileRead) → FileRead
-read_on (refused x) behind = no_field x
-read_on (accepted q) behind = field_then q.0 (behind q.1)
+read_on (Err x) behind = no_field x
+read_on (Ok q) behind = field_then q.0 (behind q.1)
 
 -- fields read one after the other from the offset `at` on; the first argument bounds how many readings there can be
 unfoldable pub read_from : ℕ → List ℕ → ℕ → FileRead

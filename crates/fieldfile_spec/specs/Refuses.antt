@@ -2,7 +2,7 @@
 use Rattle.std.specs.Prelude.{◌≡◌, ◌⊎◌, List, [], ◌∷◌, ℕ, ◌+◌, ◌<◌, ◌≤◌, length, take, drop, get_or}
 use Rattle.wire_spec.specs.declared.refusal.Refusal.{Refusal}
 use Rattle.wire_spec.specs.Layout.{rfc8331}
-use Rattle.wire_spec.specs.Result.{refused, accepted}
+use Rattle.wire_spec.specs.Result.{Err, Ok}
 use Rattle.wire_spec.specs.Anc.{Record, run_size, read_run}
 use Rattle.wire_spec.specs.Cells.{list_of, read_list}
 use Rattle.fieldfile_spec.specs.declared.format.Version.{Version}
@@ -53,16 +53,16 @@ pub data Refuses (s : List ℕ) (at room : ℕ) (x : Refusal) : Type 0 where
   at_end : (v : Version) → take 5 s ≡ head_of v → 5 ≤ at → at ≡ length s → x ≡ only 54 → Refuses s at room x
   header_cut : (v : Version) → There s at v → length (drop at s) < header_octets v → x ≡ only 52 → Refuses s at room x
   wrong_f : (v : Version) → There s at v → header_octets v ≤ length (drop at s) → (IsF (get_or (drop at s) 4 0) → ⊥) → x ≡ only 53 → Refuses s at room x
-  packet : (v : Version) → Headed s at v → read_run rfc8331 0 (count_field v (drop at s)) (drop (header_octets v) (drop at s)) ≡ refused x → Refuses s at room x
+  packet : (v : Version) → Headed s at v → read_run rfc8331 0 (count_field v (drop at s)) (drop (header_octets v) (drop at s)) ≡ Err x → Refuses s at room x
   over_limit : (v : Version) → Headed s at v → (rs : List Record) (rest : List ℕ)
-      → read_run rfc8331 0 (count_field v (drop at s)) (drop (header_octets v) (drop at s)) ≡ accepted (rs, rest) → Over (length rs) (length (list_of rs))
+      → read_run rfc8331 0 (count_field v (drop at s)) (drop (header_octets v) (drop at s)) ≡ Ok (rs, rest) → Over (length rs) (length (list_of rs))
       → x ≡ only 21 → Refuses s at room x
-  list_short : (k : FieldContent) (next : ℕ) → read_field s at ≡ accepted (k, next) → room < length (list_of k.records) → x ≡ only 14 → Refuses s at room x
+  list_short : (k : FieldContent) (next : ℕ) → read_field s at ≡ Ok (k, next) → room < length (list_of k.records) → x ≡ only 14 → Refuses s at room x
 
 -- "Writing one field: 53, 20, 21, 23", and 16 "after 20" (02, K5)
 pub data WriteRefuses (f : ℕ) (cells : List ℕ) (room : ℕ) (x : Refusal) : Type 0 where
   wrong_f : (IsF f → ⊥) → x ≡ only 53 → WriteRefuses f cells room x
-  list : IsF f → read_list cells ≡ refused x → WriteRefuses f cells room x
-  over_limit : IsF f → (rs : List Record) → read_list cells ≡ accepted rs → Over (length rs) (length cells) → x ≡ only 21 → WriteRefuses f cells room x
-  no_room : IsF f → (rs : List Record) → read_list cells ≡ accepted rs → (Over (length rs) (length cells) → ⊥) → room < 7 + run_size rfc8331 rs
+  list : IsF f → read_list cells ≡ Err x → WriteRefuses f cells room x
+  over_limit : IsF f → (rs : List Record) → read_list cells ≡ Ok rs → Over (length rs) (length cells) → x ≡ only 21 → WriteRefuses f cells room x
+  no_room : IsF f → (rs : List Record) → read_list cells ≡ Ok rs → (Over (length rs) (length cells) → ⊥) → room < 7 + run_size rfc8331 rs
       → x ≡ only 23 → WriteRefuses f cells room x

@@ -7,14 +7,12 @@ ghost use Rattle.fieldfile_writer.specs.Entry.{begin_leaves, begin_returns, fiel
 
 pub mod writing;
 
-use anc_writer::check::Listed;
 use anc_writer::write::write_run;
 use fieldfile_spec::format::{HEAD_SIZE, HEADER_SIZE_2};
 use wire_spec::count::OctetCount;
 use wire_spec::layout::Layout;
 use wire_spec::number::Timestamp;
-use wire_spec::refusal::Refusal;
-use wire_spec::written::Written;
+use wire_spec::refusal::{Refusal, refuse};
 use wire_words::octet::copy;
 use writing::{measure, write_header};
 
@@ -22,30 +20,29 @@ use writing::{measure, write_header};
 const HEAD: [u8; HEAD_SIZE] = [0x41, 0x4E, 0x46, 0, 2];
 
 // Writes `ANF` and the version to the first octets of `out`.
-pub fn begin(out: &mut [u8]) -> Written
+pub fn begin(out: &mut [u8]) -> Result<OctetCount, Refusal>
     ensures value { result ≡ begin_returns out.old }
     ensures out_after { out.new ≡ begin_leaves out.old }
 {
     if out.len() < HEAD_SIZE {
-        return Written::Refused(Refusal {
-            number: Refusal::ROOM_TOO_SMALL,
-            index: 0,
-        });
+        return refuse(Refusal::ROOM_TOO_SMALL);
     }
     copy(&HEAD, out);
-    Written::Octets(OctetCount(HEAD_SIZE))
+    Ok(OctetCount(HEAD_SIZE))
 }
 
 // Writes a field with the records of the cells into the first octets of `out`, for a file that `begin` began.
-pub fn write_field(timestamp: Timestamp, f: u8, cells: &[u16], out: &mut [u8]) -> Written
+pub fn write_field(
+    timestamp: Timestamp,
+    f: u8,
+    cells: &[u16],
+    out: &mut [u8],
+) -> Result<OctetCount, Refusal>
     ensures value { result ≡ field_returns timestamp.0 f cells.now out.old }
     ensures out_after { out.new ≡ field_leaves timestamp.0 f cells.now out.old }
 {
-    let listed = measure(f, cells, out.len());
-    let Listed::Records { count, octets } = listed else {
-        return Written::Refused(listed.refusal());
-    };
-    write_header(timestamp, f, count as u16, out);
+    let listed = measure(f, cells, out.len())?;
+    write_header(timestamp, f, listed.count as u16, out);
     write_run(Layout::Rfc8331, cells, &mut out[HEADER_SIZE_2..]);
-    Written::Octets(OctetCount(HEADER_SIZE_2 + octets.0))
+    Ok(OctetCount(HEADER_SIZE_2 + listed.octets.0))
 }

@@ -5,34 +5,33 @@ ghost use Rattle.wire_spec.specs.Layout.{rfc8331};
 ghost use Rattle.wire_spec.specs.Bits.{overwrite, pack};
 ghost use Rattle.fieldfile_spec.specs.File.{field_header_fields, field_header_size, field_records, written_version};
 
-use anc_writer::check::{Listed, Measured, check_list, fits_behind, measure_list};
+use anc_writer::check::{Listed, check_list, fits_behind, measure_list};
 use fieldfile_reader::rules::{f_ok, within_limits};
 use fieldfile_spec::format::HEADER_SIZE_2;
 use wire_spec::layout::Layout;
 use wire_spec::number::Timestamp;
-use wire_spec::refusal::Refusal;
+use wire_spec::refusal::{Refusal, refuse};
 use wire_words::octet::copy;
 
 // 53, 20, 16, 21, 23: the records, and the octets of their ANC data packets.
-pub(crate) fn measure(f: u8, cells: &[u16], room: usize) -> Listed
+pub(crate) fn measure(f: u8, cells: &[u16], room: usize) -> Result<Listed, Refusal>
     ensures { result ≡ listed_of rfc8331 (field_records f cells.now room) }
 {
     if !f_ok(f) {
-        return Listed::refuse(Refusal::FILE_F_INVALID);
+        return refuse(Refusal::FILE_F_INVALID);
     }
-    let measured = measure_list(Layout::Rfc8331, cells);
-    let Measured::Records { count, octets } = measured else {
+    let Some(listed) = measure_list(Layout::Rfc8331, cells) else {
         return check_list(Layout::Rfc8331, cells);
     };
-    let within = within_limits(count, cells.len());
-    let enough = fits_behind(HEADER_SIZE_2, octets, room);
+    let within = within_limits(listed.count, cells.len());
+    let enough = fits_behind(HEADER_SIZE_2, listed.octets, room);
     if !within {
-        return Listed::refuse(Refusal::OVER_LIMIT);
+        return refuse(Refusal::OVER_LIMIT);
     }
     if !enough {
-        return Listed::refuse(Refusal::ROOM_TOO_SMALL);
+        return refuse(Refusal::ROOM_TOO_SMALL);
     }
-    Listed::Records { count, octets }
+    Ok(listed)
 }
 
 // The octets before a field's ANC data packets.

@@ -5,11 +5,12 @@ ghost use Rattle.std.specs.Prelude.{length};
 ghost use Rattle.fieldlist_turns.specs.Turns.{Ended, Enough};
 
 use fieldlist_session::session::FIELD_ROOM;
-use fieldlist_turns::{close, start, turn};
-use program::buffers::{failure_of, turns_left};
+use fieldlist_turns::{Listing, close, start};
+use program::buffers::failure_of;
 use program::progress::is_watched;
+use program::run::run_on;
 use program::streams::{Sink, Source};
-use program_arguments::failures::report_failure;
+use program_arguments::failures::{Ends, report_failure};
 use program_arguments::files::{file_at, layout_told, open_input};
 use program_arguments::options::may_start;
 use program_arguments::words::{WORD_ROOM, word_at};
@@ -37,18 +38,16 @@ fn list(
     requires { Enough (length input.old) (length store.old) (length out.old) }
     ensures { Ended layout store.old store.new out.new result }
 {
-    let mut run = start(layout, out);
-    let mut turns = u64::MAX;
-    while turns > 0 {
-        run = turn(from, to, run, input, store, out);
-        let buffers = run.buffers;
-        turns = turns_left(turns, buffers.open, watched);
-    }
+    let started = start(layout, out);
+    let turns = u64::MAX;
+    let run = run_on(
+        Listing, from, to, watched, turns, started, input, store, out,
+    );
     close(to, run, input, out)
 }
 
 // Lists them in buffers of its own; what failed, if anything did.
-fn list_file(rt: HostRuntime, layout: Layout, from: &mut Source, to: &mut Sink) -> Failure {
+fn list_file(rt: HostRuntime, layout: Layout, from: &mut Source, to: &mut Sink) -> Option<Failure> {
     let mut input = [0u8; INPUT_SIZE];
     let mut store = [0u16; MAX_FIELD_CELLS];
     let mut out = [0u8; TEXT_SIZE];
@@ -92,14 +91,13 @@ fn main(rt: HostRuntime) {
     let mut to = Sink::standard(rt.stdout());
     let mut name = [0u8; WORD_ROOM];
     let length = word_at(rt, at, &mut name);
-    let failure = list_file(rt, layout, &mut from, &mut to);
-    report_failure(
-        rt.stderr(),
-        failure,
-        b"fieldlist",
-        &name[..length],
-        &from,
-        b"",
-        &to,
-    );
+    if let Some(failure) = list_file(rt, layout, &mut from, &mut to) {
+        let ends = Ends {
+            source: &from,
+            input: &name[..length],
+            sink: &to,
+            output: b"",
+        };
+        report_failure(rt.stderr(), b"fieldlist", failure, ends);
+    }
 }

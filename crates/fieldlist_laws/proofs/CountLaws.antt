@@ -1,5 +1,6 @@
 -- The lines of a listing, counted.
 -- Packet by packet: what is gathered stands in the store as records (`fieldsave_laws`), and each is a line.
+use Rattle.depacketizer.specs.declared.state.Depacketizer.{Depacketizer}
 use mathlib.Core.Path.{◌≡◌, refl, subst}
 use mathlib.Core.Bool.{Bool, true, false}
 use mathlib.Core.List.{List, [], ◌∷◌, ◌++◌}
@@ -7,14 +8,12 @@ use Prim.Native.Nat.{ℕ, suc, ◌+◌}
 use native.Mathlib.Omega.{arith}
 use lib.ListN.{length, take}
 use Rattle.wire_spec.specs.Bits.{Below}
-use Rattle.wire_spec.specs.Result.{Result, refused, accepted, Checks}
+use Rattle.wire_spec.specs.Result.{Result, Err, Ok, Checks}
 use Rattle.wire_spec.specs.Anc.{Each, Record}
 use Rattle.wire_spec.specs.Packet.{read_content}
 use Rattle.wire_spec.proofs.WritingLaws.{passes}
 use Rattle.fieldfile_spec.specs.File.{file_f_ok, within_limits}
 use Rattle.rtp_frames.specs.Frames.{frames}
-use Rattle.depacketizer.specs.declared.state.Opened.{Opened}
-use Rattle.depacketizer.specs.declared.state.Opened.TheVariants as opened
 use Rattle.depacketizer_spec.specs.declared.state.Answer.{Answer}
 use Rattle.depacketizer_spec.specs.declared.state.Answer.TheVariants as answer
 use Rattle.depacketizer_spec.specs.declared.state.Field.{Field}
@@ -70,8 +69,8 @@ whole-lines n x store = go (records_to_file x.f (take x.cells store)) refl
     go : (r : Result (List Record)) → records_to_file x.f (take x.cells store) ≡ r
         → EachFiled (stream.handed_by (answer.Whole x) store) (filed_as x r)
         → Lines (1 + (x.records + 0)) (answer_text n (answer.Whole x) store)
-    go (refused y) e h = absurd h
-    go (accepted rs) e h =
+    go (Err y) e h = absurd h
+    go (Ok rs) e h =
         let c = take x.cells store in
         let limits : List Record → Checks = λ l. (within_limits (length l) (length c), 21) ∷ [] in
         let read = (passes ((file_f_ok x.f, 53) ∷ []) limits c rs e).reads in
@@ -89,11 +88,11 @@ answer-lines n (answer.Whole x) store h = whole-lines n x store h
 answer-lines n (answer.Refused x) store h = one_line _ (refusal-line n store x)
 
 -- ONE PACKET
-turn_lines : (s : Session) (n : ℕ) (p store : List ℕ) (o : Opened)
+turn_lines : (s : Session) (n : ℕ) (p store : List ℕ) (o : Result Depacketizer)
     → EachFiled (whole_at (layout_in s) p store o) (handed_at (layout_in s) p store o)
     → Lines (1 + records_in (whole_at (layout_in s) p store o)) (turn_by s n p store o).text
-turn_lines s n p store (opened.Refused x) h = one_line _ (refused-line n store x)
-turn_lines s n p store (opened.Open d) h =
+turn_lines s n p store (Err x) h = one_line _ (refused-line n store x)
+turn_lines s n p store (Ok d) h =
     let x : Step = step d.state (layout_in s) p store in answer-lines n x.answer x.store h
 
 -- what a packet completes

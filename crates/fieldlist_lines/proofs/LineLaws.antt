@@ -13,8 +13,7 @@ use Rattle.wire_spec.specs.declared.count.OctetCount.{OctetCount}
 use Rattle.wire_spec.specs.declared.refusal.Refusal.{Refusal}
 use Rattle.wire_spec.specs.Anc.{Record}
 use Rattle.wire_spec.specs.Cells.{read_list}
-use Rattle.wire_spec.specs.Result.{Result, refused, accepted, IsAccepted}
-use Rattle.anc_writer.specs.declared.check.Listed.TheVariants as listed
+use Rattle.wire_spec.specs.Result.{Result, Err, Ok, IsAccepted}
 use Rattle.wire_spec.specs.Layout.{rfc8331}
 use Rattle.anc_writer.specs.Answers.{listed_of}
 use Rattle.fieldlist_records.specs.Records.{list_text}
@@ -33,17 +32,17 @@ take-least n m s e = go (leb n (length s)) refl
         let k : m ≡ length s = omega (arith, l) in
         ap (λ (j : ℕ). take j s) k ∙ take-length s ∙ sym (take_all n s (omega (arith, l)))
 
-none-listed : (r : Result (List Record)) (x : Refusal) → listed_of rfc8331 r ≡ listed.Refused x → list_text r ≡ []
-none-listed (refused y) x e = refl
-none-listed (accepted rs) x e = let o : ◌≡◌ {A = ℕ} 0 1 = cc in absurd (omega arith)
+none-listed : (r : Result (List Record)) (x : Refusal) → listed_of rfc8331 r ≡ Err x → list_text r ≡ []
+none-listed (Err y) x e = refl
+none-listed (Ok rs) x e = let o : ◌≡◌ {A = ℕ} 0 1 = cc in absurd (omega arith)
 
 -- a list that is not refused was accepted
-pub some-listed : (r : Result (List Record)) (n : ℕ) (o : OctetCount) → listed_of rfc8331 r ≡ listed.Records n o → IsAccepted r
-some-listed (refused x) n o e = let q : ◌≡◌ {A = ℕ} 0 1 = cc in absurd (omega arith)
-some-listed (accepted rs) n o e = tt
+pub some-listed : (r : Result (List Record)) (n : ℕ) (o : OctetCount) → listed_of rfc8331 r ≡ Ok (record { count = n; octets = o }) → IsAccepted r
+some-listed (Err x) n o e = let q : ◌≡◌ {A = ℕ} 0 1 = cc in absurd (omega arith)
+some-listed (Ok rs) n o e = tt
 
 -- a list that is refused has no lines
-pub no_lines : (n m : ℕ) (s : List ℕ) (x : Refusal) → m ≡ min n (length s) → listed_of rfc8331 (read_list (take m s)) ≡ listed.Refused x → [] ≡ list_text (read_list (take n s))
+pub no_lines : (n m : ℕ) (s : List ℕ) (x : Refusal) → m ≡ min n (length s) → listed_of rfc8331 (read_list (take m s)) ≡ Err x → [] ≡ list_text (read_list (take n s))
 no_lines n m s x e h = sym (ap (λ (l : List ℕ). list_text (read_list l)) (sym (take-least n m s e)) ∙ none-listed (read_list (take m s)) x h)
 
 pub lines_of : (n m : ℕ) (s : List ℕ) → m ≡ min n (length s) → list_text (read_list (take m s)) ≡ list_text (read_list (take n s))

@@ -12,7 +12,7 @@ use lib.ListN.{length, take}
 use Rattle.wire_spec.specs.declared.refusal.Refusal.{Refusal}
 use Rattle.wire_spec.specs.Anc.{Record}
 use Rattle.wire_spec.specs.Cells.{read_list}
-use Rattle.wire_spec.specs.Result.{accepted}
+use Rattle.wire_spec.specs.Result.{Ok}
 use Rattle.depacketizer_spec.specs.declared.state.Answer.TheVariants as answer
 use Rattle.depacketizer_spec.specs.declared.state.Field.{Field}
 use Rattle.text.specs.Text.{ascii, decimal}
@@ -101,7 +101,7 @@ module _ (n : ℕ) (store : List ℕ) where
       record { body = decimal n ++ time ++ f ++ records; is = refl; printable = all }
 
   -- ONE LINE A RECORD, after the field's own
-  pub field-lines : (x : Field) (rs : List Record) → read_list (take x.cells store) ≡ accepted rs
+  pub field-lines : (x : Field) (rs : List Record) → read_list (take x.cells store) ≡ Ok rs
       → Lines (suc (length rs)) (answer_text n (answer.Whole x) store)
   field-lines x rs e = rw e (lines_more (whole_text n x) _ (length rs) (whole-line x) (one-line-each rs))
 

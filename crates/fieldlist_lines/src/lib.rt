@@ -42,10 +42,12 @@ fn put_field(out: &mut [u8], number: u64, field: Field, store: &[u16]) -> usize
     let next = put_whole(out, number, field);
     let end = least(field.cells, store.len());
     let listed = check_list(Layout::Rfc8331, &store[..end]);
-    let Listed::Records {
-        count: _,
-        octets: _,
-    } = listed
+    let Ok(
+        Listed {
+            count: _,
+            octets: _,
+        },
+    ) = listed
     else {
         return next;
     };

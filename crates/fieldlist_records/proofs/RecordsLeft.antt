@@ -8,7 +8,7 @@ use lib.ListN.{length, take, drop, length-drop}
 use lib.Seq.{length-take-le}
 use Rattle.wire_spec.specs.declared.refusal.Refusal.{Refusal}
 use Rattle.wire_spec.specs.Layout.{rfc8331}
-use Rattle.wire_spec.specs.Result.{IsAccepted}
+use Rattle.wire_spec.specs.Result.{IsAccepted, Ok, Err}
 use Rattle.wire_spec.specs.Bits.{Below}
 use Rattle.wire_spec.specs.Words.{word_bits}
 use Rattle.wire_spec.specs.Anc.{Each, Record, WellFormed}
@@ -16,7 +16,6 @@ use Rattle.wire_spec.specs.Cells.{head_cells, Lists, cell_record, cell_checks, r
 use Rattle.wire_spec.proofs.CellLaws.{front_reads, list-iff}
 use Rattle.wire_spec.proofs.ResultLaws.{Passed, accepted-is}
 use Rattle.anc_record.specs.declared.header.Header.{Header}
-use Rattle.anc_record.specs.declared.header.Found.TheVariants as found
 use Rattle.anc_record.specs.Answers.{found_of}
 use Rattle.anc_record.specs.Header.{header_of, record_of, header_at}
 use Rattle.anc_record.proofs.FoundLaws.{Starts, passed-found}
@@ -48,9 +47,9 @@ none_left before at all out left to w h l = go w.records w.cells w.put
     go (r ∷ rs) e f = absurd (omega (arith, ap length e.3))
 
 -- a record that passes has a header
-pub header-there : (l : List ℕ) (x : Refusal) → Passed (cell_checks l) → found_of (header_at l 0) ≡ found.Refused x → ⊥
+pub header-there : (l : List ℕ) (x : Refusal) → Passed (cell_checks l) → found_of (header_at l 0) ≡ Err x → ⊥
 header-there l x p e =
-    let q : found.Header (header_of (cell_record l)) ≡ found.Refused x = sym (passed-found l 0 p) ∙ e in
+    let q : Ok (header_of (cell_record l)) ≡ Err x = sym (passed-found l 0 p) ∙ e in
     let o : ◌≡◌ {A = ℕ} 0 1 = cc in
     omega arith
 

@@ -1,7 +1,7 @@
 -- The lines of records (01, "`fieldlist`").
 use Rattle.std.specs.Prelude.{cond, List, [], ◌∷◌, ◌++◌, ℕ, eqb, length}
 use Prim.Native.String.{String}
-use Rattle.wire_spec.specs.Result.{Result, refused, accepted}
+use Rattle.wire_spec.specs.Result.{Result, Err, Ok}
 use Rattle.wire_spec.specs.Anc.{Record}
 use Rattle.text.specs.Text.{ascii, decimal, hex}
 
@@ -53,8 +53,8 @@ record_texts (r ∷ rs) = record_text r ++ record_texts rs
 
 -- the lines of the records that a list of cells has; none where it is refused
 abbrev pub list_text : Result (List Record) → List ℕ
-list_text (refused x) = []
-list_text (accepted rs) = record_texts rs
+list_text (Err x) = []
+list_text (Ok rs) = record_texts rs
 
 -- octets that the lines of a field's records may take, for each of their cells: what the code asks of the octets that it is lent
 abbrev pub cell_room : ℕ

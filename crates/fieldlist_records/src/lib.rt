@@ -11,7 +11,7 @@ ghost use Rattle.text.specs.Put.{Put};
 ghost use Rattle.fieldlist_records.specs.Records as lines;
 ghost use Rattle.fieldlist_records.specs.Records.{cell_room};
 
-use anc_record::header::{Found, Header};
+use anc_record::header::Header;
 use anc_record::location::Line;
 use text::{put, put_labelled, put_octet, put_word};
 use wire_words::octet::flag;
@@ -59,11 +59,9 @@ fn put_words(out: &mut [u8], at: usize, words: &[u16]) -> usize
     ensures put { Put out.old at (lines.words_text words.now) out.new result }
     ensures value { result ≡ at + 4 * length words.now }
 {
-    let mut k: usize = 0;
     let mut to = at;
-    while k < words.len() {
-        to = put_word(out, to, words[k]);
-        k += 1;
+    for word in words {
+        to = put_word(out, to, *word);
     }
     to
 }
@@ -110,9 +108,9 @@ pub fn put_records(out: &mut [u8], at: usize, cells: &[u16]) -> usize
 {
     let mut rest = cells;
     let mut to = at;
+    // Kept as a while: how many cells a turn takes is read from them.
     while rest.len() > 0 {
-        let found = Header::at(rest, 0);
-        let Found::Header(h) = found else {
+        let Ok(h) = Header::at(rest, 0) else {
             return to;
         };
         let words = h.words;

@@ -9,13 +9,11 @@ use borrow.Author.Tests.{le-leb, lt-leb, leb-true, leb-false}
 use lib.Dec.{leb}
 use Rattle.wire_spec.specs.declared.refusal.Refusal.{Refusal}
 use Rattle.wire_spec.specs.Layout.{Layout}
-use Rattle.wire_spec.specs.Result.{Result, refused, accepted}
+use Rattle.wire_spec.specs.Result.{Result, Err, Ok}
 use Rattle.wire_spec.specs.Packet.{Content, read_content}
 use Rattle.depacketizer.specs.Answers.{inspected_of}
 use Rattle.depacketizer.specs.declared.inspect.Inspected.{Inspected}
 use Rattle.depacketizer.specs.declared.state.Depacketizer.{Depacketizer}
-use Rattle.depacketizer.specs.declared.state.Opened.{Opened}
-use Rattle.depacketizer.specs.declared.state.Opened.TheVariants as opened
 use Rattle.depacketizer_spec.specs.Step.{step}
 use Rattle.fieldlist_lines.specs.Lines.{refused_text}
 use Rattle.fieldlist_lines.specs.Room.{line_room}
@@ -26,15 +24,15 @@ use Rattle.fieldlist_session.specs.Answers.{entered_by, number_in}
 use Rattle.fieldlist_session.specs.Session.{number_of, entered, layout_in, turn, turn_by, arrived}
 
 -- what was inspected in the session's layout: its number, and the depacketizer that it arrives at
-module _ (v : Session) (octets : List ℕ) (L : Layout) (i : Inspected)
+module _ (v : Session) (octets : List ℕ) (L : Layout) (i : Result Inspected)
     (said : L ≡ layout_in v) (is : i ≡ inspected_of L octets (read_content L octets)) where
   numbers : (r : Result Content) → number_in (inspected_of L octets r) ≡ number_of r
-  numbers (refused x) = refl
-  numbers (accepted k) = refl
+  numbers (Err x) = refl
+  numbers (Ok k) = refl
 
   enters : (w : Session) (r : Result Content) → entered_by w (inspected_of L octets r) ≡ entered w r
-  enters (session.Waiting M) (refused x) = refl
-  enters (session.Waiting M) (accepted k) = refl
+  enters (session.Waiting M) (Err x) = refl
+  enters (session.Waiting M) (Ok k) = refl
   enters (session.Open M d) r = refl
 
   pub number-found : number_in i ≡ number_of (read_content (layout_in v) octets)
@@ -46,30 +44,30 @@ module _ (v : Session) (octets : List ℕ) (L : Layout) (i : Inspected)
       ap (entered_by v) is ∙ enters v (read_content L octets)
       ∙ ap (λ (M : Layout). entered v (read_content M octets)) said
 
-module _ (v : Session) (octets store : List ℕ) (o : Opened) (entry : o ≡ entered v (read_content (layout_in v) octets)) where
+module _ (v : Session) (octets store : List ℕ) (o : Result Depacketizer) (entry : o ≡ entered v (read_content (layout_in v) octets)) where
   abbrev content : Result Content
   content = read_content (layout_in v) octets
 
-  by : (p : Opened) → o ≡ p → turn v octets store ≡ turn_by v (number_of content) octets store p
+  by : (p : Result Depacketizer) → o ≡ p → turn v octets store ≡ turn_by v (number_of content) octets store p
   unfolding turn
   by p e = ap (turn_by v (number_of content) octets store) (sym entry ∙ e)
 
   -- no depacketizer, and none opened
-  pub turn-refused : (x : Refusal) → o ≡ opened.Refused x → turn v octets store ≡ record { session = v; store = store; text = refused_text x }
-  turn-refused x e = by (opened.Refused x) e
+  pub turn-refused : (x : Refusal) → o ≡ Err x → turn v octets store ≡ record { session = v; store = store; text = refused_text x }
+  turn-refused x e = by (Err x) e
 
   -- one that is open
-  pub turn-arrived : (d : Depacketizer) → o ≡ opened.Open d → turn v octets store ≡ arrived (layout_in v) (number_of content) (step d.state (layout_in v) octets store)
-  turn-arrived d e = by (opened.Open d) e
+  pub turn-arrived : (d : Depacketizer) → o ≡ Ok d → turn v octets store ≡ arrived (layout_in v) (number_of content) (step d.state (layout_in v) octets store)
+  turn-arrived d e = by (Ok d) e
 
 -- "Which layout applies is told by the caller" (02, K3): a session keeps the one that it began with
 pub layout_stays : (v : Session) (p store : List ℕ) → layout_in (turn v p store).session ≡ layout_in v
 unfolding turn
 layout_stays v p store = go (number_of (read_content (layout_in v) p)) (entered v (read_content (layout_in v) p))
   where
-    go : (n : ℕ) (o : Opened) → layout_in (turn_by v n p store o).session ≡ layout_in v
-    go n (opened.Refused x) = refl
-    go n (opened.Open d) = refl
+    go : (n : ℕ) (o : Result Depacketizer) → layout_in (turn_by v n p store o).session ≡ layout_in v
+    go n (Err x) = refl
+    go n (Ok d) = refl
 
 -- the test for room, by division
 pub divided : (s o : ℕ) → line_room ≤ o → leb s ((o - line_room) / cell_room) ≡ leb (line_room + cell_room * s) o

@@ -1,10 +1,9 @@
 -- What `fieldlist` prints (01, "`fieldlist`"): from packet to packet, and for a whole input.
-use Rattle.std.specs.Prelude.{Bool, true, false, cond, List, [], ◌∷◌, ◌++◌, ℕ}
+use Rattle.depacketizer.specs.declared.state.Depacketizer.{Depacketizer}
+use Rattle.std.specs.Prelude.{Bool, cond, List, [], ◌∷◌, ◌++◌, ℕ}
 use Rattle.wire_spec.specs.Layout.{Layout}
-use Rattle.wire_spec.specs.Result.{Result, refused, accepted}
+use Rattle.wire_spec.specs.Result.{Result, Err, Ok}
 use Rattle.wire_spec.specs.Packet.{Content, read_content}
-use Rattle.depacketizer.specs.declared.state.Opened.{Opened}
-use Rattle.depacketizer.specs.declared.state.Opened.TheVariants as opened
 use Rattle.depacketizer.specs.Answers.{opened_of}
 use Rattle.depacketizer_spec.specs.Step.{Step, step, open_of}
 use Rattle.text.specs.Text.{ascii}
@@ -15,18 +14,18 @@ use Rattle.fieldlist_lines.specs.Lines.{answer_text, refused_text, counts_text}
 
 -- the number of a packet, for its line
 abbrev pub number_of : Result Content → ℕ
-number_of (refused x) = 0
-number_of (accepted k) = k.number
+number_of (Err x) = 0
+number_of (Ok k) = k.number
 
 -- "The first packet that passes 1 to 13 opens the keeper." (A payload type has seven bits, so opening is not refused.)
-abbrev pub opening : Result Content → Opened
-opening (refused x) = opened.Refused x
-opening (accepted k) = opened_of (open_of k.source k.type)
+abbrev pub opening : Result Content → Result Depacketizer
+opening (Err x) = Err x
+opening (Ok k) = opened_of (open_of k.source k.type)
 
 -- the depacketizer that a packet arrives at: the one that is open, or else the one that it opens
-abbrev pub entered : Session → Result Content → Opened
+abbrev pub entered : Session → Result Content → Result Depacketizer
 entered (session.Waiting L) k = opening k
-entered (session.Open L d) k = opened.Open d
+entered (session.Open L d) k = Ok d
 
 -- the layout of a session's packets: told by the caller (02, K3)
 abbrev pub layout_in : Session → Layout
@@ -44,9 +43,9 @@ abbrev pub arrived : Layout → ℕ → Step → Turn
 arrived L n x = record { session = session.Open L (record { state = x.state }); store = x.store; text = answer_text n x.answer x.store }
 
 -- by the depacketizer: a packet that opens none is refused, and changes nothing
-abbrev pub turn_by : Session → ℕ → List ℕ → List ℕ → Opened → Turn
-turn_by s n octets store (opened.Refused x) = record { session = s; store = store; text = refused_text x }
-turn_by s n octets store (opened.Open d) = arrived (layout_in s) n (step d.state (layout_in s) octets store)
+abbrev pub turn_by : Session → ℕ → List ℕ → List ℕ → Result Depacketizer → Turn
+turn_by s n octets store (Err x) = record { session = s; store = store; text = refused_text x }
+turn_by s n octets store (Ok d) = arrived (layout_in s) n (step d.state (layout_in s) octets store)
 
 -- one packet: the first that passes 1 to 13 opens; every later one arrives
 unfoldable pub turn : Session → List ℕ → List ℕ → Turn

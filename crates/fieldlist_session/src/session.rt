@@ -2,7 +2,7 @@
 ghost use Rattle.std.specs.Prelude.{◌+◌, ◌*◌, ◌≤◌, not, ◌≡◌, leb, length};
 ghost use Rattle.text.specs.Put.{Put};
 ghost use Rattle.fieldlist_session.specs.Answers.{TextFits, fieldlist, text_after, text_of};
-ghost use Rattle.fieldlist_session.specs.Answers.{entered_by, number_in, opened_refusal, opening_by};
+ghost use Rattle.fieldlist_session.specs.Answers.{entered_by, number_in, opening_by};
 ghost use Rattle.program_spec.specs.Frames.{over_frames};
 ghost use Rattle.program_spec.specs.Run.{Answers};
 ghost use Rattle.rtp_frames.specs.Answers.{is_cut};
@@ -12,14 +12,14 @@ ghost use Rattle.fieldlist_records.specs.Records.{cell_room};
 ghost use Rattle.fieldlist_session.specs.Session as listing;
 
 use depacketizer::inspect::{Inspected, inspect};
-use depacketizer::state::{Depacketizer, Opened};
+use depacketizer::state::Depacketizer;
 use fieldlist_lines::{put_answer, put_counts, put_refused};
 use program_spec::buffers::Step;
 use rtp_frames::{Front, LENGTH_SIZE, frame_at};
 use text::put;
 use wire_spec::layout::Layout;
 use wire_spec::limit::MAX_FIELD_CELLS;
-use wire_spec::refusal::Refusal;
+use wire_spec::refusal::{Refusal, refuse};
 
 // Octets of the lines of a field's records, for each cell; and of any other line.
 pub const CELL_ROOM: usize = 20;
@@ -43,12 +43,6 @@ pub struct Listed {
     pub step: Step,
 }
 
-#[derive(Clone, Copy)]
-pub enum Text {
-    Octets(usize),
-    Refused(Refusal),
-}
-
 // The session after a packet, and the octets of its text.
 #[derive(Clone, Copy)]
 pub struct Reply {
@@ -56,30 +50,21 @@ pub struct Reply {
     pub length: usize,
 }
 
-fn number_of(inspected: Inspected) -> u64
+fn number_of(inspected: Result<Inspected, Refusal>) -> u64
     ensures { result ≡ number_in inspected }
 {
     match inspected {
-        Inspected::Packet { outline, summary } => {
-            let head = summary.head;
-            let number = head.number;
-            number.0 as u64
-        }
-        Inspected::Refused(_) => 0,
+        Ok(packet) => packet.summary.head.number.0 as u64,
+        Err(_) => 0,
     }
 }
 
 // The first packet that passes 1 to 13, 15 and 16 opens the depacketizer.
-fn opening(inspected: Inspected) -> Opened
+fn opening(inspected: Result<Inspected, Refusal>) -> Result<Depacketizer, Refusal>
     ensures { result ≡ opening_by inspected }
 {
-    match inspected {
-        Inspected::Packet { outline, summary } => {
-            let head = summary.head;
-            Depacketizer::open(head.source, head.payload_type)
-        }
-        Inspected::Refused(refusal) => Opened::Refused(refusal),
-    }
+    let packet = inspected?;
+    Depacketizer::open(packet.summary.head.source, packet.summary.head.payload_type)
 }
 
 // The layout that packets are told.
@@ -93,24 +78,15 @@ pub fn layout_of(session: Session) -> Layout
 }
 
 // The depacketizer that a packet arrives at.
-pub fn enter(session: Session, inspected: Inspected) -> Opened
+pub fn enter(
+    session: Session,
+    inspected: Result<Inspected, Refusal>,
+) -> Result<Depacketizer, Refusal>
     ensures { result ≡ entered_by session inspected }
 {
     match session {
         Session::Waiting(_) => opening(inspected),
-        Session::Open(_, depacketizer) => Opened::Open(depacketizer),
-    }
-}
-
-fn refusal_of(opened: Opened) -> Refusal
-    ensures { result ≡ opened_refusal opened }
-{
-    match opened {
-        Opened::Refused(refusal) => refusal,
-        Opened::Open(_) => Refusal {
-            number: 0,
-            index: 0,
-        },
+        Session::Open(_, depacketizer) => Ok(depacketizer),
     }
 }
 
@@ -123,10 +99,12 @@ fn list_packet(session: Session, octets: &[u8], store: &mut [u16], out: &mut [u8
     let layout = layout_of(session);
     let inspected = inspect(layout, octets);
     let number = number_of(inspected);
-    let opened = enter(session, inspected);
-    let Opened::Open(depacketizer) = opened else {
-        let length = put_refused(out, refusal_of(opened));
-        return Reply { session, length };
+    let depacketizer = match enter(session, inspected) {
+        Ok(depacketizer) => depacketizer,
+        Err(refusal) => {
+            let length = put_refused(out, refusal);
+            return Reply { session, length };
+        }
     };
     let arrival = depacketizer.arrive_checked(layout, octets, inspected, store);
     let answer = arrival.answer;
@@ -187,19 +165,15 @@ pub fn list_frame(session: Session, octets: &[u8], store: &mut [u16], out: &mut 
 }
 
 // The first line.
-pub fn begin(out: &mut [u8]) -> Text
+pub fn begin(out: &mut [u8]) -> Result<usize, Refusal>
     ensures value { result ≡ text_of (leb line_room (length out.old)) listing.title }
     ensures out_after { out.new ≡ text_after (leb line_room (length out.old)) listing.title out.old }
     ensures text_fits { TextFits result (length out.old) }
 {
     if out.len() < LINE_ROOM {
-        return Text::Refused(Refusal {
-            number: Refusal::ROOM_TOO_SMALL,
-            index: 0,
-        });
+        return refuse(Refusal::ROOM_TOO_SMALL);
     }
-    let length = put(out, 0, b"fieldlist 1\n");
-    Text::Octets(length)
+    Ok(put(out, 0, b"fieldlist 1\n"))
 }
 
 fn put_cut(out: &mut [u8], here: Front) -> usize
@@ -228,17 +202,14 @@ fn put_counts_of(out: &mut [u8], at: usize, session: Session) -> usize
 }
 
 // The last lines; `rest` is what is left of the input behind its whole frames.
-pub fn finish(session: Session, rest: &[u8], out: &mut [u8]) -> Text
+pub fn finish(session: Session, rest: &[u8], out: &mut [u8]) -> Result<usize, Refusal>
     ensures value { result ≡ text_of (leb line_room (length out.old)) (listing.end_text (is_broken (front rest.now)) session) }
     ensures out_after { out.new ≡ text_after (leb line_room (length out.old)) (listing.end_text (is_broken (front rest.now)) session) out.old }
     ensures text_fits { TextFits result (length out.old) }
 {
     if out.len() < LINE_ROOM {
-        return Text::Refused(Refusal {
-            number: Refusal::ROOM_TOO_SMALL,
-            index: 0,
-        });
+        return refuse(Refusal::ROOM_TOO_SMALL);
     }
     let next = put_cut(out, frame_at(rest));
-    Text::Octets(put_counts_of(out, next, session))
+    Ok(put_counts_of(out, next, session))
 }

@@ -1,4 +1,5 @@
 -- `fieldlist` as a program over frames (01, "`fieldlist`"): what its buffers must hold, and what its whole run is.
+use Rattle.wire_spec.specs.Result.{Result, Ok, Err}
 use Rattle.std.specs.Prelude.{◌≡◌, List, ℕ, ◌+◌, ◌*◌, ◌≤◌}
 use Rattle.wire_spec.specs.Bits.{overwrite}
 use Rattle.wire_spec.specs.Layout.{Layout}
@@ -13,11 +14,9 @@ use Rattle.fieldlist_lines.specs.Room.{line_room}
 use Rattle.fieldlist_records.specs.Records.{cell_room}
 use Rattle.fieldlist_session.specs.declared.session.Session.{Session}
 use Rattle.fieldlist_session.specs.declared.session.Session.TheVariants as session
-use Rattle.fieldlist_session.specs.declared.session.Text.{Text}
-use Rattle.fieldlist_session.specs.declared.session.Text.TheVariants as text
 use Rattle.fieldlist_session.specs.Answers.{fieldlist}
 use Rattle.fieldlist_session.specs.Session.{title, listing}
-use Rattle.fieldlist_turns.specs.declared.Run.{Run}
+use Rattle.program.specs.declared.run.Run.{Run}
 
 -- WHAT THE BUFFERS MUST HOLD: a whole frame; a field's cells; and what one packet can print over that store
 pub record Enough (input store out : ℕ) : Type 0 where
@@ -26,21 +25,21 @@ pub record Enough (input store out : ℕ) : Type 0 where
   pub text : line_room + cell_room * store ≤ out
 
 -- the octets of a text
-abbrev pub octets_of : Text → ℕ
-octets_of (text.Octets n) = n
-octets_of (text.Refused x) = 0
+abbrev pub octets_of : Result ℕ → ℕ
+octets_of (Ok n) = n
+octets_of (Err x) = 0
 
 -- `fieldlist` takes frames as its items
 abbrev pub program : Program
 program = over_frames fieldlist
 
 -- at the start no depacketizer is open, nothing is read, and the first line is to be written
-pub record Started (L : Layout) (out out' : List ℕ) (r : Run) : Type 0 where
+pub record Started (L : Layout) (out out' : List ℕ) (r : Run Session) : Type 0 where
   pub octets : out' ≡ overwrite title out
   pub waits : (store input : List ℕ) → run.Started program (session.Waiting L, store) (at (r.session, store) r.buffers input out')
 
 -- the last lines do not depend on the store
-abbrev pub Closes : Run → (input out : List ℕ) → Buffers → (out' : List ℕ) → Type 0
+abbrev pub Closes : Run Session → (input out : List ℕ) → Buffers → (out' : List ℕ) → Type 0
 Closes v input out r out' = (store : List ℕ) → run.Closed program (at (v.session, store) v.buffers input out) r out'
 
 -- THE WHOLE RUN: what is written is the listing of what is read

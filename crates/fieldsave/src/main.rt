@@ -5,11 +5,12 @@ ghost use Rattle.std.specs.Prelude.{length};
 ghost use Rattle.fieldsave_turns.specs.Turns.{Ended, Enough};
 
 use fieldsave_session::FIELD_ROOM;
-use fieldsave_turns::{start, turn};
-use program::buffers::{failure_of, is_done, turns_left};
+use fieldsave_turns::{Filing, start};
+use program::buffers::{failure_of, is_done};
 use program::progress::is_watched;
+use program::run::run_on;
 use program::streams::{Sink, Source};
-use program_arguments::failures::{fail, report_failure};
+use program_arguments::failures::{Ends, fail, report_failure};
 use program_arguments::files::{create_named, file_at, layout_told, open_named};
 use program_arguments::options::{has_words, may_start};
 use program_arguments::words::{WORD_ROOM, word_at};
@@ -46,19 +47,19 @@ fn file(
     requires { Enough (length input.old) (length store.old) (length out.old) }
     ensures { Ended layout store.old store.new out.new result }
 {
-    let mut run = start(layout, out);
-    let mut turns = u64::MAX;
-    while turns > 0 {
-        run = turn(from, to, run, input, store, out);
-        let buffers = run.buffers;
-        turns = turns_left(turns, buffers.open, watched);
-    }
-    let buffers = run.buffers;
-    buffers
+    let started = start(layout, out);
+    let turns = u64::MAX;
+    let run = run_on(Filing, from, to, watched, turns, started, input, store, out);
+    run.buffers
 }
 
 // Files them in buffers of its own; what failed, if anything did.
-fn file_frames(rt: HostRuntime, layout: Layout, from: &mut Source, to: &mut Sink) -> Failure {
+fn file_frames(
+    rt: HostRuntime,
+    layout: Layout,
+    from: &mut Source,
+    to: &mut Sink,
+) -> Option<Failure> {
     let mut input = [0u8; INPUT_SIZE];
     let mut store = [0u16; MAX_FIELD_CELLS];
     let mut out = [0u8; FILE_SIZE];
@@ -77,8 +78,8 @@ fn file_frames(rt: HostRuntime, layout: Layout, from: &mut Source, to: &mut Sink
 
 // Some file systems report only here that a write has failed.
 fn close_file(err: Stderr, to: &mut Sink, name: &[u8]) {
-    if !to.store() {
-        fail(err, b"fieldsave", name, to.reason());
+    if let Err(reason) = to.store() {
+        fail(err, b"fieldsave", name, reason);
     }
 }
 
@@ -108,16 +109,15 @@ fn save(rt: HostRuntime, layout: Layout, mut from: Source, mut to: Sink) {
     let length = word_at(rt, at, &mut name);
     let mut new_name = [0u8; WORD_ROOM];
     let new_length = word_at(rt, at + 1, &mut new_name);
-    let failure = file_frames(rt, layout, &mut from, &mut to);
-    report_failure(
-        rt.stderr(),
-        failure,
-        b"fieldsave",
-        &name[..length],
-        &from,
-        &new_name[..new_length],
-        &to,
-    );
+    if let Some(failure) = file_frames(rt, layout, &mut from, &mut to) {
+        let ends = Ends {
+            source: &from,
+            input: &name[..length],
+            sink: &to,
+            output: &new_name[..new_length],
+        };
+        report_failure(rt.stderr(), b"fieldsave", failure, ends);
+    }
     close_file(rt.stderr(), &mut to, &new_name[..new_length]);
 }
 

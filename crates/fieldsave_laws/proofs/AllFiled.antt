@@ -1,18 +1,17 @@
 -- Every field that is handed out is filed.
 -- What is gathered stands in the store from packet to packet (`StoreLaws`).
+use Rattle.depacketizer.specs.declared.state.Depacketizer.{Depacketizer}
 use mathlib.Core.Bool.{Bool, true, false}
 use mathlib.Core.List.{List, [], ◌∷◌, ◌++◌}
 use Prim.Native.Nat.{ℕ}
 use lib.Dec.{leb}
 use Rattle.wire_spec.specs.Bits.{Below}
-use Rattle.wire_spec.specs.Result.{Result, refused, accepted, judge}
+use Rattle.wire_spec.specs.Result.{Result, Err, Ok, judge}
 use Rattle.wire_spec.specs.Anc.{Each}
 use Rattle.wire_spec.specs.Packet.{Content, read_content}
 use Rattle.wire_spec.specs.Writing.{max_type}
 use Rattle.fieldfile_spec.specs.File.{FieldContent}
 use Rattle.rtp_frames.specs.Frames.{frames}
-use Rattle.depacketizer.specs.declared.state.Opened.{Opened}
-use Rattle.depacketizer.specs.declared.state.Opened.TheVariants as opened
 use Rattle.depacketizer.specs.Answers.{opened_of}
 use Rattle.depacketizer_spec.specs.Step.{gathered, open_state}
 use Rattle.depacketizer_spec.specs.Stream.{Handed}
@@ -29,24 +28,24 @@ abbrev pub SessionHolds : Session → List ℕ → Type 0
 SessionHolds (session.Waiting L) store = Unit {0}
 SessionHolds (session.Open L d) store = Holds store (gathered d.state)
 
-abbrev OpenedHolds : Opened → List ℕ → Type 0
-OpenedHolds (opened.Refused x) store = Unit {0}
-OpenedHolds (opened.Open d) store = Holds store (gathered d.state)
+abbrev OpenedHolds : Result Depacketizer → List ℕ → Type 0
+OpenedHolds (Err x) store = Unit {0}
+OpenedHolds (Ok d) store = Holds store (gathered d.state)
 
-opening-holds : (b : Bool) (source type : ℕ) (store : List ℕ) → OpenedHolds (opened_of (judge 0 ((b, 24) ∷ []) (accepted (open_state source type)))) store
+opening-holds : (b : Bool) (source type : ℕ) (store : List ℕ) → OpenedHolds (opened_of (judge 0 ((b, 24) ∷ []) (Ok (open_state source type)))) store
 opening-holds true source type store = nothing-stands store
 opening-holds false source type store = tt
 
 entered-holds : (s : Session) (store : List ℕ) (k : Result Content) → SessionHolds s store → OpenedHolds (entered s k) store
-entered-holds (session.Waiting L) store (refused x) h = tt
-entered-holds (session.Waiting L) store (accepted k) h = opening-holds (leb k.type max_type) k.source k.type store
+entered-holds (session.Waiting L) store (Err x) h = tt
+entered-holds (session.Waiting L) store (Ok k) h = opening-holds (leb k.type max_type) k.source k.type store
 entered-holds (session.Open L d) store k h = h
 
 -- ONE PACKET
-turn_holds : (s : Session) (n : ℕ) (octets store : List ℕ) → Below 256 octets → SessionHolds s store → (o : Opened) → OpenedHolds o store
+turn_holds : (s : Session) (n : ℕ) (octets store : List ℕ) → Below 256 octets → SessionHolds s store → (o : Result Depacketizer) → OpenedHolds o store
     → SessionHolds (turn_by s n octets store o).session (turn_by s n octets store o).store × EachFiled (whole_at (layout_in s) octets store o) (handed_at (layout_in s) octets store o)
-turn_holds s n octets store below h (opened.Refused x) g = (h, tt)
-turn_holds s n octets store below h (opened.Open d) g = step-leaves d.state (layout_in s) octets store below g
+turn_holds s n octets store below h (Err x) g = (h, tt)
+turn_holds s n octets store below h (Ok d) g = step-leaves d.state (layout_in s) octets store below g
 
 pub packet-filed : (s : Session) (octets store : List ℕ) → Below 256 octets → SessionHolds s store
     → SessionHolds (turn s octets store).session (turn s octets store).store × EachFiled (whole_at (layout_in s) octets store (entered s (read_content (layout_in s) octets))) (handed s octets store)

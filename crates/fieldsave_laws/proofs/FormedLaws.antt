@@ -1,17 +1,17 @@
 -- Every field that is filed is well-formed.
 -- By the writer's checks; its timestamp is a packet's.
-use mathlib.Core.Path.{◌≡◌, refl, ap, sym, subst, ◌∙◌}
+use Rattle.depacketizer.specs.declared.state.Depacketizer.{Depacketizer}
+use mathlib.Core.Path.{◌≡◌, refl, ap, sym, subst}
 use mathlib.Core.Bool.{Bool, true, false, ◌&&◌}
-use mathlib.Core.List.{List, [], ◌∷◌, ◌++◌}
+use mathlib.Core.List.{List, [], ◌∷◌}
 use Prim.Native.Nat.{ℕ, zero, suc, ◌+◌, ◌*◌, ◌^◌, ◌<◌}
 use native.Mathlib.Omega.{arith}
 use borrow.Author.Tests.{leb-true}
 use lib.Dec.{eqb, leb}
-use lib.ListN.{length, take, drop}
-use Rattle.wire_spec.specs.declared.refusal.Refusal.{Refusal}
+use lib.ListN.{length, take}
 use Rattle.wire_spec.specs.Bits.{Below}
 use Rattle.wire_spec.specs.Layout.{Layout}
-use Rattle.wire_spec.specs.Result.{Result, refused, accepted}
+use Rattle.wire_spec.specs.Result.{Result, Err, Ok}
 use Rattle.wire_spec.specs.Anc.{Each, Record}
 use Rattle.wire_spec.specs.Packet.{Content, Packet, WellFormedPacket, read_content}
 use Rattle.wire_spec.specs.Writing.{max_field_records, max_field_cells}
@@ -21,10 +21,8 @@ use Rattle.wire_spec.proofs.CellLaws.{list-iff, lists_length}
 use Rattle.wire_spec.proofs.WritingLaws.{passes}
 use Rattle.wire_spec.proofs.Demand2.{acceptance}
 use Rattle.wire_spec.proofs.ListLaws.{each_append}
-use Rattle.fieldfile_spec.specs.File.{FieldContent, WellFormedField, file_f_ok, timestamp_bits, within_limits, written_version}
+use Rattle.fieldfile_spec.specs.File.{WellFormedField, file_f_ok, timestamp_bits, within_limits, written_version}
 use Rattle.rtp_frames.specs.Frames.{Front, end, cut, frame, framed, front, frames_in, frames, onward}
-use Rattle.depacketizer.specs.declared.state.Opened.{Opened}
-use Rattle.depacketizer.specs.declared.state.Opened.TheVariants as opened
 use Rattle.depacketizer_spec.specs.declared.state.State.{State}
 use Rattle.depacketizer_spec.specs.declared.state.Answer.{Answer}
 use Rattle.depacketizer_spec.specs.declared.state.Answer.TheVariants as answer
@@ -33,7 +31,7 @@ use Rattle.depacketizer_spec.specs.Step.{Carried, Gathered, Step, carried, field
 use Rattle.depacketizer_spec.proofs.StepLaws.{step_is}
 use Rattle.fieldlist_session.specs.declared.session.Session.{Session}
 use Rattle.fieldlist_session.specs.Session.{entered, layout_in, turn}
-use Rattle.fieldsave_session.specs.Filing.{field_in, fields_of, filed_as, handed, handed_at, handed_by, records_to_file}
+use Rattle.fieldsave_session.specs.Filing.{fields_of, filed_as, handed, handed_at, handed_by, records_to_file}
 
 -- an answer that is no field is not whole
 not-whole : {x : Field} {A : Type 0} (n : Answer → ℕ) (y : Answer) → (y ≡ answer.Whole x) → (n y ≡ n (answer.Whole x) → ⊥) → A
@@ -75,7 +73,7 @@ follow-time (filling t f r c n) p room x e = go (eqb t p.timestamp && eqb f p.f)
 packet-time : (L : Layout) (k : Packet) → WellFormedPacket L k → k.timestamp < 2 ^ timestamp_bits
 packet-time L k h = omega (arith, h.fit)
 
-read-time : (L : Layout) (s : List ℕ) → Below 256 s → (k : Content) → read_content L s ≡ accepted k → k.timestamp < 2 ^ timestamp_bits
+read-time : (L : Layout) (s : List ℕ) → Below 256 s → (k : Content) → read_content L s ≡ Ok k → k.timestamp < 2 ^ timestamp_bits
 read-time L s below k e =
     let a = (acceptance L s below k).0 e in
     subst (λ (y : Content). y.timestamp < 2 ^ timestamp_bits) a.3 (packet-time L a.0 a.1)
@@ -95,8 +93,8 @@ filed-formed : (x : Field) (cells : List ℕ) → x.timestamp.0 < 2 ^ timestamp_
 filed-formed x cells t = go (records_to_file x.f cells) refl
   where
     go : (r : Result (List Record)) → records_to_file x.f cells ≡ r → Each (WellFormedField written_version) (filed_as x r)
-    go (refused y) e = tt
-    go (accepted rs) e =
+    go (Err y) e = tt
+    go (Ok rs) e =
         let p = passes ((file_f_ok x.f, 53) ∷ []) (λ (rs : List Record). (within_limits (length rs) (length cells), 21) ∷ []) cells rs e in
         let w = and-true (leb (length rs) max_field_records) (leb (length cells) max_field_cells) p.limits-passed.0 in
         let few = leb-true (length rs) max_field_records w.0 in
@@ -125,9 +123,9 @@ handed-formed : (s : Session) (octets store : List ℕ) → Below 256 octets →
 unfolding handed
 handed-formed s octets store below = go (entered s (read_content (layout_in s) octets))
   where
-    go : (o : Opened) → Each (WellFormedField written_version) (handed_at (layout_in s) octets store o)
-    go (opened.Refused x) = tt
-    go (opened.Open d) =
+    go : (o : Result Depacketizer) → Each (WellFormedField written_version) (handed_at (layout_in s) octets store o)
+    go (Err x) = tt
+    go (Ok d) =
         answer-formed (step d.state (layout_in s) octets store).answer (step d.state (layout_in s) octets store).store (step-time d.state (layout_in s) octets store below)
 
 pub fields-formed : (s : Session) (store : List ℕ) (ps : List (List ℕ)) → Each (Below 256) ps → Each (WellFormedField written_version) (fields_of s store ps)

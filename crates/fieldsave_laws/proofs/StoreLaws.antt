@@ -10,7 +10,7 @@ use lib.Dec.{eqb, leb}
 use lib.ListN.{length, take, length-append, length-take}
 use Rattle.wire_spec.specs.Bits.{Below, Fit, row, splice}
 use Rattle.wire_spec.specs.Layout.{Layout, rfc8331}
-use Rattle.wire_spec.specs.Result.{Result, refused, accepted}
+use Rattle.wire_spec.specs.Result.{Result, Err, Ok}
 use Rattle.wire_spec.specs.Anc.{Each, Record, WellFormed}
 use Rattle.wire_spec.specs.Cells.{Lists, list_in}
 use Rattle.wire_spec.specs.Packet.{Content, Packet, WellFormedPacket, extension_fields, payload_fields, read_content, rtp_fields}
@@ -71,7 +71,7 @@ packet-files L k h =
     let y = (layout-iff L k.f k.records).1 (h.records, (payload-fit L k h.fit).1.1.1.0) in
     (y.0, f-ok k.f y.1 h.f)
 
-pub read-files : (L : Layout) (s : List ℕ) → Below 256 s → (k : Content) → read_content L s ≡ accepted k → Fileable k
+pub read-files : (L : Layout) (s : List ℕ) → Below 256 s → (k : Content) → read_content L s ≡ Ok k → Fileable k
 read-files L s below k e =
     let a = (acceptance L s below k).0 e in
     let p = packet-files L a.0 a.1 in
@@ -120,7 +120,7 @@ module _ (store : List ℕ) (r c n : ℕ) (h : Stands store r c) (k : Content) (
         let long : length cells ≤ c + p.cells = omega (arith, length-take (c + p.cells) here) in
         let limits : within_limits (length j.records) (length cells) ≡ true =
         and_both (le-leb (length j.records) max_field_records (omega (arith, j.count, within.0))) (le-leb (length cells) max_field_cells (omega (arith, long, within.1))) in
-        let e : records_to_file k.f cells ≡ accepted j.records =
+        let e : records_to_file k.f cells ≡ Ok j.records =
         all_pass ((file_f_ok k.f, 53) ∷ []) (λ (rs : List Record). (within_limits (length rs) (length cells), 21) ∷ []) cells (w.f, tt) j.records reads (limits, tt) in
         rw e ((refl, refl, j.count, j.cells), tt)
 
@@ -175,26 +175,26 @@ fresh-leaves from g missing k store h w =
     (subst (Holds (fresh_step from g missing k store).store) (sym (gathered-after (follow g (carried k) (length store)).gathered)) l.holds, l.filed)
 
 module _ (st : State) (L : Layout) (octets store : List ℕ) (below : Below 256 octets) (h : Holds store (gathered st)) where
-  fresh : (from : State) (k : Content) → read_content L octets ≡ accepted k → (g : Gathered) → Holds store g → (missing : ℕ) → StepLeaves (fresh_step from g missing k store)
+  fresh : (from : State) (k : Content) → read_content L octets ≡ Ok k → (g : Gathered) → Holds store g → (missing : ℕ) → StepLeaves (fresh_step from g missing k store)
   fresh from k e g held missing = fresh-leaves from g missing k store held (read-files L octets below k e)
 
-  far-leaves : (b : Bool) (k : Content) → read_content L octets ≡ accepted k → StepLeaves (far_or_restart b st k store)
+  far-leaves : (b : Bool) (k : Content) → read_content L octets ≡ Ok k → StepLeaves (far_or_restart b st k store)
   far-leaves true k e = fresh (open_state st.source st.payload_type) k e lost (nothing-stands store) 0
   far-leaves false k e = (h, tt)
 
-  class-leaves : (c : Class) (k : Content) → read_content L octets ≡ accepted k → StepLeaves (class_step c st k store)
+  class-leaves : (c : Class) (k : Content) → read_content L octets ≡ Ok k → StepLeaves (class_step c st k store)
   class-leaves late k e = (h, tt)
   class-leaves next k e = fresh st k e (gathered st) h 0
   class-leaves far k e = far-leaves (is_remembered st k.number) k e
   class-leaves (ahead n) k e = fresh st k e lost (nothing-stands store) n
 
-  packet-leaves : (b : Bool) (k : Content) → read_content L octets ≡ accepted k → StepLeaves (packet_step b st k store)
+  packet-leaves : (b : Bool) (k : Content) → read_content L octets ≡ Ok k → StepLeaves (packet_step b st k store)
   packet-leaves false k e = fresh st k e lost (nothing-stands store) 0
   packet-leaves true k e = class-leaves (classify (distance st.last.0 k.number)) k e
 
   admitted-leaves : (r : Result Content) → admission st L (length store) octets ≡ r → StepLeaves (admitted_step st r store)
-  admitted-leaves (refused x) e = (h, tt)
-  admitted-leaves (accepted k) e = packet-leaves st.heard k (passed st L (length store) octets k e).1
+  admitted-leaves (Err x) e = (h, tt)
+  admitted-leaves (Ok k) e = packet-leaves st.heard k (passed st L (length store) octets k e).1
 
   pub step-leaves : StepLeaves (step st L octets store)
   unfolding step

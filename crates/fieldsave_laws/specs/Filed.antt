@@ -1,4 +1,6 @@
 -- What a file of `fieldsave` is to who reads it.
+use Rattle.wire_spec.specs.Result.{Result, Ok, Err}
+use Rattle.depacketizer.specs.declared.state.Depacketizer.{Depacketizer}
 use Rattle.std.specs.Prelude.{◌≡◌, List, [], ◌∷◌, ◌++◌, ℕ, length, take}
 use Rattle.wire_spec.specs.Bits.{Below}
 use Rattle.wire_spec.specs.Layout.{Layout}
@@ -7,8 +9,6 @@ use Rattle.wire_spec.specs.Packet.{read_content}
 use Rattle.fieldfile_spec.specs.File.{FieldContent, end_of_file, read_file, written_version}
 use Rattle.fieldfile_spec.specs.Cut.{cut_file}
 use Rattle.rtp_frames.specs.Frames.{frames}
-use Rattle.depacketizer.specs.declared.state.Opened.{Opened}
-use Rattle.depacketizer.specs.declared.state.Opened.TheVariants as opened
 use Rattle.depacketizer_spec.specs.Step.{Step, step}
 use Rattle.depacketizer_spec.specs.Stream.{Handed, handed_by}
 use Rattle.fieldlist_session.specs.declared.session.Session.{Session}
@@ -27,9 +27,9 @@ CutReads = (L : Layout) (store input : List ℕ) → Below 256 input → (n : �
     → read_file (take n (filing L store input)) ≡ cut_file written_version n (fields_in L store input)
 
 -- the fields that are handed out, as the answers tell them (01: "whole, .. with timestamp, F, records, cells used"), each with the cells that the store then begins with
-abbrev pub whole_at : Layout → List ℕ → List ℕ → Opened → List Handed
-whole_at L octets store (opened.Refused x) = []
-whole_at L octets store (opened.Open d) = let x : Step = step d.state L octets store in handed_by x.answer x.store
+abbrev pub whole_at : Layout → List ℕ → List ℕ → Result Depacketizer → List Handed
+whole_at L octets store (Err x) = []
+whole_at L octets store (Ok d) = let x : Step = step d.state L octets store in handed_by x.answer x.store
 
 abbrev pub wholes_of : Session → List ℕ → List (List ℕ) → List Handed
 wholes_of s store [] = []

@@ -1,7 +1,7 @@
 -- What the code answers for a frame, and what it leaves in the octets that it is lent.
+use Rattle.wire_spec.specs.Result.{Result, Ok, Err}
+use Rattle.wire_spec.specs.declared.count.OctetCount.{OctetCount}
 use Rattle.std.specs.Prelude.{Bool, List, [], ℕ, leb}
-use Rattle.wire_spec.specs.declared.written.Written.{Written}
-use Rattle.wire_spec.specs.declared.written.Written.TheVariants as written
 use Rattle.fieldfile_spec.specs.File.{file_head, written_version}
 use Rattle.program_spec.specs.Frames.{FrameProgram}
 use Rattle.fieldlist_session.specs.declared.session.Session.{Session}
@@ -25,6 +25,6 @@ fieldsave =
     }
 
 -- the octets that a writer wrote
-abbrev pub octets_in : Written → ℕ
-octets_in (written.Octets n) = n.0
-octets_in (written.Refused x) = 0
+abbrev pub octets_in : Result OctetCount → ℕ
+octets_in (Ok n) = n.0
+octets_in (Err x) = 0

@@ -1,13 +1,12 @@
 -- What `fieldsave` files: the fields that a depacketizer hands out of a recorded stream, as a field file (01, "Field file", "The keeper").
+use Rattle.depacketizer.specs.declared.state.Depacketizer.{Depacketizer}
 use Rattle.std.specs.Prelude.{List, [], ◌∷◌, ◌++◌, ℕ, ◌+◌, ◌*◌, ◌/◌, length, take}
 use Rattle.wire_spec.specs.Layout.{Layout}
-use Rattle.wire_spec.specs.Result.{Result, refused, accepted}
+use Rattle.wire_spec.specs.Result.{Result, Err, Ok}
 use Rattle.wire_spec.specs.Anc.{Record}
 use Rattle.wire_spec.specs.Packet.{read_content}
 use Rattle.wire_spec.specs.Writing.{max_field_cells, records_to_write}
 use Rattle.fieldfile_spec.specs.File.{FieldContent, field_header_size, fields_octets, file_f_ok, file_octets, within_limits, written_version}
-use Rattle.depacketizer.specs.declared.state.Opened.{Opened}
-use Rattle.depacketizer.specs.declared.state.Opened.TheVariants as opened
 use Rattle.depacketizer_spec.specs.declared.state.Answer.{Answer}
 use Rattle.depacketizer_spec.specs.declared.state.Answer.TheVariants as answer
 use Rattle.depacketizer_spec.specs.declared.state.Field.{Field}
@@ -24,8 +23,8 @@ records_to_file f cells =
 
 -- a field handed out, as the file says it; one that the file refuses is not filed
 abbrev pub filed_as : Field → Result (List Record) → List FieldContent
-filed_as x (refused r) = []
-filed_as x (accepted rs) = record { timestamp = x.timestamp.0; f = x.f; records = rs } ∷ []
+filed_as x (Err r) = []
+filed_as x (Ok rs) = record { timestamp = x.timestamp.0; f = x.f; records = rs } ∷ []
 
 abbrev pub field_in : Field → List ℕ → List FieldContent
 field_in x store = filed_as x (records_to_file x.f (take x.cells store))
@@ -40,9 +39,9 @@ handed_by (answer.Whole x) store = field_in x store
 handed_by (answer.Refused x) store = []
 
 -- what one packet completes: nothing where no depacketizer is open and it opens none
-abbrev pub handed_at : Layout → List ℕ → List ℕ → Opened → List FieldContent
-handed_at L octets store (opened.Refused x) = []
-handed_at L octets store (opened.Open d) = let x : Step = step d.state L octets store in handed_by x.answer x.store
+abbrev pub handed_at : Layout → List ℕ → List ℕ → Result Depacketizer → List FieldContent
+handed_at L octets store (Err x) = []
+handed_at L octets store (Ok d) = let x : Step = step d.state L octets store in handed_by x.answer x.store
 
 unfoldable pub handed : Session → List ℕ → List ℕ → List FieldContent
 handed s octets store = handed_at (layout_in s) octets store (entered s (read_content (layout_in s) octets))

@@ -13,16 +13,15 @@ ghost use Rattle.program_spec.specs.Run.{Answers};
 ghost use Rattle.fieldsave_session.specs.Filing.{field_in, field_room, filed, handed_by};
 
 use depacketizer::inspect::inspect;
-use depacketizer::state::Opened;
 use depacketizer_spec::state::{Answer, Field};
 use fieldfile_spec::format::HEADER_SIZE_2;
 use fieldfile_writer::write_field;
 use fieldlist_session::session::{Listed, Reply, Session, enter, layout_of};
 use program_spec::buffers::Step;
 use rtp_frames::{Front, LENGTH_SIZE, frame_at};
+use wire_spec::count::OctetCount;
 use wire_spec::limit::MAX_FIELD_CELLS;
 use wire_spec::refusal::Refusal;
-use wire_spec::written::Written;
 
 // Octets that any field fits in.
 pub const FIELD_ROOM: usize = HEADER_SIZE_2 + 3 * MAX_FIELD_CELLS / 2;
@@ -34,12 +33,12 @@ fn least(a: usize, b: usize) -> usize
 }
 
 // The octets that were written.
-pub fn octets_of(written: Written) -> usize
+pub fn octets_of(written: Result<OctetCount, Refusal>) -> usize
     ensures { result ≡ octets_in written }
 {
     match written {
-        Written::Octets(octets) => octets.0,
-        Written::Refused(_) => 0,
+        Ok(octets) => octets.0,
+        Err(_) => 0,
     }
 }
 
@@ -76,8 +75,7 @@ fn file_packet(session: Session, octets: &[u8], store: &mut [u16], out: &mut [u8
 {
     let layout = layout_of(session);
     let inspected = inspect(layout, octets);
-    let opened = enter(session, inspected);
-    let Opened::Open(depacketizer) = opened else {
+    let Ok(depacketizer) = enter(session, inspected) else {
         return Reply { session, length: 0 };
     };
     let arrival = depacketizer.arrive_checked(layout, octets, inspected, store);

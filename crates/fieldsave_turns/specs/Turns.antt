@@ -14,7 +14,7 @@ use Rattle.fieldlist_session.specs.declared.session.Session.{Session}
 use Rattle.fieldlist_session.specs.declared.session.Session.TheVariants as session
 use Rattle.fieldsave_session.specs.Answers.{fieldsave}
 use Rattle.fieldsave_session.specs.Filing.{field_room, filing}
-use Rattle.fieldsave_turns.specs.declared.Run.{Run}
+use Rattle.program.specs.declared.run.Run.{Run}
 
 -- WHAT THE BUFFERS MUST HOLD: a whole frame; a field's cells; and the octets of any field
 pub record Enough (input store out : ℕ) : Type 0 where
@@ -27,7 +27,7 @@ abbrev pub program : Program
 program = over_frames fieldsave
 
 -- at the start no depacketizer is open, nothing is read, and the file's head is to be written
-pub record Started (L : Layout) (out out' : List ℕ) (r : Run) : Type 0 where
+pub record Started (L : Layout) (out out' : List ℕ) (r : Run Session) : Type 0 where
   pub octets : out' ≡ overwrite (file_head written_version) out
   pub waits : (store input : List ℕ) → run.Started program (session.Waiting L, store) (at (r.session, store) r.buffers input out')
 

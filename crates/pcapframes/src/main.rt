@@ -8,14 +8,15 @@ use capture_spec::format::MAX_ITEM;
 use pcapframes_session::finish;
 use pcapframes_session::told::{TOLD_ROOM, put_told};
 use pcapframes_spec::session::Session;
-use pcapframes_turns::{start, turn};
-use program::buffers::{failure_of, is_done, turns_left};
+use pcapframes_turns::{Extract, start};
+use program::buffers::{failure_of, is_done};
 use program::progress::is_watched;
+use program::run::run_on;
 use program::streams::{Sink, Source};
-use program_arguments::failures::report_failure;
+use program_arguments::failures::{Ends, report_failure};
 use program_arguments::files::open_input;
 use program_arguments::options::may_start;
-use program_arguments::port::{Port, port_of};
+use program_arguments::port::port_of;
 use program_arguments::words::{WORD_ROOM, has_word, word_at};
 use program_spec::buffers::Buffers;
 use rtp_frames::MAX_FRAME;
@@ -44,13 +45,17 @@ fn extract(
     requires { Enough (length input.old) (length out.old) }
     ensures { Ended port result.session input.new out.new result.buffers }
 {
-    let mut run = start();
-    let mut turns = u64::MAX;
-    while turns > 0 {
-        run = turn(from, to, port, run, input, out);
-        let buffers = run.buffers;
-        turns = turns_left(turns, buffers.open, watched);
-    }
+    let run = run_on(
+        Extract { port },
+        from,
+        to,
+        watched,
+        u64::MAX,
+        start(),
+        input,
+        &mut [],
+        out,
+    );
     let session = run.session;
     let buffers = run.buffers;
     Outcome {
@@ -66,9 +71,9 @@ fn tell(err: Stderr, session: Session) {
     let _ = err.write_all(&told[..end]);
 }
 
-fn port_told(rt: HostRuntime) -> Port {
+fn port_told(rt: HostRuntime) -> Option<u16> {
     if !has_word(rt, 1) {
-        return Port::Wrong;
+        return None;
     }
     let mut word = [0u8; WORD_ROOM];
     let length = word_at(rt, 1, &mut word);
@@ -92,15 +97,15 @@ fn run(rt: HostRuntime, port: u16) {
     let outcome = extract_frames(rt, port, &mut from, &mut to);
     let session = outcome.session;
     let buffers = outcome.buffers;
-    report_failure(
-        rt.stderr(),
-        failure_of(buffers),
-        b"pcapframes",
-        &name[..length],
-        &from,
-        b"",
-        &to,
-    );
+    if let Some(failure) = failure_of(buffers) {
+        let ends = Ends {
+            source: &from,
+            input: &name[..length],
+            sink: &to,
+            output: b"",
+        };
+        report_failure(rt.stderr(), b"pcapframes", failure, ends);
+    }
     if is_done(buffers) {
         tell(rt.stderr(), session);
     }
@@ -125,8 +130,8 @@ fn main(rt: HostRuntime) {
         return;
     }
     match port_told(rt) {
-        Port::Number(number) => run(rt, number),
-        Port::Wrong => {
+        Some(number) => run(rt, number),
+        None => {
             let _ = rt.stderr().write_all(
                 b"pcapframes: PORT is a number from 1 to 65535, see --help\n",
             );

@@ -17,9 +17,9 @@ use capture_datagram::answer::Found;
 use capture_datagram::find;
 use capture_datagram::link::is_link_taken;
 use capture_spec::format::{CAPTURE_CUT, LINK_NOT_TAKEN};
-use capture_spec::state::{Container, Item};
+use capture_spec::state::{Container, Item, Unread};
 use capture_step::{item_at, next_state};
-use pcapframes_spec::session::{Reply, Session, Standing};
+use pcapframes_spec::session::{Reply, Session};
 use program_spec::buffers::Step;
 use rtp_frames::MAX_FRAME;
 use text::put;
@@ -31,7 +31,7 @@ pub fn begin() -> Session
 {
     Session {
         state: capture_step::begin(),
-        standing: Standing::Open,
+        refusal: None,
         packets: 0,
         fragments: 0,
         cut: 0,
@@ -57,7 +57,7 @@ fn count(session: Session, fragments: u64, cut: u64) -> Session
     let state = session.state;
     Session {
         state,
-        standing: Standing::Open,
+        refusal: None,
         packets: session.packets + 1,
         fragments: session.fragments + fragments,
         cut: session.cut + cut,
@@ -70,7 +70,7 @@ fn refuse(session: Session, number: u8) -> Session
     let state = session.state;
     Session {
         state,
-        standing: Standing::Refused(number),
+        refusal: Some(number),
         packets: session.packets,
         fragments: session.fragments,
         cut: session.cut,
@@ -78,14 +78,14 @@ fn refuse(session: Session, number: u8) -> Session
 }
 
 // Behind an item that is no packet.
-fn pass(session: Session, item: Item, used: usize) -> Reply
+fn pass(session: Session, item: Result<Item, Unread>, used: usize) -> Reply
     ensures { result ≡ record { session = moved session (capture.behind session.state item); step = Step.Taken used 0 } }
 {
     let state = session.state;
     Reply {
         session: Session {
             state: next_state(state, item),
-            standing: Standing::Open,
+            refusal: None,
             packets: session.packets,
             fragments: session.fragments,
             cut: session.cut,
@@ -153,26 +153,30 @@ fn take_open(port: u16, session: Session, octets: &[u8], out: &mut [u8]) -> Repl
     let state = session.state;
     let item = item_at(state, octets);
     match item {
-        Item::Short => Reply {
-            session,
-            step: Step::Short,
+        Err(unread) => match unread {
+            Unread::Short => Reply {
+                session,
+                step: Step::Short,
+            },
+            Unread::Refused(number) => Reply {
+                session: refuse(session, number),
+                step: Step::Over,
+            },
         },
-        Item::Refused(number) => Reply {
-            session: refuse(session, number),
-            step: Step::Over,
+        Ok(read) => match read {
+            Item::Head { container: _, used } => pass(session, item, used),
+            Item::Interface {
+                link: _,
+                snap: _,
+                used,
+            } => pass(session, item, used),
+            Item::Packet { place, used } => {
+                let at = place.at;
+                let end = at + place.size;
+                take_packet(port, session, used, place.link, &octets[at..end], out)
+            }
+            Item::Other(used) => pass(session, item, used),
         },
-        Item::Head { container: _, used } => pass(session, item, used),
-        Item::Interface {
-            link: _,
-            snap: _,
-            used,
-        } => pass(session, item, used),
-        Item::Packet { place, used } => {
-            let at = place.at;
-            let end = at + place.size;
-            take_packet(port, session, used, place.link, &octets[at..end], out)
-        }
-        Item::Other(used) => pass(session, item, used),
     }
 }
 
@@ -190,13 +194,13 @@ pub fn take_item(port: u16, session: Session, octets: &[u8], out: &mut [u8]) -> 
             }),
         };
     }
-    let standing = session.standing;
-    match standing {
-        Standing::Refused(_) => Reply {
+    let refusal = session.refusal;
+    match refusal {
+        Some(_) => Reply {
             session,
             step: Step::Over,
         },
-        Standing::Open => take_open(port, session, octets, out),
+        None => take_open(port, session, octets, out),
     }
 }
 
@@ -214,10 +218,10 @@ fn is_whole(container: Container, left: usize) -> bool
 pub fn finish(session: Session, left: usize) -> Session
     ensures { result ≡ last_of session left }
 {
-    let standing = session.standing;
-    match standing {
-        Standing::Refused(_) => session,
-        Standing::Open => {
+    let refusal = session.refusal;
+    match refusal {
+        Some(_) => session,
+        None => {
             let state = session.state;
             let container = state.container;
             if is_whole(container, left) {

@@ -3,7 +3,7 @@ ghost use Rattle.std.specs.Prelude.{◌+◌, ◌≤◌, length};
 ghost use Rattle.text.specs.Put.{Put};
 ghost use Rattle.pcapframes_spec.specs.Told.{labels_room, left_out_text, line_room, line_text, told_room, told_text};
 
-use pcapframes_spec::session::{Session, Standing};
+use pcapframes_spec::session::Session;
 use text::{put, put_labelled};
 
 // Octets that all of it may take.
@@ -46,16 +46,9 @@ pub fn put_told(out: &mut [u8], at: usize, session: Session) -> usize
     ensures upper_bound { result ≤ at + told_room }
 {
     let next = put_left_out(out, at, session.fragments, session.cut);
-    let standing = session.standing;
-    match standing {
-        Standing::Open => next,
-        Standing::Refused(number) => put_line(
-            out,
-            next,
-            b"refused ",
-            number as u64,
-            b" ",
-            session.packets,
-        ),
+    let refusal = session.refusal;
+    match refusal {
+        None => next,
+        Some(number) => put_line(out, next, b"refused ", number as u64, b" ", session.packets),
     }
 }

@@ -1,5 +1,6 @@
 -- A capture walked whole: what is written, what is counted, and what ends it.
 -- By computing.
+use Rattle.std.specs.Prelude.{Some, None}
 use mathlib.Core.Path.{◌≡◌, refl}
 use mathlib.Core.List.{List, [], ◌∷◌, ◌++◌}
 use Prim.Native.Nat.{ℕ}
@@ -13,7 +14,6 @@ use Rattle.capture_datagram.specs.Ip.{ipv4_in, is_ipv4_udp, is_ipv4_whole}
 use Rattle.capture_datagram.specs.Link.{link_in, link_of}
 use Rattle.text.specs.Text.{ascii, decimal, decimal_in}
 use Rattle.program_spec.specs.Walk.{walk, walk_in}
-use Rattle.pcapframes_spec.specs.declared.session.Standing.TheVariants as standing
 use Rattle.pcapframes_spec.specs.Session.{begun, counted, frame_walk}
 use Rattle.pcapframes_spec.specs.Told.{left_out_text, refused_text, told_text}
 
@@ -46,12 +46,12 @@ cut : (walk (frame_walk 20000) begun (four 228)).state.cut ≡ 1
 unfolding walk_in step_of word_at link_of link_in ipv4_in is_ipv4_udp is_ipv4_whole udp_in is_for_port four datagram
 cut = refl
 
-whole : (walk (frame_walk 20000) begun (four 228)).state.standing ≡ standing.Open
+whole : (walk (frame_walk 20000) begun (four 228)).state.refusal ≡ None
 unfolding walk_in step_of word_at link_of link_in ipv4_in is_ipv4_udp is_ipv4_whole udp_in is_for_port four datagram
 whole = refl
 
 -- a link type that is not taken: at packet 0
-not_taken : (walk (frame_walk 20000) begun (four 105)).state.standing ≡ standing.Refused 83
+not_taken : (walk (frame_walk 20000) begun (four 105)).state.refusal ≡ Some 83
 unfolding walk_in step_of word_at link_of link_in ipv4_in is_ipv4_udp is_ipv4_whole udp_in is_for_port four datagram
 not_taken = refl
 
@@ -60,7 +60,7 @@ unfolding walk_in step_of word_at link_of link_in ipv4_in is_ipv4_udp is_ipv4_wh
 at_first = refl
 
 -- a capture that ends within its last record, and one without an octet
-ends-early : (walk (frame_walk 20000) begun (take 200 (four 228))).state.standing ≡ standing.Refused 81
+ends-early : (walk (frame_walk 20000) begun (take 200 (four 228))).state.refusal ≡ Some 81
 unfolding walk_in step_of word_at link_of link_in ipv4_in is_ipv4_udp is_ipv4_whole udp_in is_for_port four datagram
 ends-early = refl
 
@@ -68,7 +68,7 @@ ends-at-fourth : (walk (frame_walk 20000) begun (take 200 (four 228))).state.pac
 unfolding walk_in step_of word_at link_of link_in ipv4_in is_ipv4_udp is_ipv4_whole udp_in is_for_port four datagram
 ends-at-fourth = refl
 
-nothing : (walk (frame_walk 20000) begun []).state.standing ≡ standing.Refused 81
+nothing : (walk (frame_walk 20000) begun []).state.refusal ≡ Some 81
 unfolding walk_in step_of word_at link_of link_in ipv4_in is_ipv4_udp is_ipv4_whole udp_in is_for_port four datagram
 nothing = refl
 

@@ -1,9 +1,10 @@
 -- THE OUTPUT: the text of the walk is the frames of the payloads, in the order of the capture; and these read back as the payloads.
 -- Item by item.
+use Rattle.std.specs.Prelude.{None, Ok, Err}
 use mathlib.Core.Path.{◌≡◌, refl, ap, ◌∙◌}
 use mathlib.Core.Bool.{Bool, true, false, cond}
 use mathlib.Core.List.{List, [], ◌∷◌, ◌++◌}
-use Prim.Native.Nat.{ℕ, zero, suc, ◌+◌, ◌-◌, ◌*◌, ◌/◌, ◌%◌}
+use Prim.Native.Nat.{ℕ, zero, suc, ◌+◌, ◌*◌, ◌/◌, ◌%◌}
 use native.Mathlib.Nat.{div-add-mod'}
 use native.Mathlib.Omega.{arith}
 use borrow.Author.Tests.{le-leb}
@@ -12,7 +13,7 @@ use lib.Seq.{take-append_seam, drop-append_seam}
 use Rattle.rtp_frames.specs.Frames as rfc
 use Rattle.rtp_frames.specs.Frames.{frame, frames, front, more}
 use Rattle.rtp_frames.proofs.NextLaws.{frames-next}
-use Rattle.capture_spec.specs.declared.state.Item.{Item}
+use Rattle.capture_spec.specs.Items.{Read}
 use Rattle.capture_spec.specs.declared.state.Item.TheVariants as item
 use Rattle.capture_spec.specs.Step.{behind, step_of}
 use Rattle.capture_datagram.specs.declared.answer.Found.{Found}
@@ -21,15 +22,15 @@ use Rattle.capture_datagram.specs.Answer.{payload_of}
 use Rattle.capture_datagram.specs.Link.{datagram_in, is_link_taken}
 use Rattle.program_spec.specs.Walk.{Front, over, onward, walk_in, walk}
 use Rattle.pcapframes_spec.specs.declared.session.Session.{Session}
-use Rattle.pcapframes_spec.specs.declared.session.Standing.TheVariants as standing
 use Rattle.pcapframes_spec.specs.Frames.{frame_of, framed, frames_of, found_then, packet_in, payloads_in, payloads_of, payloads_on}
 use Rattle.pcapframes_spec.specs.Session.{begun, found_front, frame_walk, item_front, moved, refused_by}
 use Rattle.pcapframes_spec.proofs.SessionLaws.{front-open}
+use Rattle.capture_spec.specs.declared.state.Unread.TheVariants as unread
 
 module _ (port : ℕ) where
   -- what the first `m` items behind this one give
   abbrev Rest : ℕ → Type 0
-  Rest m = (z : Session) (o : List ℕ) → z.standing ≡ standing.Open → (walk_in (frame_walk port) m z o).text ≡ framed (payloads_in port m z.state o)
+  Rest m = (z : Session) (o : List ℕ) → z.refusal ≡ None → (walk_in (frame_walk port) m z o).text ≡ framed (payloads_in port m z.state o)
 
   abbrev text_of : ℕ → Session → List ℕ → Front Session → List ℕ
   text_of m s o f = (onward (frame_walk port) (walk_in (frame_walk port) m) s o f).text
@@ -41,13 +42,13 @@ module _ (port : ℕ) where
   found-text m ih s o n packet found.Fragment = ih _ (drop n o) refl
   found-text m ih s o n packet found.Cut = ih _ (drop n o) refl
 
-  item-text : (m : ℕ) → Rest m → (s : Session) (o : List ℕ) (i : Item) → text_of m s o (item_front port s o i) ≡ framed (payloads_on port (payloads_in port m) s.state o i)
-  item-text m ih s o item.Short = refl
-  item-text m ih s o (item.Refused x) = refl
-  item-text m ih s o (item.Head c n) = ih (moved s (behind s.state (item.Head c n))) (drop n o) refl
-  item-text m ih s o (item.Interface l k n) = ih (moved s (behind s.state (item.Interface l k n))) (drop n o) refl
-  item-text m ih s o (item.Other n) = ih (moved s s.state) (drop n o) refl
-  item-text m ih s o (item.Packet p n) = go (is_link_taken p.link)
+  item-text : (m : ℕ) → Rest m → (s : Session) (o : List ℕ) (i : Read) → text_of m s o (item_front port s o i) ≡ framed (payloads_on port (payloads_in port m) s.state o i)
+  item-text m ih s o (Err unread.Short) = refl
+  item-text m ih s o (Err (unread.Refused x)) = refl
+  item-text m ih s o (Ok (item.Head c n)) = ih (moved s (behind s.state (Ok (item.Head c n)))) (drop n o) refl
+  item-text m ih s o (Ok (item.Interface l k n)) = ih (moved s (behind s.state (Ok (item.Interface l k n)))) (drop n o) refl
+  item-text m ih s o (Ok (item.Other n)) = ih (moved s s.state) (drop n o) refl
+  item-text m ih s o (Ok (item.Packet p n)) = go (is_link_taken p.link)
     where
       packet : List ℕ
       packet = packet_in p o

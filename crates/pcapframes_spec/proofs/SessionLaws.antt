@@ -1,21 +1,22 @@
 -- What an item gives, by where the walk stands; and that a capture is walked lawfully: an item lies in the octets, octets behind it change nothing of it, and
 -- behind a refusal nothing is taken.
 -- By the item at the front.
+use Rattle.std.specs.Prelude.{Option, Some, None, Ok, Err}
 use mathlib.Core.Path.{◌≡◌, refl, ap, sym, subst, ◌∙◌}
 use mathlib.Core.Bool.{Bool, true, false, cond}
 use mathlib.Core.List.{List, ◌++◌}
-use Prim.Native.Nat.{ℕ, ◌+◌, ◌-◌, ◌<◌, ◌≤◌}
+use Prim.Native.Nat.{ℕ, ◌+◌, ◌<◌, ◌≤◌}
 use native.Mathlib.Omega.{arith}
 use borrow.Author.Tests.{le-leb}
 use lib.ListN.{length, take, drop, get_or, length-append, length-drop}
 use lib.Seq.{drop-append-le, take-append-le}
 use Rattle.rtp_frames.specs.Frames.{max_frame}
-use Rattle.capture_spec.specs.declared.state.Item.{Item}
+use Rattle.capture_spec.specs.Items.{Read}
 use Rattle.capture_spec.specs.declared.state.Item.TheVariants as item
 use Rattle.capture_spec.specs.declared.state.Place.{Place}
 use Rattle.capture_spec.specs.declared.state.State.{State}
 use Rattle.capture_spec.specs.Numbers.{capture_cut, link_not_taken, max_item}
-use Rattle.capture_spec.specs.Step.{Fits, IsTold, behind, step_of}
+use Rattle.capture_spec.specs.Step.{Fits, IsTold, step_of}
 use Rattle.capture_spec.proofs.LongerLaws.{step-longer}
 use Rattle.capture_spec.proofs.StepLaws.{step_fits}
 use Rattle.capture_datagram.specs.declared.answer.Found.{Found}
@@ -28,23 +29,22 @@ use Rattle.program_spec.specs.Run.{Answers}
 use Rattle.program_spec.proofs.StepLaws.{is-over, is-short, is-taken}
 use Rattle.pcapframes_spec.specs.declared.session.Reply.{Reply}
 use Rattle.pcapframes_spec.specs.declared.session.Session.{Session}
-use Rattle.pcapframes_spec.specs.declared.session.Standing.{Standing}
-use Rattle.pcapframes_spec.specs.declared.session.Standing.TheVariants as standing
 use Rattle.pcapframes_spec.specs.Frames.{packet_in}
 use Rattle.pcapframes_spec.specs.Session.{FoundFits, found_front, frame_walk, is_whole, item_front, last_of, moved, out_after, packet_front, refused_by, reply_of, session_front, standing_front, standing_last}
+use Rattle.capture_spec.specs.declared.state.Unread.TheVariants as unread
 
 -- by where the walk stands
-pub front-open : (port : ℕ) (s : Session) (o : List ℕ) → s.standing ≡ standing.Open → session_front port s o ≡ item_front port s o (step_of s.state o)
-front-open port s o e = ap (λ (k : Standing). standing_front k port s o) e
+pub front-open : (port : ℕ) (s : Session) (o : List ℕ) → s.refusal ≡ None → session_front port s o ≡ item_front port s o (step_of s.state o)
+front-open port s o e = ap (λ (k : Option ℕ). standing_front k port s o) e
 
-pub front-refused : (port : ℕ) (s : Session) (o : List ℕ) (x : ℕ) → s.standing ≡ standing.Refused x → session_front port s o ≡ over s
-front-refused port s o x e = ap (λ (k : Standing). standing_front k port s o) e
+pub front-refused : (port : ℕ) (s : Session) (o : List ℕ) (x : ℕ) → s.refusal ≡ Some x → session_front port s o ≡ over s
+front-refused port s o x e = ap (λ (k : Option ℕ). standing_front k port s o) e
 
-pub last-refused : (s : Session) (n x : ℕ) → s.standing ≡ standing.Refused x → last_of s n ≡ s
-last-refused s n x e = ap (λ (k : Standing). standing_last k s n) e
+pub last-refused : (s : Session) (n x : ℕ) → s.refusal ≡ Some x → last_of s n ≡ s
+last-refused s n x e = ap (λ (k : Option ℕ). standing_last k s n) e
 
-pub last-open : (s : Session) (n : ℕ) (b : Bool) → s.standing ≡ standing.Open → is_whole s.state.container n ≡ b → last_of s n ≡ cond b s (refused_by s capture_cut)
-last-open s n b e h = ap (λ (k : Standing). standing_last k s n) e ∙ ap (λ (z : Bool). cond z s (refused_by s capture_cut)) h
+pub last-open : (s : Session) (n : ℕ) (b : Bool) → s.refusal ≡ None → is_whole s.state.container n ≡ b → last_of s n ≡ cond b s (refused_by s capture_cut)
+last-open s n b e h = ap (λ (k : Option ℕ). standing_last k s n) e ∙ ap (λ (z : Bool). cond z s (refused_by s capture_cut)) h
 
 -- a payload that was found lies in the packet, and there is room for its frame
 pub found-fits : (packet : List ℕ) (link port out : ℕ) → ((j : ℕ) → get_or packet j 0 < 256) → max_frame ≤ out → (f : Found) → f ≡ datagram_in packet link port → FoundFits f (length packet) out
@@ -59,7 +59,7 @@ found-fits packet link port out h r found.Cut e = tt
 pub record TakenSeen (s : Session) (o : List ℕ) (n : ℕ) (z : Session) : Type 0 where
   pub some : 0 < n
   pub inside : n ≤ length o
-  pub standing : z.standing ≡ standing.Open
+  pub refusal : z.refusal ≡ None
   pub packets : z.packets ≤ s.packets + 1
   pub fragments : z.fragments ≤ s.fragments + 1
   pub cut : z.cut ≤ s.cut + 1
@@ -71,10 +71,10 @@ Seen s o (over z) = (x : ℕ) × (z ≡ refused_by s x)
 Seen s o (taken n t z) = TakenSeen s o n z
 
 found-seen : (s : Session) (o : List ℕ) (n : ℕ) (packet : List ℕ) (f : Found) → 0 < n → n ≤ length o → Seen s o (found_front s n packet f)
-found-seen s o n packet (found.Frame a b) p l = record { some = p; inside = l; standing = refl; packets = omega arith; fragments = omega arith; cut = omega arith }
-found-seen s o n packet found.Passed p l = record { some = p; inside = l; standing = refl; packets = omega arith; fragments = omega arith; cut = omega arith }
-found-seen s o n packet found.Fragment p l = record { some = p; inside = l; standing = refl; packets = omega arith; fragments = omega arith; cut = omega arith }
-found-seen s o n packet found.Cut p l = record { some = p; inside = l; standing = refl; packets = omega arith; fragments = omega arith; cut = omega arith }
+found-seen s o n packet (found.Frame a b) p l = record { some = p; inside = l; refusal = refl; packets = omega arith; fragments = omega arith; cut = omega arith }
+found-seen s o n packet found.Passed p l = record { some = p; inside = l; refusal = refl; packets = omega arith; fragments = omega arith; cut = omega arith }
+found-seen s o n packet found.Fragment p l = record { some = p; inside = l; refusal = refl; packets = omega arith; fragments = omega arith; cut = omega arith }
+found-seen s o n packet found.Cut p l = record { some = p; inside = l; refusal = refl; packets = omega arith; fragments = omega arith; cut = omega arith }
 
 packet-seen : (port : ℕ) (s : Session) (o : List ℕ) (n link : ℕ) (packet : List ℕ) → 0 < n → n ≤ length o → Seen s o (packet_front port s n link packet)
 packet-seen port s o n link packet p l = go (is_link_taken link)
@@ -84,18 +84,18 @@ packet-seen port s o n link packet p l = go (is_link_taken link)
     go false = (link_not_taken, refl)
 
 moved-seen : (s : Session) (o : List ℕ) (n : ℕ) (st : State) → 0 < n → n ≤ length o → TakenSeen s o n (moved s st)
-moved-seen s o n st p l = record { some = p; inside = l; standing = refl; packets = omega arith; fragments = omega arith; cut = omega arith }
+moved-seen s o n st p l = record { some = p; inside = l; refusal = refl; packets = omega arith; fragments = omega arith; cut = omega arith }
 
-item-seen : (port : ℕ) (s : Session) (o : List ℕ) (i : Item) → Fits i (length o) → Seen s o (item_front port s o i)
-item-seen port s o item.Short f = f
-item-seen port s o (item.Refused x) f = (x, refl)
-item-seen port s o (item.Head c n) f = moved-seen s o n _ f.0 f.1
-item-seen port s o (item.Interface l k n) f = moved-seen s o n _ f.0 f.1
-item-seen port s o (item.Packet p n) f = packet-seen port s o n p.link (packet_in p o) f.0 f.1
-item-seen port s o (item.Other n) f = moved-seen s o n _ f.0 f.1
+item-seen : (port : ℕ) (s : Session) (o : List ℕ) (i : Read) → Fits i (length o) → Seen s o (item_front port s o i)
+item-seen port s o (Err unread.Short) f = f
+item-seen port s o (Err (unread.Refused x)) f = (x, refl)
+item-seen port s o (Ok (item.Head c n)) f = moved-seen s o n _ f.0 f.1
+item-seen port s o (Ok (item.Interface l k n)) f = moved-seen s o n _ f.0 f.1
+item-seen port s o (Ok (item.Packet p n)) f = packet-seen port s o n p.link (packet_in p o) f.0 f.1
+item-seen port s o (Ok (item.Other n)) f = moved-seen s o n _ f.0 f.1
 
 -- a walk that is over stays so
-over-stays : (port : ℕ) (z : Session) (x : ℕ) → z.standing ≡ standing.Refused x → Stays (frame_walk port) z
+over-stays : (port : ℕ) (z : Session) (x : ℕ) → z.refusal ≡ Some x → Stays (frame_walk port) z
 over-stays port z x e = record { front = λ o. front-refused port z o x e; closing = λ o. refl; last = λ o. last-refused z (length o) x e }
 
 module _ (port : ℕ) (s : Session) (o : List ℕ) where
@@ -103,12 +103,12 @@ module _ (port : ℕ) (s : Session) (o : List ℕ) where
   here = session_front port s o
 
   -- what stands at the front, by whether the walk is over
-  seen_by : (f : Front Session) → here ≡ f → (P : Front Session → Type 0) → (s.standing ≡ standing.Open → Seen s o f → P f) → ((x : ℕ) → s.standing ≡ standing.Refused x → P (over s)) → P f
-  seen_by f e P g h = go s.standing refl
+  seen_by : (f : Front Session) → here ≡ f → (P : Front Session → Type 0) → (s.refusal ≡ None → Seen s o f → P f) → ((x : ℕ) → s.refusal ≡ Some x → P (over s)) → P f
+  seen_by f e P g h = go s.refusal refl
     where
-      go : (k : Standing) → s.standing ≡ k → P f
-      go standing.Open q = g q (subst (Seen s o) (sym (front-open port s o q) ∙ e) (item-seen port s o (step_of s.state o) (step_fits s.state o)))
-      go (standing.Refused x) q = subst P (sym (front-refused port s o x q) ∙ e) (h x q)
+      go : (k : Option ℕ) → s.refusal ≡ k → P f
+      go None q = g q (subst (Seen s o) (sym (front-open port s o q) ∙ e) (item-seen port s o (step_of s.state o) (step_fits s.state o)))
+      go (Some x) q = subst P (sym (front-refused port s o x q) ∙ e) (h x q)
 
   abbrev IsTaken : Front Session → Type 0
   IsTaken short = Unit {0}
@@ -118,9 +118,9 @@ module _ (port : ℕ) (s : Session) (o : List ℕ) where
   fronts : IsTaken here
   fronts = seen_by here refl IsTaken (still here) (λ x q. over-stays port s x q)
     where
-      still : (f : Front Session) → s.standing ≡ standing.Open → Seen s o f → IsTaken f
+      still : (f : Front Session) → s.refusal ≡ None → Seen s o f → IsTaken f
       still short q y = tt
-      still (over z) q y = over-stays port z y.0 (ap (λ (k : Session). k.standing) y.1)
+      still (over z) q y = over-stays port z y.0 (ap (λ (k : Session). k.refusal) y.1)
       still (taken n t z) q y = y
 
   pub taken-seen : (n : ℕ) (t : List ℕ) (z : Session) → here ≡ taken n t z → TakenSeen s o n z
@@ -138,7 +138,7 @@ module _ (port : ℕ) (s : Session) (o : List ℕ) where
   pub short-seen : here ≡ short → length o < max_item
   short-seen e = subst IsShort e (seen_by here refl IsShort (still here) (λ x q. tt))
     where
-      still : (f : Front Session) → s.standing ≡ standing.Open → Seen s o f → IsShort f
+      still : (f : Front Session) → s.refusal ≡ None → Seen s o f → IsShort f
       still short q y = y
       still (over z) q y = tt
       still (taken n t z) q y = tt
@@ -152,7 +152,7 @@ module _ (port : ℕ) (s : Session) (o : List ℕ) where
   pub over-counts : (z : Session) → here ≡ over z → (z.packets ≡ s.packets) × (z.fragments ≡ s.fragments) × (z.cut ≡ s.cut)
   over-counts z e = subst Counts e (seen_by here refl Counts (still here) (λ x q. (refl, refl, refl)))
     where
-      still : (f : Front Session) → s.standing ≡ standing.Open → Seen s o f → Counts f
+      still : (f : Front Session) → s.refusal ≡ None → Seen s o f → Counts f
       still short q y = tt
       still (over w) q y = (ap (λ (k : Session). k.packets) y.1, ap (λ (k : Session). k.fragments) y.1, ap (λ (k : Session). k.cut) y.1)
       still (taken n t w) q y = tt
@@ -162,32 +162,32 @@ packet-longer : (p : Place) (n : ℕ) (o more : List ℕ) → n ≤ length o →
 packet-longer p n o more l h =
     ap (take p.size) (drop-append-le p.at o more (omega arith)) ∙ take-append-le p.size (drop p.at o) more (rw (length-drop p.at o) (omega arith))
 
-item-longer : (port : ℕ) (s : Session) (o more : List ℕ) (i : Item) → Fits i (length o) → item_front port s (o ++ more) i ≡ item_front port s o i
-item-longer port s o more item.Short f = refl
-item-longer port s o more (item.Refused x) f = refl
-item-longer port s o more (item.Head c n) f = refl
-item-longer port s o more (item.Interface l k n) f = refl
-item-longer port s o more (item.Packet p n) f = ap (packet_front port s n p.link) (packet-longer p n o more f.1 f.2)
-item-longer port s o more (item.Other n) f = refl
+item-longer : (port : ℕ) (s : Session) (o more : List ℕ) (i : Read) → Fits i (length o) → item_front port s (o ++ more) i ≡ item_front port s o i
+item-longer port s o more (Err unread.Short) f = refl
+item-longer port s o more (Err (unread.Refused x)) f = refl
+item-longer port s o more (Ok (item.Head c n)) f = refl
+item-longer port s o more (Ok (item.Interface l k n)) f = refl
+item-longer port s o more (Ok (item.Packet p n)) f = ap (packet_front port s n p.link) (packet-longer p n o more f.1 f.2)
+item-longer port s o more (Ok (item.Other n)) f = refl
 
-is-told : (port : ℕ) (s : Session) (o : List ℕ) (i : Item) → (item_front port s o i ≡ short → ⊥) → IsTold i
-is-told port s o item.Short h = absurd (h refl)
-is-told port s o (item.Refused x) h = tt
-is-told port s o (item.Head c n) h = tt
-is-told port s o (item.Interface l k n) h = tt
-is-told port s o (item.Packet p n) h = tt
-is-told port s o (item.Other n) h = tt
+is-told : (port : ℕ) (s : Session) (o : List ℕ) (i : Read) → (item_front port s o i ≡ short → ⊥) → IsTold i
+is-told port s o (Err unread.Short) h = absurd (h refl)
+is-told port s o (Err (unread.Refused x)) h = tt
+is-told port s o (Ok (item.Head c n)) h = tt
+is-told port s o (Ok (item.Interface l k n)) h = tt
+is-told port s o (Ok (item.Packet p n)) h = tt
+is-told port s o (Ok (item.Other n)) h = tt
 
 front-longer : (port : ℕ) (s : Session) (o more : List ℕ) → (session_front port s o ≡ short → ⊥) → session_front port s (o ++ more) ≡ session_front port s o
-front-longer port s o more h = go s.standing refl
+front-longer port s o more h = go s.refusal refl
   where
-    go : (k : Standing) → s.standing ≡ k → session_front port s (o ++ more) ≡ session_front port s o
-    go standing.Open q =
+    go : (k : Option ℕ) → s.refusal ≡ k → session_front port s (o ++ more) ≡ session_front port s o
+    go None q =
         let a = front-open port s o q in
         let i = step_of s.state o in
         let told = is-told port s o i (λ e. h (a ∙ e)) in
         front-open port s (o ++ more) q ∙ ap (item_front port s (o ++ more)) (step-longer o more s.state told) ∙ item-longer port s o more i (step_fits s.state o) ∙ sym a
-    go (standing.Refused x) q = front-refused port s (o ++ more) x q ∙ sym (front-refused port s o x q)
+    go (Some x) q = front-refused port s (o ++ more) x q ∙ sym (front-refused port s o x q)
 
 -- A CAPTURE IS WALKED LAWFULLY
 pub lawful : (port : ℕ) → Lawful (frame_walk port)

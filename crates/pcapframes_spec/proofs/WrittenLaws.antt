@@ -1,9 +1,10 @@
 -- WHAT A CAPTURE HOLDS: of a capture as the drafts have it written, the payloads are those of its packets, in order.
 -- Packet by packet.
+use Rattle.std.specs.Prelude.{Ok, Err}
 use mathlib.Core.Path.{◌≡◌, refl, ap, ◌∙◌}
 use mathlib.Core.Bool.{Bool, true, cond}
 use mathlib.Core.List.{List, [], ◌∷◌, ◌++◌, append_assoc}
-use Prim.Native.Nat.{ℕ, zero, suc, ◌+◌, ◌-◌, ◌%◌, ◌<◌}
+use Prim.Native.Nat.{ℕ, zero, suc, ◌+◌, ◌%◌, ◌<◌}
 use native.Mathlib.Omega.{arith}
 use lib.ListN.{length, take, drop, get_or, length-append}
 use lib.Seq.{drop_at, take-append_seam}
@@ -11,7 +12,7 @@ use Rattle.capture_spec.specs.declared.state.Order.{Order}
 use Rattle.capture_spec.specs.declared.state.Order.TheVariants as order
 use Rattle.capture_spec.specs.declared.state.Container.{Container}
 use Rattle.capture_spec.specs.declared.state.Container.TheVariants as container
-use Rattle.capture_spec.specs.declared.state.Item.{Item}
+use Rattle.capture_spec.specs.Items.{Read}
 use Rattle.capture_spec.specs.declared.state.Item.TheVariants as item
 use Rattle.capture_spec.specs.declared.state.State.{State}
 use Rattle.capture_spec.specs.Step.{behind, opened, step_in, step_of}
@@ -20,23 +21,24 @@ use Rattle.capture_spec.proofs.WrittenLaws.{head_read, interface-read, packet-re
 use Rattle.capture_datagram.specs.Link.{datagram_in, is_link_taken}
 use Rattle.pcapframes_spec.specs.Frames.{found_then, payloads_in, payloads_of, payloads_on}
 use Rattle.pcapframes_spec.specs.Written.{BlocksFit, Captured, RecordsFit, blocks_of, payloads_among, pcap_of, pcapng_of, records_of}
+use Rattle.capture_spec.specs.declared.state.Unread.TheVariants as unread
 
 -- one item more
-step-on : (port m : ℕ) (st : State) (o : List ℕ) (i : Item) → step_of st o ≡ i → payloads_in port (suc m) st o ≡ payloads_on port (payloads_in port m) st o i
+step-on : (port m : ℕ) (st : State) (o : List ℕ) (i : Read) → step_of st o ≡ i → payloads_in port (suc m) st o ≡ payloads_on port (payloads_in port m) st o i
 unfolding payloads_in
 step-on port m st o i e = ap (payloads_on port (payloads_in port m) st o) e
 
 -- at the end there is none
-ended : (port m : ℕ) (st : State) → step_of st [] ≡ item.Short → payloads_in port m st [] ≡ []
+ended : (port m : ℕ) (st : State) → step_of st [] ≡ Err unread.Short → payloads_in port m st [] ≡ []
 unfolding payloads_in
 ended port zero st e = refl
 ended port (suc m) st e = ap (payloads_on port (payloads_in port m) st []) e
 
-classic-end : (st : State) (o : Order) (link : ℕ) → st.container ≡ container.Classic o link → step_of st [] ≡ item.Short
+classic-end : (st : State) (o : Order) (link : ℕ) → st.container ≡ container.Classic o link → step_of st [] ≡ Err unread.Short
 unfolding step_of
 classic-end st o link e = ap (λ (c : Container). step_in c st []) e
 
-section-end : (st : State) (o : Order) → st.container ≡ container.Section o → step_of st [] ≡ item.Short
+section-end : (st : State) (o : Order) → st.container ≡ container.Section o → step_of st [] ≡ Err unread.Short
 unfolding step_of
 section-end st o e = ap (λ (c : Container). step_in c st []) e
 
@@ -113,7 +115,7 @@ pcap-holds port o nano snap link cs t f =
     let h = head_of o (magic_of nano) snap link in
     let rest = records_of o cs in
     let n = head-length o nano snap link in
-    let st = behind opened (item.Head (container.Classic o (link % 65536)) 24) in
+    let st = behind opened (Ok (item.Head (container.Classic o (link % 65536)) 24)) in
     step-on port (length (h ++ rest)) opened (h ++ rest) _ (head_read o nano snap link rest opened refl)
     ∙ ap (payloads_in port (length (h ++ rest)) st) (drop_at h rest 24 n)
     ∙ records port (link % 65536) t o cs (length (h ++ rest)) st refl f (omega (arith, length-append h rest, n))
@@ -129,8 +131,8 @@ pcapng-holds port o link snap cs t f =
     let la = section-length o in
     let lb = interface-length o link snap in
     let size : all ≡ 48 + length rest = omega (arith, length-append a (b ++ rest), length-append b rest, la, lb) in
-    let st = behind opened (item.Head (container.Section o) 28) in
-    let st₁ = behind st (item.Interface link snap 20) in
+    let st = behind opened (Ok (item.Head (container.Section o) 28)) in
+    let st₁ = behind st (Ok (item.Interface link snap 20)) in
     let fuel : all ≡ suc (47 + length rest) = omega (arith, size) in
     step-on port all opened (a ++ (b ++ rest)) _ (section-read o (b ++ rest) opened refl)
     ∙ (λ i. payloads_in port (fuel i) st (drop_at a (b ++ rest) 28 la i))

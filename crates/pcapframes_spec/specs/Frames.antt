@@ -1,6 +1,6 @@
 -- The frames of a capture's datagrams: THE OUTPUT of `pcapframes`, as a definition over all of the capture.
-use Rattle.std.specs.Prelude.{cond, List, [], ◌∷◌, ◌++◌, ℕ, zero, suc, ◌/◌, ◌%◌, length, take, drop}
-use Rattle.capture_spec.specs.declared.state.Item.{Item}
+use Rattle.std.specs.Prelude.{cond, List, [], ◌∷◌, ◌++◌, ℕ, zero, suc, ◌/◌, ◌%◌, length, take, drop, Ok, Err}
+use Rattle.capture_spec.specs.Items.{Read}
 use Rattle.capture_spec.specs.declared.state.Item.TheVariants as item
 use Rattle.capture_spec.specs.declared.state.State.{State}
 use Rattle.capture_spec.specs.declared.state.Place.{Place}
@@ -9,6 +9,7 @@ use Rattle.capture_datagram.specs.declared.answer.Found.{Found}
 use Rattle.capture_datagram.specs.declared.answer.Found.TheVariants as found
 use Rattle.capture_datagram.specs.Answer.{payload_of}
 use Rattle.capture_datagram.specs.Link.{datagram_in, is_link_taken}
+use Rattle.capture_spec.specs.declared.state.Unread.TheVariants as unread
 
 -- RFC 4571, section 2: LENGTH, most significant octet first, then the packet
 abbrev pub frame_of : List ℕ → List ℕ
@@ -31,13 +32,13 @@ found_then packet found.Fragment ps = ps
 found_then packet found.Cut ps = ps
 
 -- the payloads of the item at the front, and then those of the rest; none behind a refusal, nor from a link type that is not taken on
-abbrev pub payloads_on : ℕ → (State → List ℕ → List (List ℕ)) → State → List ℕ → Item → List (List ℕ)
-payloads_on port next st o item.Short = []
-payloads_on port next st o (item.Refused x) = []
-payloads_on port next st o (item.Head c n) = next (behind st (item.Head c n)) (drop n o)
-payloads_on port next st o (item.Interface link snap n) = next (behind st (item.Interface link snap n)) (drop n o)
-payloads_on port next st o (item.Other n) = next st (drop n o)
-payloads_on port next st o (item.Packet p n) =
+abbrev pub payloads_on : ℕ → (State → List ℕ → List (List ℕ)) → State → List ℕ → Read → List (List ℕ)
+payloads_on port next st o (Err unread.Short) = []
+payloads_on port next st o (Err (unread.Refused x)) = []
+payloads_on port next st o (Ok (item.Head c n)) = next (behind st (Ok (item.Head c n))) (drop n o)
+payloads_on port next st o (Ok (item.Interface link snap n)) = next (behind st (Ok (item.Interface link snap n))) (drop n o)
+payloads_on port next st o (Ok (item.Other n)) = next st (drop n o)
+payloads_on port next st o (Ok (item.Packet p n)) =
     cond (is_link_taken p.link) (found_then (packet_in p o) (datagram_in (packet_in p o) p.link port) (next st (drop n o))) []
 
 -- those of the first `most` items

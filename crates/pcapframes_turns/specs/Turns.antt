@@ -11,7 +11,7 @@ use Rattle.program_spec.specs.Walk.{walk}
 use Rattle.pcapframes_spec.specs.declared.session.Session.{Session}
 use Rattle.pcapframes_spec.specs.Frames.{frames_of}
 use Rattle.pcapframes_spec.specs.Session.{begun, frame_walk, last_of}
-use Rattle.pcapframes_turns.specs.declared.Run.{Run}
+use Rattle.program.specs.declared.run.Run.{Run}
 
 -- WHAT THE BUFFERS MUST HOLD: the longest item, and the longest frame
 pub record Enough (input out : ℕ) : Type 0 where
@@ -19,7 +19,7 @@ pub record Enough (input out : ℕ) : Type 0 where
   pub frame : max_frame ≤ out
 
 -- at the start nothing is read, and nothing is to be written
-abbrev pub started : Run
+abbrev pub started : Run Session
 started = record { session = begun; buffers = buffers.begun 0 }
 
 -- THE WHOLE RUN, which leaves these octets in the buffers, and these places: what is written is the frames of

@@ -14,9 +14,7 @@ pub fn is_watched(rt: HostRuntime, prints: bool) -> Option<Stderr> {
     None
 }
 
-// `left` turns of u64::MAX are left.
-pub(crate) fn show(left: u64, watched: Option<Stderr>) {
-    let made = u64::MAX - left;
+fn show_number(made: u64, watched: Option<Stderr>) {
     if made % EVERY != 0 {
         return;
     }
@@ -25,12 +23,21 @@ pub(crate) fn show(left: u64, watched: Option<Stderr>) {
     }
 }
 
-// Ends the line of the last number that was shown.
-pub(crate) fn end(left: u64, watched: Option<Stderr>) {
-    if u64::MAX - left < EVERY {
+// Ends the line of the last number that was shown, if one was before the last turn.
+fn end_line(made: u64, watched: Option<Stderr>) {
+    if made <= EVERY {
         return;
     }
     if let Some(terminal) = watched {
         let _ = terminal.write_all(b"\n");
+    }
+}
+
+// So many turns were made; behind the last of them the run goes on or not.
+pub fn show(made: u64, goes_on: bool, watched: Option<Stderr>) {
+    if goes_on {
+        show_number(made, watched);
+    } else {
+        end_line(made, watched);
     }
 }

@@ -1,17 +1,12 @@
 // What a program reads and what it writes: standard input and output, or a file. Each keeps why the last call on it failed, if one did.
-ghost use Rattle.std.specs.Prelude.{◌≡◌, IfErr, length};
+ghost use Rattle.std.specs.Prelude.{◌≡◌, IfErr, IfOk, Some, length};
 ghost use Rattle.std.specs.Io.{ReadsAtMost};
-ghost use Rattle.program_spec.specs.Buffers.{WrittenOf};
 
-use program_spec::buffers::Written;
 use std::fs::File;
 use std::io;
 use std::io::{Read, Stdin, Stdout, Write};
 
-// The number of no error: the C library calls it "Success".
-const NO_ERROR: i32 = 0;
-
-// `Absent` is a file that is not open.
+// `Absent` is a file that is not open. Kept whole: a missing file is read as an empty one, in one match with the others.
 #[derive(Drop)]
 enum Reader {
     Standard(Stdin),
@@ -23,14 +18,14 @@ enum Reader {
 #[derive(Drop)]
 pub struct Source {
     reader: Reader,
-    reason: io::Error,
+    reason: Option<io::Error>,
 }
 
 impl Source {
     fn new(reader: Reader) -> Source {
         Source {
             reader,
-            reason: io::Error::from_raw_os_error(NO_ERROR),
+            reason: None,
         }
     }
 
@@ -55,8 +50,8 @@ impl Source {
         }
     }
 
-    // Why the last read that failed did.
-    pub fn reason(&self) -> io::Error
+    // Why the last read that failed did, if one did.
+    pub fn reason(&self) -> Option<io::Error>
         ensures { result ≡ self.now.reason }
     {
         self.reason
@@ -65,7 +60,7 @@ impl Source {
     // Every read goes through here: one read, of as many octets as the slice holds at the most.
     pub fn read(&mut self, octets: &mut [u8]) -> io::Result<usize>
         ensures bound { ReadsAtMost result octets.new }
-        ensures kept { IfErr result (λ e. self.new.reason ≡ e) }
+        ensures kept { IfErr result (λ e. self.new.reason ≡ Some e) }
     {
         let got = match &mut self.reader {
             Reader::Standard(input) => input.read(octets),
@@ -73,7 +68,7 @@ impl Source {
             Reader::Absent => Ok(0),
         };
         if let Err(reason) = got {
-            self.reason = reason;
+            self.reason = Some(reason);
         }
         got
     }
@@ -89,14 +84,14 @@ enum Writer {
 #[derive(Drop)]
 pub struct Sink {
     writer: Writer,
-    reason: io::Error,
+    reason: Option<io::Error>,
 }
 
 impl Sink {
     fn new(writer: Writer) -> Sink {
         Sink {
             writer,
-            reason: io::Error::from_raw_os_error(NO_ERROR),
+            reason: None,
         }
     }
 
@@ -108,42 +103,36 @@ impl Sink {
         Sink::new(Writer::Named(file))
     }
 
-    // Why the last call that failed did.
-    pub fn reason(&self) -> io::Error
+    // Why the last call that failed did, if one did.
+    pub fn reason(&self) -> Option<io::Error>
         ensures { result ≡ self.now.reason }
     {
         self.reason
     }
 
     // Every write goes through here: all of the text, or it failed.
-    pub fn write(&mut self, text: &[u8]) -> Written
-        ensures { WrittenOf result (length text.now) }
+    pub fn write(&mut self, text: &[u8]) -> io::Result<usize>
+        ensures all { IfOk result (λ n. n ≡ length text.now) }
+        ensures kept { IfErr result (λ e. self.new.reason ≡ Some e) }
     {
         let put = match &mut self.writer {
             Writer::Standard(output) => output.write_all(text),
             Writer::Named(file) => file.write_all(text),
         };
         match put {
-            Ok(()) => Written::All(text.len()),
+            Ok(()) => Ok(text.len()),
             Err(reason) => {
-                self.reason = reason;
-                Written::Failed
+                self.reason = Some(reason);
+                Err(reason)
             }
         }
     }
 
-    // Waits until a file's octets are stored, and says whether they are: some file systems report only here that a write has failed.
-    pub fn store(&mut self) -> bool {
-        let stored = match &mut self.writer {
+    // Waits until a file's octets are stored: some file systems report only here that a write has failed.
+    pub fn store(&mut self) -> io::Result<()> {
+        match &mut self.writer {
             Writer::Standard(_) => Ok(()),
             Writer::Named(file) => file.sync_data(),
-        };
-        match stored {
-            Ok(()) => true,
-            Err(reason) => {
-                self.reason = reason;
-                false
-            }
         }
     }
 }

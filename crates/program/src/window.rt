@@ -2,18 +2,6 @@
 ghost use Rattle.std.specs.Prelude.{◌≡◌, ◌≤◌, drop, length};
 ghost use Rattle.wire_spec.specs.Bits.{overwrite};
 
-fn shift_to_front(octets: &mut [u8], at: usize)
-    requires { at ≤ length octets.old }
-    ensures { octets.new ≡ overwrite (drop at octets.old) octets.old }
-{
-    let count = octets.len() - at;
-    let mut k: usize = 0;
-    while k < count {
-        octets[k] = octets[at + k];
-        k += 1;
-    }
-}
-
 // Moves the octets from `at` on to the front; `at` must lie within them. If all are left, none is moved: a
 // long item that arrives octet by octet would otherwise be copied at every read.
 pub fn move_to_front(octets: &mut [u8], at: usize)
@@ -23,5 +11,5 @@ pub fn move_to_front(octets: &mut [u8], at: usize)
     if at == 0 {
         return;
     }
-    shift_to_front(octets, at);
+    octets.copy_within(at.., 0);
 }

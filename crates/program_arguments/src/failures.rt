@@ -61,19 +61,27 @@ pub fn fail_to_write(err: Stderr, program: &[u8], file: &[u8], reason: io::Error
     fail(err, program, file, reason);
 }
 
-// How a run ended: a read of `source`, which has the name `input`, or a write to `sink`, which has the name `output`, failed, or neither.
-pub fn report_failure(
-    err: Stderr,
-    failure: Failure,
-    program: &[u8],
-    input: &[u8],
-    source: &Source,
-    output: &[u8],
-    sink: &Sink,
-) {
+// What a run reads from and writes to, and the names of both.
+#[derive(Clone, Copy)]
+pub struct Ends<'a> {
+    pub source: &'a Source,
+    pub input: &'a [u8],
+    pub sink: &'a Sink,
+    pub output: &'a [u8],
+}
+
+// A call of a run failed: a read of what it reads from, or a write to what it writes to.
+pub fn report_failure(err: Stderr, program: &[u8], failure: Failure, ends: Ends) {
     match failure {
-        Failure::Nothing => {}
-        Failure::Read => fail_to_read(err, program, input, source.reason()),
-        Failure::Write => fail_to_write(err, program, output, sink.reason()),
+        Failure::Read => {
+            if let Some(reason) = ends.source.reason() {
+                fail_to_read(err, program, ends.input, reason);
+            }
+        }
+        Failure::Write => {
+            if let Some(reason) = ends.sink.reason() {
+                fail_to_write(err, program, ends.output, reason);
+            }
+        }
     }
 }

@@ -4,7 +4,6 @@ ghost use Rattle.program_arguments.specs.Files.{file_at, is_old, layout_of};
 
 use crate::failures::fail;
 use crate::words::{WORD_ROOM, has_word, word_at};
-use check::same;
 use program::streams::{Sink, Source};
 use std::env::{Env, FillError};
 use std::fs::{File, OpenOptions};
@@ -21,11 +20,13 @@ const NOT_TEXT: i32 = 84;
 // The descriptor of standard error.
 const STANDARD_ERROR: i32 = 2;
 
-// The word `old`.
+// The word for the drafts' layout.
+const OLD: &[u8] = b"old";
+
 fn is_old(word: &[u8]) -> bool
     ensures { result ≡ is_old word.now }
 {
-    same(word, b"old")
+    word == OLD
 }
 
 // The layout that a word asks for: `old` is that of the drafts (02, K3).

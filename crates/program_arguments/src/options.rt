@@ -4,8 +4,12 @@ ghost use Rattle.program_arguments.specs.Options.{option_of};
 
 use crate::failures::tell;
 use crate::words::{WORD_ROOM, has_word, word_at};
-use check::same;
 use std::io::{Print, Stderr, Stdout};
+
+// The names of the options.
+const HELP: &[u8] = b"--help";
+
+const VERSION: &[u8] = b"--version";
 
 // What an argument tells a program.
 #[derive(Clone, Copy)]
@@ -20,16 +24,13 @@ pub enum Told {
 pub fn option_of(word: &[u8]) -> Told
     ensures { result ≡ option_of word.now }
 {
-    if word.len() == 0 {
+    if !word.starts_with(b"-") {
         return Told::Operand;
     }
-    if word[0] != b'-' {
-        return Told::Operand;
-    }
-    if same(word, b"--help") {
+    if word == HELP {
         return Told::Help;
     }
-    if same(word, b"--version") {
+    if word == VERSION {
         return Told::Version;
     }
     Told::Unknown

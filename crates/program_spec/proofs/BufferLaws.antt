@@ -3,6 +3,7 @@
 use mathlib.Core.Path.{◌≡◌, refl, ap, sym, subst, ◌∙◌}
 use mathlib.Core.Bool.{Bool, true, false, true≢false, cond, not, ◌&&◌, ◌||◌}
 use mathlib.Core.List.{List, ◌++◌, append_assoc, append-nil}
+use Rattle.std.specs.Prelude.{Some, None}
 use Prim.Native.Nat.{ℕ, ◌+◌, ◌-◌, ◌<◌, ◌≤◌}
 use native.Mathlib.Omega.{arith}
 use borrow.Author.Tests.{eqb-true, ltb-false, ne_eqb}
@@ -84,30 +85,30 @@ waiting-is-no-end = refl
 abbrev ending : (filled : ℕ) (failed : Bool) → Buffers
 ending n f = record { at = 5; end = 7; filled = n; «open» = false; failed = f }
 
-nothing-failed : failure_of (ending 1 false) ≡ failure.Nothing
+nothing-failed : failure_of (ending 1 false) ≡ None
 nothing-failed = refl
 
-read-failed : failure_of (ending 0 true) ≡ failure.Read
+read-failed : failure_of (ending 0 true) ≡ Some failure.Read
 read-failed = refl
 
-write-failed : failure_of (ending 9 true) ≡ failure.Write
+write-failed : failure_of (ending 9 true) ≡ Some failure.Write
 write-failed = refl
 
 pub failed-to-read : (b : Buffers) (input : List ℕ) (r : Buffers) (input' : List ℕ)
     (t : Refilled b input r input')
-    → t.flushed.«open» ≡ true → r.failed ≡ true → failure_of r ≡ failure.Read
+    → t.flushed.«open» ≡ true → r.failed ≡ true → failure_of r ≡ Some failure.Read
 failed-to-read b input r input' t o e = go t.text.written t.text.filled t.text.goes_on
   where
     x : ReadMore t.flushed input r input'
     x = subst (λ (z : Bool). ReadOn z t.flushed input r input') o t.octets
 
     go : (w : Bool) → t.flushed.filled ≡ cond w 0 b.filled → t.flushed.«open» ≡ (w && b.«open»)
-        → failure_of r ≡ failure.Read
+        → failure_of r ≡ Some failure.Read
     go true n g = let none : r.filled ≡ 0 = x.filled ∙ n in rw (e, none) refl
     go false n g = absurd (true≢false (sym o ∙ g))
 
 pub failed-to-write : (b r : Buffers) (t : Flushed b r) → t.written ≡ false → 0 < b.filled
-    → failure_of r ≡ failure.Write
+    → failure_of r ≡ Some failure.Write
 failed-to-write b r t w h =
     let f : r.failed ≡ true = t.fails ∙ ap (λ (z : Bool). not z || b.failed) w in
     let n : r.filled ≡ b.filled = t.filled ∙ ap (λ (z : Bool). cond z 0 b.filled) w in

@@ -12,11 +12,11 @@ use lib.ListN.{length, take, drop, drop_of_length-le, length-drop, length-replic
 use Rattle.program_spec.specs.declared.buffers.Buffers.{Buffers}
 use Rattle.program_spec.specs.Buffers as buffers
 use Rattle.program_spec.specs.Buffers.{Begins, Flushed, ended, is_done}
-use Rattle.program_spec.specs.Turns.{Passed, started, turned, LastTurn}
+use Rattle.program_spec.specs.Turns.{Passed, Stopped, started, turned, LastTurn, max_turns}
 use Rattle.program_spec.specs.Walk.{Front, short, taken, over, Program, Walked, Lawful, Stays, walk, output}
 use Rattle.program_spec.specs.Run.{At, Closed, Closing, Ended, InBounds, ItemTaken, NoneTaken, Started, Step, Stops, Turned, at-end, free, is-over, read_in, turning, unused, unwritten, written_in}
 use Rattle.program_spec.proofs.BufferLaws.{Done, Kept, done, flushed-keeps, not_done, octets-parts, refilled-ends, refilled-keeps, short as short-part}
-use Rattle.program_spec.proofs.TurnLaws.{Prints, Sofar, always, begins-with, run-prints}
+use Rattle.program_spec.proofs.TurnLaws.{Prints, always, begins-with, run-prints}
 use Rattle.program_spec.proofs.WalkLaws.{next-text, over-text, short-text}
 
 -- the length of a buffer at its start comes by a law, and is not counted
@@ -30,8 +30,8 @@ still-enough E a b d e = rw (a, b, d) e
 pub start-bounds : {P : Program} {s₀ : P.State} {a : At P.State} → Started P s₀ a → InBounds a
 start-bounds t = (t.bounds.0, omega (arith, t.bounds.1), t.bounds.2)
 
-pub bounds : {P : Program} {s₀ : P.State} {from here : At P.State} {turns : ℕ} → Started P s₀ from → Sofar (turning P) from here turns → InBounds here
-bounds {P} t f = always (turning P) (λ (a : At P.State). InBounds a) (start-bounds t) (λ a b x. x.bounds) f.passed
+pub bounds : {P : Program} {from here : At P.State} {read written : List ℕ} → InBounds from → Passed (turning P) from read written here → InBounds here
+bounds {P} i p = always (turning P) (λ (a : At P.State). InBounds a) i (λ a b x. x.bounds) p
 
 -- a number that an item raises by 1 at the most, a turn does
 pub item-counts : (P : Program) (f : P.State → ℕ) → ((s : P.State) (o : List ℕ) (n : ℕ) (t : List ℕ) (z : P.State) → P.front s o ≡ taken n t z → f z ≤ f s + 1)
@@ -236,11 +236,11 @@ module _ (P : Program) (law : Lawful P) where
             let n : c.ready.filled - r.filled ≡ c.ready.filled = omega (arith, (done r h).empty) in
             ap (λ (j : ℕ). written ++ take j out') n ∙ run-last (closed-done h)
 
-  -- A RUN THAT HAS ENDED: no turn is left
-  pub run-ended : (whole : List ℕ → List ℕ) {s₀ : P.State} → ((l : List ℕ) → whole l ≡ output P s₀ l) → {from here : At P.State} {turns : ℕ} → Started P s₀ from
-      → Sofar (turning P) from here turns → turns ≤ 0 → {r : Buffers} {out' : List ℕ} → Closed P here r out'
+  -- A RUN THAT HAS STOPPED, and its last text
+  pub run-ended : (whole : List ℕ → List ℕ) {s₀ : P.State} → ((l : List ℕ) → whole l ≡ output P s₀ l) → {from here : At P.State} → Started P s₀ from
+      → Stopped (turning P) max_turns from here → {r : Buffers} {out' : List ℕ} → Closed P here r out'
       → Ended P whole s₀ here out' r
-  run-ended whole {s₀} w {from} {here} starts f n {r} {out'} c =
+  run-ended whole {s₀} w {from} {here} starts f {r} {out'} c =
       let p = f.passed in
       record {
         from = from;
@@ -249,7 +249,7 @@ module _ (P : Program) (law : Lawful P) where
         written = f.written;
         passed = p;
         closed = c;
-        ends = λ o. omega (arith, n, f.made o);
+        ends = f.ends;
         begins = λ unread. subst (λ (l : List ℕ). Begins l f.written) (sym (w (f.read ++ unread))) (run-begins starts p unread);
         waits = λ unread. subst (λ (l : List ℕ). Begins l (f.written ++ unwritten here)) (sym (w (f.read ++ unread))) (run-waits starts p unread);
         but_last = λ h. run-but-last starts p h ∙ sym (w f.read);

@@ -2,14 +2,14 @@
 -- writes, what was written begins the output, whatever is still to come.
 -- Turn by turn.
 use mathlib.Core.Path.{◌≡◌, refl, ap, sym, ◌∙◌}
-use mathlib.Core.Bool.{Bool, true, false, cond}
+use mathlib.Core.Bool.{true, false, true≢false}
 use mathlib.Core.List.{List, ◌++◌, append_assoc}
-use Prim.Native.Nat.{ℕ, ◌+◌, ◌-◌, ◌≤◌, ◌<◌}
+use Prim.Native.Nat.{ℕ, ◌+◌, ◌≤◌}
 use native.Mathlib.Omega.{arith}
 use lib.ListN.{length, take}
 use lib.Seq.{take-append_seam}
 use Rattle.program_spec.specs.Buffers.{Begins}
-use Rattle.program_spec.specs.Turns.{Turning, Passed, started, turned, turns_of, max_turns}
+use Rattle.program_spec.specs.Turns.{Turning, Passed, Stopped, started, turned, turns_of}
 
 module _ (T : Turning) {from : T.At} where
   -- what holds at the start, and behind every turn
@@ -24,42 +24,24 @@ module _ (T : Turning) {from : T.At} where
   counts-turns f h started = omega arith
   counts-turns f h (turned {a = a} {b = b} p o t) = omega (arith, counts-turns f h p, h a b t)
 
--- THE LOOP of a program: its turns are a run, and with those that are left they are as many as at the start; some are left only while the run is open
-pub record Sofar (T : Turning) (from here : T.At) (turns : ℕ) : Type 0 where
+-- THE LOOP of a program: so many turns were made, and the run goes on
+pub record Going (T : Turning) (from here : T.At) (turns : ℕ) : Type 0 where
   pub read : T.Read
   pub written : List ℕ
   pub passed : Passed T from read written here
-  pub made : T.is_open here ≡ true → turns + turns_of T passed ≡ max_turns
-  pub goes_on : 0 < turns → T.is_open here ≡ true
-
--- the turns that are left fall; some are left only while the run is open, and with those that were made they are as many as at the start
-pub fewer : (b : Bool) (n r : ℕ) → r ≡ cond b (n - 1) 0 → 0 < n → r < n
-fewer true n r e h = omega (arith, e)
-fewer false n r e h = omega (arith, e)
-
-still_open : (b : Bool) (n r : ℕ) → r ≡ cond b (n - 1) 0 → 0 < r → b ≡ true
-still_open true n r e h = refl
-still_open false n r e h = absurd (omega arith)
-
-one_more : (b : Bool) (n r made most : ℕ) → r ≡ cond b (n - 1) 0 → 0 < n → n + made ≡ most → b ≡ true → r + (made + 1) ≡ most
-one_more true n r made most e h k o = omega arith
-one_more false n r made most e h k o = let z : ◌≡◌ {A = ℕ} 0 1 = cc in absurd (omega arith)
+  pub made : turns_of T passed ≡ turns
+  pub goes_on : T.is_open here ≡ true
 
 module _ {T : Turning} {from : T.At} where
-  pub first-turn : T.is_open from ≡ true → Sofar T from from max_turns
-  first-turn o = record { read = _; written = _; passed = started; made = λ e. refl; goes_on = λ h. o }
+  pub first-turn : T.is_open from ≡ true → Going T from from 0
+  first-turn o = record { read = _; written = _; passed = started; made = refl; goes_on = o }
 
-  pub next-turn : {here : T.At} {turns : ℕ} → Sofar T from here turns → 0 < turns → {there : T.At} → T.Turn here there → {left : ℕ} → left ≡ cond (T.is_open there) (turns - 1) 0
-      → Sofar T from there left
-  next-turn {turns = turns} f h {there} t {left} e =
-      let o = f.goes_on h in
-      record {
-        read = _;
-        written = _;
-        passed = turned f.passed o t;
-        made = one_more (T.is_open there) turns left (turns_of T f.passed) max_turns e h (f.made o);
-        goes_on = still_open (T.is_open there) turns left e;
-      }
+  pub next-turn : {here : T.At} {turns : ℕ} → Going T from here turns → {there : T.At} → T.Turn here there → T.is_open there ≡ true → Going T from there (turns + 1)
+  next-turn f t o = record { read = _; written = _; passed = turned f.passed f.goes_on t; made = ap (λ (n : ℕ). n + 1) f.made; goes_on = o }
+
+  -- it stops behind a turn that leaves it closed
+  pub last-turn : {here : T.At} {turns : ℕ} → Going T from here turns → {there : T.At} → T.Turn here there → T.is_open there ≡ false → {most : ℕ} → Stopped T most from there
+  last-turn f t o = record { read = _; written = _; passed = turned f.passed f.goes_on t; ends = λ e. absurd (true≢false (sym e ∙ o)) }
 
 -- WHAT A PROGRAM PRINTS: of a place where it stands so, what is still to be printed, by what is still to come; a turn keeps it, but for what it writes
 pub record Prints (T : Turning) (from : T.At) (whole : T.Read → List ℕ) : Type 1 where

@@ -1,13 +1,11 @@
 -- What a program holds of its input and of its text between its calls, and what each of them makes of it.
 -- No contract of the libraries says what the operating system's calls do, so two things are assumed here: that a write which does not
 -- fail writes what it is passed, and that a read puts the next octets of the input, as many as it answers, where it is told to.
-use Rattle.std.specs.Prelude.{◌≡◌, Bool, true, false, cond, not, ◌&&◌, ◌||◌, List, ℕ, ◌+◌, ◌-◌, ◌≤◌, eqb, ltb, ℤ, pos, negsuc, length, take, drop}
+use Rattle.std.specs.Prelude.{◌≡◌, Bool, true, false, cond, not, ◌&&◌, ◌||◌, List, Option, Some, None, ℕ, ◌+◌, ◌-◌, ◌≤◌, eqb, ltb, ℤ, pos, negsuc, length, take, drop}
 use Rattle.std.specs.Int.Signed.{lt_z}
 use Rattle.program_spec.specs.declared.buffers.Buffers.{Buffers}
 use Rattle.program_spec.specs.declared.buffers.Failure.{Failure}
 use Rattle.program_spec.specs.declared.buffers.Failure.TheVariants as failure
-use Rattle.program_spec.specs.declared.buffers.Written.{Written}
-use Rattle.program_spec.specs.declared.buffers.Written.TheVariants as written
 
 -- the places lie in buffers of so many octets
 abbrev pub InBounds : Buffers → (input out : ℕ) → Type 0
@@ -35,8 +33,8 @@ is_done b = not (b.«open» || b.failed) && eqb b.filled 0
 
 -- WHICH CALL FAILED, by the text that waits: a write that fails leaves its text waiting, and nothing is read
 -- while any waits
-abbrev pub failure_of : Buffers → Failure
-failure_of b = cond b.failed (cond (eqb b.filled 0) failure.Read failure.Write) failure.Nothing
+abbrev pub failure_of : Buffers → Option Failure
+failure_of b = cond b.failed (Some (cond (eqb b.filled 0) failure.Read failure.Write)) None
 
 -- a list begins with another
 abbrev pub Begins : List ℕ → List ℕ → Type 0
@@ -53,11 +51,6 @@ advanced b used size = record { at = b.at + used; end = b.end; filled = b.filled
 -- nothing more is to come, with so much text to be written
 abbrev pub ended : Buffers → (filled : ℕ) → Buffers
 ended b n = record { at = b.at; end = b.end; filled = n; «open» = false; failed = b.failed }
-
--- all octets of a text were written, or the write failed
-abbrev pub WrittenOf : Written → ℕ → Type 0
-WrittenOf (written.All n) size = n ≡ size
-WrittenOf written.Failed size = Unit {0}
 
 -- the text is written: none waits any more; where the write failed all of it still does, and the run ends
 pub record Flushed (b r : Buffers) : Type 0 where

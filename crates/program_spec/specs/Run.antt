@@ -165,6 +165,18 @@ pub record Answers (P : Program) (most : ℕ) (s : P.State) (octets out : List �
   pub text : out' ≡ octets_after (P.room s (length out)) (P.front s octets) out
   pub fits : Fits y most (length octets) (length out)
 
+-- WHAT A TURN NEEDS of its buffers: the input holds the longest item, and all of the text's octets are room for what the next item can give
+pub record Holds (P : Program) (most : ℕ) (s : P.State) (input out : ℕ) : Type 0 where
+  pub item : most ≤ input
+  pub text : P.room s out ≡ true
+
+-- so it is of a place, by the session and the cells that are carried there, and the program can take an item with them
+abbrev pub Ready : (P : Program) (most : ℕ) {S : Type 0} (carried : S → List ℕ → P.State) (can_take : S → List ℕ → Type 0)
+    (input store out : ℕ) → At P.State → Type 0
+Ready P most {S} carried can_take input store out here =
+    (session : S) (cells : List ℕ) → length cells ≡ store → here.state ≡ carried session cells
+    → Holds P most here.state input out × can_take session cells
+
 -- what `after_step` asks of the places, and what it then does with an answer
 abbrev pub CanStep : Answer → Buffers → (input out : ℕ) → Type 0
 CanStep (answer.Taken used size) b input out = (b.at + used ≤ b.end) × (b.filled + size ≤ out)

@@ -1,5 +1,5 @@
 -- A RUN IN TURNS, of any program: the pieces that it read and the texts that it wrote, each joined.
-use Rattle.std.specs.Prelude.{◌≡◌, Bool, true, List, [], ◌++◌, ℕ, ◌+◌, ◌-◌, ◌^◌}
+use Rattle.std.specs.Prelude.{◌≡◌, Bool, true, List, [], ◌++◌, ℕ, ◌+◌, ◌-◌, ◌^◌, ◌<◌}
 
 -- A PROGRAM IN TURNS: what it reads, the octets of a file or of each of two; where it stands between two turns; whether it goes on; what a turn does, and
 -- what is read and written in it
@@ -32,3 +32,16 @@ module _ (T : Turning) where
 -- and the most that are: a proved loop ends, and nothing says that a stream does
 abbrev pub max_turns : ℕ
 max_turns = 2 ^ 64 - 1
+
+-- a run of so many turns at the most
+module _ (T : Turning) (most : ℕ) (from : T.At) where
+  -- wherever it is while a turn is left, this holds
+  abbrev pub Lasts : (T.At → Type 0) → Type 0
+  Lasts Q = (read : T.Read) (written : List ℕ) (here : T.At) (p : Passed T from read written here) → turns_of T p < most → Q here
+
+  -- IT HAS STOPPED: it does not go on, or no turn is left
+  pub record Stopped (here : T.At) : Type 0 where
+    pub read : T.Read
+    pub written : List ℕ
+    pub passed : Passed T from read written here
+    pub ends : T.is_open here ≡ true → turns_of T passed ≡ most

@@ -2,6 +2,7 @@
 use wire_spec::refusal::Refusal;
 
 // The octets from `at` to `end` of the input are still to be used, and the first `filled` of the text to be written.
+// Kept without an invariant: `InBounds` speaks of the lengths of slices that are lent, which this does not hold.
 #[derive(Clone, Copy)]
 pub struct Buffers {
     pub at: usize,
@@ -12,22 +13,15 @@ pub struct Buffers {
     pub failed: bool,
 }
 
-// Which call failed, if one did.
-#[derive(Clone, Copy)]
+// Which call failed.
+#[derive(Clone, Copy, Debug, PartialEq, Eq)]
 pub enum Failure {
-    Nothing,
     Read,
     Write,
 }
 
-// All of so many octets were written, or a write failed.
-#[derive(Clone, Copy)]
-pub enum Written {
-    All(usize),
-    Failed,
-}
-
 // What stands at the front: no whole item; one of `used` octets, whose text has `length`; nothing that is taken any more; or too little was lent (23).
+// Kept whole: `after_step` decides over the four together, and none is passed on as a failure.
 #[derive(Clone, Copy)]
 pub enum Step {
     Short,

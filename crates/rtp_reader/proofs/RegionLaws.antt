@@ -1,7 +1,8 @@
 -- The ANC data packets of a packet that passed 1 to 8, taken in the tolerant way.
 -- By what their run is, and 13 behind it.
+use Rattle.rtp_reader.specs.declared.packet.TolerantRead.{TolerantRead}
+use Rattle.anc_tolerant_reader.specs.declared.check.TolerantRun.{TolerantRun}
 use mathlib.Core.Path.{◌≡◌, refl, ap, ap₂, sym, ◌∙◌, subst}
-use mathlib.Core.Bool.{true, false}
 use mathlib.Core.List.{List, [], ◌∷◌}
 use Prim.Native.Nat.{ℕ, ◌+◌, ◌-◌, ◌≤◌}
 use native.Mathlib.Omega.{arith}
@@ -12,7 +13,7 @@ use Rattle.wire_spec.specs.declared.refusal.Refusal.{Refusal}
 use Rattle.wire_spec.specs.declared.count.OctetCount.{OctetCount}
 use Rattle.wire_spec.specs.Bits.{overwrite}
 use Rattle.wire_spec.specs.Layout.{Layout, payload_header_size}
-use Rattle.wire_spec.specs.Result.{Result, refused, accepted, refuse, ◌then◌, IsAccepted}
+use Rattle.wire_spec.specs.Result.{Result, Err, Ok, refuse, ◌then◌, IsAccepted}
 use Rattle.wire_spec.specs.Cells.{list_of}
 use Rattle.wire_spec.specs.Packet.{content, packet_read, header_least, header_size, length_field, anc_count, run_at}
 use Rattle.wire_spec.proofs.ResultLaws.{accepted-inj, judge-accepts, then-accepts}
@@ -22,11 +23,9 @@ use Rattle.anc_tolerant_spec.proofs.RunLaws.{run-counted}
 use Rattle.anc_tolerant_spec.proofs.PacketLaws.{region, past}
 use Rattle.anc_tolerant_reader.specs.Answers.{tolerant_run_of, taken_cells}
 use Rattle.anc_tolerant_reader.specs.declared.check.Tally.{Tally}
-use Rattle.anc_tolerant_reader.specs.declared.check.TolerantRun.TheVariants as ran
 use Rattle.rtp_strict_reader.specs.Answers.{head_at, summary_of}
 use Rattle.rtp_strict_reader.specs.declared.packet.Summary.{Summary}
 use Rattle.rtp_reader.specs.Answers.{Staged, tolerant_of, through_after}
-use Rattle.rtp_reader.specs.declared.packet.TolerantRead.TheVariants as read
 
 module _ (L : Layout) (s : List ℕ) where
   -- the run
@@ -48,17 +47,17 @@ module _ (L : Layout) (s : List ℕ) where
     content-is : tolerate_content L s ≡ (run then tolerated L s)
     content-is = past L s st.header st.padding st.payload
 
-    pub refused-run : (x : Refusal) → tolerant_run_of run ≡ ran.Refused x → tolerate_content L s ≡ refused x
+    pub refused-run : (x : Refusal) → tolerant_run_of run ≡ Err x → tolerate_content L s ≡ Err x
     refused-run x h = content-is ∙ go run h
       where
-        go : (v : Result Taken) → tolerant_run_of v ≡ ran.Refused x → (v then tolerated L s) ≡ refused x
-        go (refused y) h = let e : y ≡ x = cc in ap refused e
-        go (accepted q) h = let z : ◌≡◌ {A = ℕ} 0 1 = cc in absurd (omega arith)
+        go : (v : Result Taken) → tolerant_run_of v ≡ Err x → (v then tolerated L s) ≡ Err x
+        go (Err y) h = let e : y ≡ x = cc in ap Err e
+        go (Ok q) h = let z : ◌≡◌ {A = ℕ} 0 1 = cc in absurd (omega arith)
 
-    module _ (t : Tally) (left : OctetCount) (h : tolerant_run_of run ≡ ran.Accepted t left) where
+    module _ (t : Tally) (left : OctetCount) (h : tolerant_run_of run ≡ Ok (record { tally = t; left = left })) where
       record Ran : Type 0 where
         taken : Taken
-        accepts : run ≡ accepted taken
+        accepts : run ≡ Ok taken
         omitted : taken.left_out ≡ t.omitted
         cells : length (list_of taken.records) ≡ t.cells
         rest : length taken.rest ≡ left.0
@@ -67,17 +66,16 @@ module _ (L : Layout) (s : List ℕ) where
       run-found : Ran
       run-found = go run refl h
         where
-          go : (v : Result Taken) → run ≡ v → tolerant_run_of v ≡ ran.Accepted t left → Ran
-          go (refused y) e h = let z : ◌≡◌ {A = ℕ} 0 1 = cc in absurd (omega arith)
-          go (accepted q) e h =
-              let a : record { omitted = q.left_out; cells = length (list_of q.records) } ≡ t = cc in
-              let b : record { 0 = length q.rest } ≡ left = cc in
+          go : (v : Result Taken) → run ≡ v → tolerant_run_of v ≡ Ok (record { tally = t; left = left }) → Ran
+          go (Err y) e h = let z : ◌≡◌ {A = ℕ} 0 1 = cc in absurd (omega arith)
+          go (Ok q) e h =
+              let u : ◌≡◌ {A = TolerantRun} (record { tally = record { omitted = q.left_out; cells = length (list_of q.records) }; left = record { 0 = length q.rest } }) (record { tally = t; left = left }) = cc in
               record {
                 taken = q;
                 accepts = e;
-                omitted = ap (λ (x : Tally). x.omitted) a;
-                cells = ap (λ (x : Tally). x.cells) a;
-                rest = ap (λ (x : OctetCount). x.0) b;
+                omitted = ap (λ (x : TolerantRun). x.tally.omitted) u;
+                cells = ap (λ (x : TolerantRun). x.tally.cells) u;
+                rest = ap (λ (x : TolerantRun). x.left.0) u;
                 count = run-counted L 0 (anc_count s) (region L s) q e;
               }
 
@@ -92,17 +90,17 @@ module _ (L : Layout) (s : List ℕ) where
 
       -- the packet is accepted: what it says, as the code finds it
       pub accepted-run : left.0 ≡ 0
-          → tolerant_of (tolerate_content L s) ≡ read.Packet (record { head = head_at L s; records = anc_count s - t.omitted; cells = t.cells }) t.omitted
+          → tolerant_of (tolerate_content L s) ≡ Ok (record { summary = record { head = head_at L s; records = anc_count s - t.omitted; cells = t.cells }; omitted = t.omitted })
       unfolding tolerated packet_read
       accepted-run z =
           let r : Ran = run-found in
           let n : length r.taken.records ≡ anc_count s - t.omitted = omega (arith, r.omitted, r.count) in
-          let e : tolerate_content L s ≡ accepted (record { says = content (packet_read L r.taken.records s); left_out = r.taken.left_out }) =
+          let e : tolerate_content L s ≡ Ok (record { says = content (packet_read L r.taken.records s); left_out = r.taken.left_out }) =
           content-is ∙ rw (r.accepts, eq-eqb (length r.taken.rest) 0 (r.rest ∙ z)) in
-          ap tolerant_of e ∙ λ i. read.Packet (record { head = head_at L s; records = n i; cells = r.cells i }) (r.omitted i)
+          ap tolerant_of e ∙ λ i. Ok (record { summary = record { head = head_at L s; records = n i; cells = r.cells i }; omitted = r.omitted i })
 
     -- what a packet that is accepted holds
-    module _ (m : Summary) (o : ℕ) (h : tolerant_of (tolerate_content L s) ≡ read.Packet m o) where
+    module _ (m : Summary) (o : ℕ) (h : tolerant_of (tolerate_content L s) ≡ Ok (record { summary = m; omitted = o })) where
       pub record Outlined : Type 0 where
         pub accepts : IsAccepted run
         pub size : length (taken_cells run) ≡ m.cells
@@ -112,15 +110,16 @@ module _ (L : Layout) (s : List ℕ) where
       unfolding tolerated packet_read
       outlined = go (tolerate_content L s) refl h
         where
-          go : (v : Result Tolerated) → tolerate_content L s ≡ v → tolerant_of v ≡ read.Packet m o → Outlined
-          go (refused y) e h = let z : ◌≡◌ {A = ℕ} 0 1 = cc in absurd (omega arith)
-          go (accepted t) e h =
+          go : (v : Result Tolerated) → tolerate_content L s ≡ v → tolerant_of v ≡ Ok (record { summary = m; omitted = o }) → Outlined
+          go (Err y) e h = let z : ◌≡◌ {A = ℕ} 0 1 = cc in absurd (omega arith)
+          go (Ok t) e h =
               let a = then-accepts run (tolerated L s) t (sym content-is ∙ e) in
               let q = a.0 in
               let b = judge-accepts 0 ((eqb (length q.rest) 0, 13) ∷ []) _ t a.2 in
               let same = accepted-inj b.1 in
               let cells : taken_cells run ≡ list_of t.says.records = ap taken_cells a.1 ∙ ap (λ (x : Tolerated). list_of x.says.records) same in
-              let k : summary_of t.says ≡ m = cc in
+              let u : ◌≡◌ {A = TolerantRead} (record { summary = summary_of t.says; omitted = t.left_out }) (record { summary = m; omitted = o }) = cc in
+              let k : summary_of t.says ≡ m = ap (λ (x : TolerantRead). x.summary) u in
               record {
                 accepts = subst IsAccepted (sym a.1) tt;
                 size = ap length cells ∙ ap (λ (x : Summary). x.cells) k;

@@ -15,17 +15,17 @@ pub mod through;
 use outlined::read_outlined;
 use packet::TolerantRead;
 use rtp_strict_reader::check::check;
-use rtp_strict_reader::packet::Checked;
 use through::read_refused;
 use wire_spec::layout::Layout;
+use wire_spec::refusal::Refusal;
 
 // Reads a packet of the layout: the records that come through into the first cells, what stands beside them, and how many were left out.
-pub fn read(layout: Layout, octets: &[u8], cells: &mut [u16]) -> TolerantRead
+pub fn read(layout: Layout, octets: &[u8], cells: &mut [u16]) -> Result<TolerantRead, Refusal>
     ensures value { result ≡ tolerant_returns layout octets.now cells.old }
     ensures cells_after { cells.new ≡ tolerant_leaves layout octets.now cells.old }
 {
     match check(layout, octets) {
-        Checked::Packet(outline) => read_outlined(layout, octets, outline, cells),
-        Checked::Refused(refusal) => read_refused(layout, octets, refusal, cells),
+        Ok(outline) => read_outlined(layout, octets, outline, cells),
+        Err(refusal) => read_refused(layout, octets, refusal, cells),
     }
 }

@@ -6,10 +6,10 @@ ghost use Rattle.rtp_reader.specs.Entry.{tolerant_leaves, tolerant_returns};
 
 use crate::packet::TolerantRead;
 use rtp_strict_reader::check::{read_records, summary_at};
-use rtp_strict_reader::packet::{Checked, Outline};
+use rtp_strict_reader::packet::Outline;
 use wire_spec::layout::Layout;
 use wire_spec::limit::READ_INDEX;
-use wire_spec::refusal::Refusal;
+use wire_spec::refusal::{Refusal, refuse};
 
 // The records of a packet that `rtp_strict_reader::check` accepted into the first cells, 14 before.
 pub fn read_outlined(
@@ -17,20 +17,17 @@ pub fn read_outlined(
     octets: &[u8],
     outline: Outline,
     cells: &mut [u16],
-) -> TolerantRead
-    requires { checked_of layout octets.now (read_content layout octets.now) ≡ Checked.Packet outline }
+) -> Result<TolerantRead, Refusal>
+    requires { checked_of layout octets.now (read_content layout octets.now) ≡ Ok outline }
     ensures value { result ≡ tolerant_returns layout octets.now cells.old }
     ensures cells_after { cells.new ≡ tolerant_leaves layout octets.now cells.old }
 {
     if cells.len() < outline.cells {
-        return TolerantRead::Refused(Refusal {
-            number: Refusal::LIST_TOO_SHORT,
-            index: 0,
-        });
+        return refuse(Refusal::LIST_TOO_SHORT);
     }
     read_records(layout, octets, outline, READ_INDEX, cells);
-    TolerantRead::Packet {
+    Ok(TolerantRead {
         summary: summary_at(layout, octets, outline),
         omitted: 0,
-    }
+    })
 }

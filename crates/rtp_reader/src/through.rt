@@ -7,15 +7,15 @@ ghost use Rattle.rtp_reader.specs.Answers.{Staged, region_of, tolerant_of};
 ghost use Rattle.rtp_reader.specs.Entry.{tolerant_leaves, tolerant_returns};
 
 use crate::packet::TolerantRead;
-use anc_tolerant_reader::check::{TolerantRun, check_run};
+use anc_tolerant_reader::check::check_run;
 use anc_tolerant_reader::read::read_run;
 use rtp_strict_reader::check::head_at;
-use rtp_strict_reader::packet::{Checked, Summary};
+use rtp_strict_reader::packet::Summary;
 use rtp_strict_reader::stages::header_size;
 use wire_offsets::payload_header_size;
 use wire_spec::count::OctetCount;
 use wire_spec::layout::{ANC_COUNT_AT, LENGTH_AT, Layout};
-use wire_spec::refusal::Refusal;
+use wire_spec::refusal::{Refusal, refuse};
 use wire_words::octet::pair_at;
 
 // Where a packet's ANC data packets stand, from one octet to another, how many they are, and the octets of the header before them.
@@ -44,7 +44,7 @@ fn region_of(layout: Layout, octets: &[u8]) -> Region
 }
 
 // The ANC data packets, and 13.
-fn check_tolerant(layout: Layout, octets: &[u8]) -> TolerantRead
+fn check_tolerant(layout: Layout, octets: &[u8]) -> Result<TolerantRead, Refusal>
     requires { Staged layout octets.now }
     ensures { result ≡ tolerant_of (tolerate_content layout octets.now) }
 {
@@ -52,16 +52,11 @@ fn check_tolerant(layout: Layout, octets: &[u8]) -> TolerantRead
     let at = region.at;
     let end = region.end;
     let count = region.count;
-    let run = check_run(layout, &octets[at..end], count as usize);
-    let TolerantRun::Accepted { tally, left } = run else {
-        return TolerantRead::Refused(run.refusal());
-    };
-    if left.0 != 0 {
-        return TolerantRead::Refused(Refusal {
-            number: Refusal::OCTETS_LEFT,
-            index: 0,
-        });
+    let run = check_run(layout, &octets[at..end], count as usize)?;
+    if run.left.0 != 0 {
+        return refuse(Refusal::OCTETS_LEFT);
     }
+    let tally = run.tally;
     let omitted = tally.omitted as u8;
     let head = head_at(layout, octets, region.header);
     let summary = Summary {
@@ -69,30 +64,24 @@ fn check_tolerant(layout: Layout, octets: &[u8]) -> TolerantRead
         records: count - omitted,
         cells: tally.cells,
     };
-    TolerantRead::Packet { summary, omitted }
+    Ok(TolerantRead { summary, omitted })
 }
 
 // The records that come through into the first cells, 14 before.
-fn read_through(layout: Layout, octets: &[u8], cells: &mut [u16]) -> TolerantRead
+fn read_through(layout: Layout, octets: &[u8], cells: &mut [u16]) -> Result<TolerantRead, Refusal>
     requires { Staged layout octets.now }
     ensures value { result ≡ tolerant_returns layout octets.now cells.old }
     ensures cells_after { cells.new ≡ tolerant_leaves layout octets.now cells.old }
 {
-    let checked = check_tolerant(layout, octets);
-    let TolerantRead::Packet { summary, omitted } = checked else {
-        return TolerantRead::Refused(checked.refusal());
-    };
-    if cells.len() < summary.cells {
-        return TolerantRead::Refused(Refusal {
-            number: Refusal::LIST_TOO_SHORT,
-            index: 0,
-        });
+    let read = check_tolerant(layout, octets)?;
+    if cells.len() < read.summary.cells {
+        return refuse(Refusal::LIST_TOO_SHORT);
     }
     let region = region_of(layout, octets);
     let at = region.at;
     let end = region.end;
     read_run(layout, &octets[at..end], region.count as usize, cells);
-    TolerantRead::Packet { summary, omitted }
+    Ok(read)
 }
 
 // A packet that `rtp_strict_reader::check` refused: only by 11 is the answer another in the tolerant way.
@@ -101,13 +90,13 @@ pub fn read_refused(
     octets: &[u8],
     refusal: Refusal,
     cells: &mut [u16],
-) -> TolerantRead
-    requires { checked_of layout octets.now (read_content layout octets.now) ≡ Checked.Refused refusal }
+) -> Result<TolerantRead, Refusal>
+    requires { checked_of layout octets.now (read_content layout octets.now) ≡ Err refusal }
     ensures value { result ≡ tolerant_returns layout octets.now cells.old }
     ensures cells_after { cells.new ≡ tolerant_leaves layout octets.now cells.old }
 {
     if refusal.number != Refusal::CHECKSUM_WRONG {
-        return TolerantRead::Refused(refusal);
+        return Err(refusal);
     }
     read_through(layout, octets, cells)
 }

@@ -11,16 +11,15 @@ use lib.Dec.{eqb, leb}
 use lib.ListN.{length}
 use Rattle.wire_spec.specs.Bits.{bit, Below, overwrite}
 use Rattle.wire_spec.specs.Layout.{Layout}
-use Rattle.wire_spec.specs.Result.{Result, refused, accepted, judge, ◌then◌}
+use Rattle.wire_spec.specs.Result.{Result, Err, Ok, ◌then◌}
 use Rattle.wire_spec.specs.Cells.{list_of}
 use Rattle.wire_spec.specs.Packet.{Packet, WellFormedPacket, Content, content, read_content, read_into}
 use Rattle.wire_spec.proofs.BitLaws.{flag}
-use Rattle.wire_spec.proofs.ResultLaws.{accepted-inj, judge-accepts, judge-passes, then-accepts}
+use Rattle.wire_spec.proofs.ResultLaws.{accepted-inj, judge-accepts, then-accepts}
 use Rattle.wire_spec.proofs.Demand2.{acceptance}
 use Rattle.rtp_strict_reader.specs.Answers.{summary_of, read_of, cells_after}
 use Rattle.rtp_strict_reader.specs.Entry.{read_returns, read_leaves, Says, Holds}
 use Rattle.rtp_strict_reader.specs.declared.packet.Summary.{Summary}
-use Rattle.rtp_strict_reader.specs.declared.packet.Read.TheVariants as read
 
 -- a flag that went to a number is that flag again
 pub bit-again : (b : Bool) → eqb (bit b) 1 ≡ b
@@ -31,27 +30,27 @@ module _ (L : Layout) where
   -- a packet that was returned was read: what it says, and that its records fit
   pub record Taken (s lent : List ℕ) (m : Summary) : Type 0 where
     pub says : Content
-    pub into : read_into L s (length lent) ≡ accepted says
-    pub reads : read_content L s ≡ accepted says
+    pub into : read_into L s (length lent) ≡ Ok says
+    pub reads : read_content L s ≡ Ok says
     pub summary : summary_of says ≡ m
     pub fits : length (list_of says.records) ≤ length lent
 
-  pub taken : (s lent : List ℕ) (m : Summary) → read_returns L s lent ≡ read.Packet m → Taken s lent m
+  pub taken : (s lent : List ℕ) (m : Summary) → read_returns L s lent ≡ Ok m → Taken s lent m
   unfolding read_into
   taken s lent m e = go (read_into L s (length lent)) refl e
     where
-      go : (r : Result Content) → read_into L s (length lent) ≡ r → read_of r ≡ read.Packet m → Taken s lent m
-      go (refused x) q e = let z : ◌≡◌ {A = ℕ} 0 1 = cc in absurd (omega arith)
-      go (accepted k) q e =
+      go : (r : Result Content) → read_into L s (length lent) ≡ r → read_of r ≡ Ok m → Taken s lent m
+      go (Err x) q e = let z : ◌≡◌ {A = ℕ} 0 1 = cc in absurd (omega arith)
+      go (Ok k) q e =
           let a = then-accepts (read_content L s) _ k q in
-          let j = judge-accepts 0 ((leb (length (list_of a.0.records)) (length lent), 14) ∷ []) (accepted a.0) k a.2 in
+          let j = judge-accepts 0 ((leb (length (list_of a.0.records)) (length lent), 14) ∷ []) (Ok a.0) k a.2 in
           let same : a.0 ≡ k = accepted-inj j.1 in
           let fits : length (list_of a.0.records) ≤ length lent = leb-true _ _ j.0.0 in
-          record { says = k; into = q; reads = a.1 ∙ ap accepted same; summary = (cc); fits = rw same at fits }
+          record { says = k; into = q; reads = a.1 ∙ ap Ok same; summary = (cc); fits = rw same at fits }
 
   -- a content whose records fit is read into the list
-  pub into-list : (s lent : List ℕ) (k : Content) → read_content L s ≡ accepted k → length (list_of k.records) ≤ length lent
-      → read_into L s (length lent) ≡ accepted k
+  pub into-list : (s lent : List ℕ) (k : Content) → read_content L s ≡ Ok k → length (list_of k.records) ≤ length lent
+      → read_into L s (length lent) ≡ Ok k
   unfolding read_into
   into-list s lent k e l = rw (e, le-leb (length (list_of k.records)) (length lent) l)
 
@@ -59,14 +58,14 @@ module _ (L : Layout) where
   marked k h = omega (arith, h.fit)
 
   -- M is one bit
-  pub read-marked : (s : List ℕ) → Below 256 s → (k : Content) → read_content L s ≡ accepted k → k.marker < 2
+  pub read-marked : (s : List ℕ) → Below 256 s → (k : Content) → read_content L s ≡ Ok k → k.marker < 2
   read-marked s below k e =
       let a = (acceptance L s below k).0 e in
       subst (λ (y : Content). y.marker < 2) a.3 (marked a.0 a.1)
 
   module _ (s : List ℕ) (below : Below 256 s) (lent : List ℕ) (m : Summary) where
     -- "A packet is accepted exactly when the rules .. hold, and the records are the ones they define."
-    pub read-iff : (read_returns L s lent ≡ read.Packet m) ↔ ((k : Packet) × Holds L s lent k m)
+    pub read-iff : (read_returns L s lent ≡ Ok m) ↔ ((k : Packet) × Holds L s lent k m)
     read-iff = (
       λ e.
           let t = taken s lent m e in
@@ -107,7 +106,7 @@ module _ (L : Layout) where
             records = sym v.records i;
             cells = sym v.cells i;
           } in
-          ap read_of e ∙ ap read.Packet same,
+          ap read_of e ∙ ap Ok same,
     )
 
     -- ".. and the records are the ones they define": what the lent list then holds

@@ -1,15 +1,15 @@
 -- What the entry point `read_strict` returns and leaves, and what that says of a packet (demand 2: "the records are the ones they define").
+use Rattle.wire_spec.specs.Result.{Result}
 use Rattle.std.specs.Prelude.{◌≡◌, List, ℕ, ◌+◌, ◌*◌, ◌≤◌, length}
 use Rattle.wire_spec.specs.Bits.{bit}
 use Rattle.wire_spec.specs.Layout.{Layout}
 use Rattle.wire_spec.specs.Cells.{list_of}
 use Rattle.wire_spec.specs.Packet.{Packet, WellFormedPacket, packet_octets, read_into}
 use Rattle.rtp_strict_reader.specs.declared.packet.Summary.{Summary}
-use Rattle.rtp_strict_reader.specs.declared.packet.Read.{Read}
 use Rattle.rtp_strict_reader.specs.Answers.{read_of, cells_after}
 
 -- what `read_strict` returns for these octets, in the layout that it is told, and this lent list
-abbrev pub read_returns : Layout → (octets cells : List ℕ) → Read
+abbrev pub read_returns : Layout → (octets cells : List ℕ) → Result Summary
 read_returns L s cells = read_of (read_into L s (length cells))
 
 -- what the lent list then holds

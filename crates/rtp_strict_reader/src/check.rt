@@ -2,19 +2,18 @@
 ghost use Rattle.std.specs.Prelude.{◌≡◌, ◌+◌, ◌≤◌, length};
 ghost use Rattle.wire_spec.specs.Layout.{payload_header_size};
 ghost use Rattle.wire_spec.specs.Packet.{header_least, header_size, read_content};
-ghost use Rattle.wire_spec.specs.Result.{accepted};
+ghost use Rattle.wire_spec.specs.Result.{Ok};
 ghost use Rattle.rtp_strict_reader.specs.Answers.{cells_after_in, checked_of, front_checked, head_at, read_of};
 
-use crate::packet::{Checked, Head, Outline, Read, Summary};
+use crate::packet::{Head, Outline, Summary};
 use crate::stages::{check_header, check_padding, check_payload, f_at};
-use anc_reader::check::{Run, check_run};
+use anc_reader::check::check_run;
 use anc_reader::read::read_run;
 use wire_offsets::payload_header_size;
-use wire_offsets::stage::Stage;
 use wire_spec::count::OctetCount;
 use wire_spec::layout::{ANC_COUNT_AT, Layout};
 use wire_spec::number::{PacketNumber, Timestamp};
-use wire_spec::refusal::Refusal;
+use wire_spec::refusal::{Refusal, refuse};
 use wire_words::octet::{pair_at, quad_at, wide};
 
 // The six values of a packet whose payload header stands at `header`.
@@ -37,58 +36,44 @@ pub fn head_at(layout: Layout, octets: &[u8], header: OctetCount) -> Head
 }
 
 // The ANC data packets, and 13, of a packet that passed 1 to 8.
-fn check_packets(layout: Layout, octets: &[u8], header: OctetCount, size: OctetCount) -> Checked
-    requires { front_checked layout octets.now ≡ accepted (header.0, size.0) }
+fn check_packets(
+    layout: Layout,
+    octets: &[u8],
+    header: OctetCount,
+    size: OctetCount,
+) -> Result<Outline, Refusal>
+    requires { front_checked layout octets.now ≡ Ok (header.0, size.0) }
     ensures { result ≡ checked_of layout octets.now (read_content layout octets.now) }
 {
     let from = header.0;
     let at = from + payload_header_size(layout);
     let end = at + size.0;
     let count = octets[from + ANC_COUNT_AT];
-    let run = check_run(layout, &octets[at..end], count as usize);
-    let Run::Accepted {
-        octets: used,
-        cells,
-    } = run
-    else {
-        return Checked::Refused(run.refusal());
-    };
-    if used.0 < size.0 {
-        return Checked::Refused(Refusal {
-            number: Refusal::OCTETS_LEFT,
-            index: 0,
-        });
+    let run = check_run(layout, &octets[at..end], count as usize)?;
+    if run.octets.0 < size.0 {
+        return refuse(Refusal::OCTETS_LEFT);
     }
-    Checked::Packet(Outline {
+    Ok(Outline {
         header,
         length: size,
         records: count as usize,
-        cells,
+        cells: run.cells,
     })
 }
 
 // Everything but 14.
-pub fn check(layout: Layout, octets: &[u8]) -> Checked
+pub fn check(layout: Layout, octets: &[u8]) -> Result<Outline, Refusal>
     ensures { result ≡ checked_of layout octets.now (read_content layout octets.now) }
 {
-    let stage = check_header(octets);
-    let Stage::Passed(header) = stage else {
-        return Checked::Refused(stage.refusal());
-    };
-    let stage = check_padding(layout, octets, header);
-    let Stage::Passed(payload) = stage else {
-        return Checked::Refused(stage.refusal());
-    };
-    let stage = check_payload(layout, octets, header, payload);
-    let Stage::Passed(length) = stage else {
-        return Checked::Refused(stage.refusal());
-    };
+    let header = check_header(octets)?;
+    let payload = check_padding(layout, octets, header)?;
+    let length = check_payload(layout, octets, header, payload)?;
     check_packets(layout, octets, header, length)
 }
 
-// Writes the cells of a packet that `check` accepted to the first cells; `index` is that of the packet within its field.
+// Writes the cells of a packet that `check` Ok to the first cells; `index` is that of the packet within its field.
 pub fn read_records(layout: Layout, octets: &[u8], outline: Outline, index: u16, cells: &mut [u16])
-    requires octets_value { checked_of layout octets.now (read_content layout octets.now) ≡ Checked.Packet outline }
+    requires octets_value { checked_of layout octets.now (read_content layout octets.now) ≡ Ok outline }
     requires cells_in_bounds { outline.cells ≤ length cells.old }
     ensures { cells.new ≡ cells_after_in index (read_content layout octets.now) cells.old }
 {
@@ -101,8 +86,8 @@ pub fn read_records(layout: Layout, octets: &[u8], outline: Outline, index: u16,
 
 // What a packet says that `check` accepted, with its counts. The six values are read where they stand.
 pub fn summary_at(layout: Layout, octets: &[u8], outline: Outline) -> Summary
-    requires { checked_of layout octets.now (read_content layout octets.now) ≡ Checked.Packet outline }
-    ensures { read_of (read_content layout octets.now) ≡ Read.Packet result }
+    requires { checked_of layout octets.now (read_content layout octets.now) ≡ Ok outline }
+    ensures { read_of (read_content layout octets.now) ≡ Ok result }
 {
     Summary {
         head: head_at(layout, octets, outline.header),

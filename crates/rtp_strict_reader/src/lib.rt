@@ -11,26 +11,20 @@ pub mod packet;
 pub mod stages;
 
 use check::{check, read_records, summary_at};
-use packet::{Checked, Read};
+use packet::Summary;
 use wire_spec::layout::Layout;
 use wire_spec::limit::READ_INDEX;
-use wire_spec::refusal::Refusal;
+use wire_spec::refusal::{Refusal, refuse};
 
 // Reads a packet of the layout in the strict way: its records into the first cells, and what stands beside them.
-pub fn read_strict(layout: Layout, octets: &[u8], cells: &mut [u16]) -> Read
+pub fn read_strict(layout: Layout, octets: &[u8], cells: &mut [u16]) -> Result<Summary, Refusal>
     ensures value { result ≡ read_returns layout octets.now cells.old }
     ensures cells_after { cells.new ≡ read_leaves layout octets.now cells.old }
 {
-    let checked = check(layout, octets);
-    let Checked::Packet(outline) = checked else {
-        return Read::Refused(checked.refusal());
-    };
+    let outline = check(layout, octets)?;
     if cells.len() < outline.cells {
-        return Read::Refused(Refusal {
-            number: Refusal::LIST_TOO_SHORT,
-            index: 0,
-        });
+        return refuse(Refusal::LIST_TOO_SHORT);
     }
     read_records(layout, octets, outline, READ_INDEX, cells);
-    Read::Packet(summary_at(layout, octets, outline))
+    Ok(summary_at(layout, octets, outline))
 }

@@ -1,10 +1,7 @@
 // What the reader returns and the writer takes (01, "Records in a lent list").
-ghost use Rattle.std.specs.Prelude.{◌≡◌};
-ghost use Rattle.rtp_strict_reader.specs.Answers.{checked_refusal};
 
 use wire_spec::count::OctetCount;
 use wire_spec::number::{PacketNumber, Timestamp};
-use wire_spec::refusal::Refusal;
 
 // The six values that stand beside a packet's records.
 #[derive(Clone, Copy)]
@@ -25,12 +22,6 @@ pub struct Summary {
     pub cells: usize,
 }
 
-#[derive(Clone, Copy)]
-pub enum Read {
-    Packet(Summary),
-    Refused(Refusal),
-}
-
 // A packet that was checked: the octets before its payload header, those of its ANC data packets, and how many records and cells these are.
 #[derive(Clone, Copy)]
 pub struct Outline {
@@ -38,25 +29,4 @@ pub struct Outline {
     pub length: OctetCount,
     pub records: usize,
     pub cells: usize,
-}
-
-#[derive(Clone, Copy)]
-pub enum Checked {
-    Packet(Outline),
-    Refused(Refusal),
-}
-
-impl Checked {
-    // The refusal of a packet.
-    pub fn refusal(self) -> Refusal
-        ensures { result ≡ checked_refusal self }
-    {
-        match self {
-            Checked::Refused(refusal) => refusal,
-            Checked::Packet(_) => Refusal {
-                number: 0,
-                index: 0,
-            },
-        }
-    }
 }

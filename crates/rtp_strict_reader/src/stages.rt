@@ -2,16 +2,15 @@
 ghost use Rattle.std.specs.Prelude.{◌≡◌, ◌+◌, ◌≤◌, length};
 ghost use Rattle.wire_spec.specs.Layout.{payload_header_size};
 ghost use Rattle.wire_spec.specs.Packet.{f_field, header_checks, header_least, header_size, length_field, padding_checks, padding_count, padding_flag, payload_checks, payload_size};
-ghost use Rattle.wire_spec.specs.Result.{accepted, judge};
+ghost use Rattle.wire_spec.specs.Result.{Ok, judge};
 ghost use Rattle.wire_offsets.specs.Stage.{stage_of};
 ghost use Rattle.rtp_strict_reader.specs.Answers.{SizeFound};
 
 use wire_offsets::payload_header_size;
-use wire_offsets::stage::Stage;
 use wire_spec::count::OctetCount;
 use wire_spec::layout::{ANC_COUNT_AT, F_AT, LENGTH_AT, Layout, RTP_HEADER_SIZE, RTP_WORD};
 use wire_spec::limit::MAX_PACKET;
-use wire_spec::refusal::Refusal;
+use wire_spec::refusal::{Refusal, refuse};
 use wire_words::octet::{pair_at, wide};
 
 // The octets of the RTP header with its sources and extension; more than there are where it is cut.
@@ -32,23 +31,23 @@ pub fn header_size(octets: &[u8]) -> OctetCount
 }
 
 // 1, 2, 3, 2: the header's octets.
-pub(crate) fn check_header(octets: &[u8]) -> Stage
-    ensures { result ≡ stage_of (judge 0 (header_checks octets.now) (accepted (header_size octets.now))) }
+pub(crate) fn check_header(octets: &[u8]) -> Result<OctetCount, Refusal>
+    ensures { result ≡ stage_of (judge 0 (header_checks octets.now) (Ok (header_size octets.now))) }
 {
     if octets.len() > MAX_PACKET {
-        return Stage::refuse(Refusal::TOO_LONG);
+        return refuse(Refusal::TOO_LONG);
     }
     if octets.len() < RTP_HEADER_SIZE {
-        return Stage::refuse(Refusal::HEADER_CUT);
+        return refuse(Refusal::HEADER_CUT);
     }
     if wide(octets[0]) / 64 != 2 {
-        return Stage::refuse(Refusal::VERSION_NOT_2);
+        return refuse(Refusal::VERSION_NOT_2);
     }
     let size = header_size(octets);
     if octets.len() < size.0 {
-        return Stage::refuse(Refusal::HEADER_CUT);
+        return refuse(Refusal::HEADER_CUT);
     }
-    Stage::Passed(size)
+    Ok(size)
 }
 
 // P.
@@ -69,22 +68,26 @@ fn padding_count(octets: &[u8]) -> OctetCount
 }
 
 // 4, 5: the payload's octets.
-pub(crate) fn check_padding(layout: Layout, octets: &[u8], header: OctetCount) -> Stage
+pub(crate) fn check_padding(
+    layout: Layout,
+    octets: &[u8],
+    header: OctetCount,
+) -> Result<OctetCount, Refusal>
     requires { (header.0 ≡ header_size octets.now) × (header.0 ≤ length octets.now) × (header_least ≤ length octets.now) }
-    ensures { result ≡ stage_of (judge 0 (padding_checks layout octets.now) (accepted (payload_size octets.now))) }
+    ensures { result ≡ stage_of (judge 0 (padding_checks layout octets.now) (Ok (payload_size octets.now))) }
 {
     let padding = padding_count(octets);
     let after = octets.len() - header.0;
     if padding.0 < padding_flag(octets) {
-        return Stage::refuse(Refusal::PADDING_WRONG);
+        return refuse(Refusal::PADDING_WRONG);
     }
     if after < padding.0 {
-        return Stage::refuse(Refusal::PADDING_WRONG);
+        return refuse(Refusal::PADDING_WRONG);
     }
     if after - padding.0 < payload_header_size(layout) {
-        return Stage::refuse(Refusal::PAYLOAD_CUT);
+        return refuse(Refusal::PAYLOAD_CUT);
     }
-    Stage::Passed(OctetCount(after - padding.0))
+    Ok(OctetCount(after - padding.0))
 }
 
 // F of the payload header at the octet `at`; 0 in the drafts' layout, which has none.
@@ -104,10 +107,10 @@ pub(crate) fn check_payload(
     octets: &[u8],
     header: OctetCount,
     payload: OctetCount,
-) -> Stage
+) -> Result<OctetCount, Refusal>
     requires header_value { (header.0 ≡ header_size octets.now) × (payload.0 ≡ payload_size octets.now) }
     requires layout_bound { (payload_header_size layout ≤ payload.0) × (header.0 + payload.0 ≤ length octets.now) }
-    ensures { result ≡ stage_of (judge 0 (payload_checks layout octets.now) (accepted (length_field octets.now))) }
+    ensures { result ≡ stage_of (judge 0 (payload_checks layout octets.now) (Ok (length_field octets.now))) }
 {
     let at = header.0;
     let length = OctetCount(pair_at(octets, at + LENGTH_AT));
@@ -115,13 +118,13 @@ pub(crate) fn check_payload(
     let length_right = length.0 == payload.0 - payload_header_size(layout);
     let counted = (octets[at + ANC_COUNT_AT] != 0) | (length.0 == 0);
     if !f_valid {
-        return Stage::refuse(Refusal::F_INVALID);
+        return refuse(Refusal::F_INVALID);
     }
     if !length_right {
-        return Stage::refuse(Refusal::LENGTH_WRONG);
+        return refuse(Refusal::LENGTH_WRONG);
     }
     if !counted {
-        return Stage::refuse(Refusal::LENGTH_WITHOUT_PACKETS);
+        return refuse(Refusal::LENGTH_WITHOUT_PACKETS);
     }
-    Stage::Passed(length)
+    Ok(length)
 }

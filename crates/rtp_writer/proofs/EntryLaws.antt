@@ -12,23 +12,21 @@ use lib.Dec.{leb}
 use lib.ListN.{length, take, drop}
 use lib.Seq.{take_at}
 use Rattle.wire_spec.specs.declared.count.OctetCount.{OctetCount}
-use Rattle.wire_spec.specs.declared.written.Written.TheVariants as written
 use Rattle.wire_spec.specs.Bits.{Below, overwrite}
 use Rattle.wire_spec.specs.Layout.{Layout, rfc8331, draft2015}
-use Rattle.wire_spec.specs.Result.{Result, refused, accepted, ◌then◌}
+use Rattle.wire_spec.specs.Result.{Result, Err, Ok, ◌then◌}
 use Rattle.wire_spec.specs.Anc.{Record}
 use Rattle.wire_spec.specs.Cells.{list_of, Lists}
-use Rattle.wire_spec.specs.Packet.{max_packet, padding_flag, has_extension, source_count, Content, BareOctets, read_content}
+use Rattle.wire_spec.specs.Packet.{padding_flag, has_extension, source_count, Content, BareOctets, read_content}
 use Rattle.wire_spec.specs.Writing.{max_cells, content_octets, HeadFits, with_records, head_ok, head_checks, layout_ok, limit_checks, packet_records, write_content}
 use Rattle.wire_spec.specs.Written.{octets_after, written_of}
 use Rattle.wire_spec.proofs.BitLaws.{flag}
 use Rattle.wire_spec.proofs.CellLaws.{list-iff, lists-own, lists_length}
-use Rattle.wire_spec.proofs.LayoutLaws.{places, layout-iff}
+use Rattle.wire_spec.proofs.LayoutLaws.{layout-iff}
 use Rattle.wire_spec.proofs.WritingLaws.{all_pass}
 use Rattle.wire_spec.proofs.Demand2 as demand2
 use Rattle.rtp_strict_reader.specs.declared.packet.Head.{Head}
 use Rattle.rtp_strict_reader.specs.declared.packet.Summary.{Summary}
-use Rattle.rtp_strict_reader.specs.declared.packet.Read.TheVariants as read
 use Rattle.rtp_strict_reader.specs.Answers.{head_of, summary_of, read_of, cells_after}
 use Rattle.rtp_strict_reader.specs.Entry.{read_returns, read_leaves}
 use Rattle.rtp_strict_reader.proofs.EntryLaws.{bit-again, into-list, Taken, taken, read-marked}
@@ -73,23 +71,23 @@ module _ (L : Layout) where
   -- a packet that was written: its octets
   record Wrote (h : Head) (cells out : List ℕ) (n : OctetCount) : Type 0 where
     octets : List ℕ
-    writes : write_content L (content_of h) cells (length out) ≡ accepted octets
+    writes : write_content L (content_of h) cells (length out) ≡ Ok octets
     first : take n.0 (write_leaves L h cells out) ≡ octets
     size : length octets ≡ n.0
 
-  wrote : (h : Head) (cells out : List ℕ) (n : OctetCount) → write_returns L h cells out ≡ written.Octets n → Wrote h cells out n
+  wrote : (h : Head) (cells out : List ℕ) (n : OctetCount) → write_returns L h cells out ≡ Ok n → Wrote h cells out n
   wrote h cells out n e = go (write_content L (content_of h) cells (length out)) refl e
     where
-      go : (r : Result (List ℕ)) → write_content L (content_of h) cells (length out) ≡ r → written_of r ≡ written.Octets n → Wrote h cells out n
-      go (refused x) q e = let z : ◌≡◌ {A = ℕ} 0 1 = cc in absurd (omega arith)
-      go (accepted o) q e =
+      go : (r : Result (List ℕ)) → write_content L (content_of h) cells (length out) ≡ r → written_of r ≡ Ok n → Wrote h cells out n
+      go (Err x) q e = let z : ◌≡◌ {A = ℕ} 0 1 = cc in absurd (omega arith)
+      go (Ok o) q e =
           let u : record { 0 = length o } ≡ n = cc in
           let s : length o ≡ n.0 = ap (λ (y : OctetCount). y.0) u in
           let f : take n.0 (write_leaves L h cells out) ≡ o =
           ap₂ (λ (x : ℕ) r. take x (octets_after r out)) (sym s) q ∙ over_first o out in
           record { octets = o; writes = q; first = f; size = s }
 
-  module _ (h : Head) (typed : OfTypes h) (cells out : List ℕ) (n : OctetCount) (e : write_returns L h cells out ≡ written.Octets n) where
+  module _ (h : Head) (typed : OfTypes h) (cells out : List ℕ) (n : OctetCount) (e : write_returns L h cells out ≡ Ok n) where
     fits-types : HeadFits (content_of h)
     fits-types = record { marker = bit-lt h.marker; number = typed.number; timestamp = typed.timestamp; source = typed.source }
 
@@ -98,7 +96,7 @@ module _ (L : Layout) where
     -- records.
     pub written_read : (lent : List ℕ) → length cells ≤ length lent
         → (rs : List Record) × Lists rs cells
-        × (read_returns L (take n.0 (write_leaves L h cells out)) lent ≡ read.Packet (record { head = h; records = length rs; cells = length cells }))
+        × (read_returns L (take n.0 (write_leaves L h cells out)) lent ≡ Ok (record { head = h; records = length rs; cells = length cells }))
         × (read_leaves L (take n.0 (write_leaves L h cells out)) lent ≡ overwrite (list_of rs) lent)
     written_read lent l =
         let w = wrote h cells out n e in
@@ -106,28 +104,28 @@ module _ (L : Layout) where
         let rs = d.0 in
         let same : length cells ≡ length (list_of rs) = lists_length rs cells d.1 in
         let q = with_records (content_of h) rs in
-        let reads : read_content L (take n.0 (write_leaves L h cells out)) ≡ accepted q = ap (read_content L) w.first ∙ d.5 in
+        let reads : read_content L (take n.0 (write_leaves L h cells out)) ≡ Ok q = ap (read_content L) w.first ∙ d.5 in
         let into = into-list L (take n.0 (write_leaves L h cells out)) lent q reads (omega (arith, same, l)) in
         let says : summary_of q ≡ record { head = h; records = length rs; cells = length cells } =
         λ i. record { head = taken-then-read h rs i; records = length rs; cells = sym same i } in
-        (rs, d.1, ap read_of into ∙ ap read.Packet says, ap (λ r. cells_after r lent) into)
+        (rs, d.1, ap read_of into ∙ ap Ok says, ap (λ r. cells_after r lent) into)
 
   -- 01, "An empty list gives a 20-octet packet.", and in the drafts' layout, where F is 0, one of 17 octets (`empty-sizes`)
   pub empty-list : (h : Head) (out : List ℕ) → head_ok h.payload_type h.f ≡ true → layout_ok L h.f [] ≡ true → front_size L ≤ length out
-      → write_returns L h [] out ≡ written.Octets (record { 0 = front_size L })
+      → write_returns L h [] out ≡ Ok (record { 0 = front_size L })
   unfolding write_content
   empty-list h out ok held l =
       let k = with_records (content_of h) [] in
       let size : length (content_octets L k) ≡ front_size L = length_whole L h [] ∙ add-zero (front_size L) in
       let room : leb (length (content_octets L k)) (length out) ≡ true = ap (λ (x : ℕ). leb x (length out)) size ∙ le-leb (front_size L) (length out) l in
-      let records : packet_records L (content_of h) [] (length out) ≡ accepted [] =
+      let records : packet_records L (content_of h) [] (length out) ≡ Ok [] =
       all_pass (head_checks (content_of h)) (λ rs. limit_checks L (with_records (content_of h) rs) 0 (length out)) [] (ok, tt) [] ((list-iff [] []).1 (tt, lists-own []))
       (refl, (held, (room, tt))) in
-      ap (λ r. written_of (r then λ rs. accepted (content_octets L (with_records (content_of h) rs)))) records
-      ∙ ap (λ (x : ℕ). written.Octets (record { 0 = x })) size
+      ap (λ r. written_of (r then λ rs. Ok (content_octets L (with_records (content_of h) rs)))) records
+      ∙ ap (λ (x : ℕ). Ok (record { 0 = x })) size
 
   -- a packet that `read_strict` returned, and the cells that it left
-  module _ (s : List ℕ) (below : Below 256 s) (lent : List ℕ) (m : Summary) (e : read_returns L s lent ≡ read.Packet m) where
+  module _ (s : List ℕ) (below : Below 256 s) (lent : List ℕ) (m : Summary) (e : read_returns L s lent ≡ Ok m) where
     abbrev pub cells_read : List ℕ
     cells_read = take m.cells (read_leaves L s lent)
 
@@ -152,12 +150,12 @@ module _ (L : Layout) where
 
     -- "Rewriting an accepted packet whose list fits the writer gives the same octets exactly when it had no padding, extension or
     -- contributing sources, and zero reserved bits.": what `read_strict` returned and left, given to `write`.
-    pub rewritten-iff : (out : List ℕ) (n : OctetCount) → write_returns L m.head cells_read out ≡ written.Octets n
+    pub rewritten-iff : (out : List ℕ) (n : OctetCount) → write_returns L m.head cells_read out ≡ Ok n
         → (take n.0 (write_leaves L m.head cells_read out) ≡ s) ↔ BareOctets L s
     unfolding write_content
     rewritten-iff out n w =
         let q = wrote m.head cells_read out n w in
-        let written : write_content L k (list_of k.records) (length out) ≡ accepted q.octets = sym (given (length out)) ∙ q.writes in
+        let written : write_content L k (list_of k.records) (length out) ≡ Ok q.octets = sym (given (length out)) ∙ q.writes in
         let formed = demand2.rewritten-formed L s below k t.reads in
         let records = ((layout-iff L k.f k.records).1 (formed.records, omega (arith, formed.fit))).0 in
         let same : content_octets L k ≡ q.octets = demand2.written-octets L k k.records (length out) q.octets records written in
@@ -166,7 +164,7 @@ module _ (L : Layout) where
 
     -- the list fits the writer where it is within 21's limit of cells, and the octets where as many are lent as were read
     pub rewrites : m.cells ≤ max_cells → (out : List ℕ) → length s ≤ length out
-        → (n : OctetCount) × (write_returns L m.head cells_read out ≡ written.Octets n) × (n.0 ≤ length s)
+        → (n : OctetCount) × (write_returns L m.head cells_read out ≡ Ok n) × (n.0 ≤ length s)
     rewrites l out room =
         let c : length (list_of k.records) ≡ m.cells = ap (λ (y : Summary). y.cells) t.summary in
         let shorter = demand2.rewritten-shorter L s below k t.reads in
@@ -178,8 +176,8 @@ pub empty-sizes : (front_size rfc8331 ≡ 20) × (front_size draft2015 ≡ 17)
 empty-sizes = (refl, refl)
 
 -- "Demand 2 holds for each by itself, without reserved bits in the old one": `rewritten-iff` in the drafts' layout
-pub rewritten-draft-iff : (s : List ℕ) (below : Below 256 s) (lent : List ℕ) (m : Summary) (e : read_returns draft2015 s lent ≡ read.Packet m)
-    → (out : List ℕ) (n : OctetCount) → write_returns draft2015 m.head (cells_read draft2015 s below lent m e) out ≡ written.Octets n
+pub rewritten-draft-iff : (s : List ℕ) (below : Below 256 s) (lent : List ℕ) (m : Summary) (e : read_returns draft2015 s lent ≡ Ok m)
+    → (out : List ℕ) (n : OctetCount) → write_returns draft2015 m.head (cells_read draft2015 s below lent m e) out ≡ Ok n
     → (take n.0 (write_leaves draft2015 m.head (cells_read draft2015 s below lent m e) out) ≡ s)
     ↔ ((padding_flag s ≡ 0) × (has_extension s ≡ 0) × (source_count s ≡ 0))
 rewritten-draft-iff s below lent m e out n w =

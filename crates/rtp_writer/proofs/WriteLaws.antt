@@ -12,7 +12,7 @@ use Rattle.wire_spec.specs.declared.refusal.Refusal.{Refusal}
 use Rattle.wire_spec.specs.declared.count.OctetCount.{OctetCount}
 use Rattle.wire_spec.specs.Bits.{pack, overwrite, splice}
 use Rattle.wire_spec.specs.Layout.{Layout}
-use Rattle.wire_spec.specs.Result.{Result, refused, accepted, refuse, Checks, ◌then◌, IsAccepted}
+use Rattle.wire_spec.specs.Result.{Result, Err, Ok, refuse, Checks, ◌then◌, IsAccepted}
 use Rattle.wire_spec.specs.Anc.{Record, run_octets, run_size}
 use Rattle.wire_spec.specs.Cells.{read_list}
 use Rattle.wire_spec.specs.Packet.{max_packet, packet_octets}
@@ -26,10 +26,8 @@ use Rattle.wire_spec.proofs.Demand2.{fits-packet}
 use Rattle.wire_spec.proofs.WritingLaws.{head-fails, list-fails, limit-fails, all_pass, passes}
 use Rattle.wire_spec.specs.Written.{octets_after, written_of}
 use Rattle.anc_writer.specs.Answers.{listed_of, list_records, list_octets}
-use Rattle.anc_writer.specs.declared.check.Listed.TheVariants as listed
 use Rattle.anc_writer.proofs.ListedLaws.{Taken, taken, listed-refused}
 use Rattle.rtp_strict_reader.specs.declared.packet.Head.{Head}
-use Rattle.wire_spec.specs.declared.written.Written.TheVariants as written
 use Rattle.rtp_writer.specs.Answers.{content_of}
 use Rattle.rtp_writer.specs.Front.{front_size, front_fields}
 use Rattle.rtp_writer.proofs.FrontLaws.{front_length, headers-are}
@@ -69,10 +67,10 @@ module _ (L : Layout) where
     refused-head e = head-fails (head_checks (content_of h)) limits cells 0 tt e
 
     module _ (ok : head_ok h.payload_type h.f ≡ true) where
-      pub refused-list : (x : Refusal) → listed_of L (read_list cells) ≡ listed.Refused x → measured ≡ refused x
+      pub refused-list : (x : Refusal) → listed_of L (read_list cells) ≡ Err x → measured ≡ Err x
       refused-list x e = list-fails (head_checks (content_of h)) limits cells (ok, tt) x (listed-refused L (read_list cells) x e)
 
-      module _ (n : ℕ) (o : OctetCount) (e : listed_of L (read_list cells) ≡ listed.Records n o) where
+      module _ (n : ℕ) (o : OctetCount) (e : listed_of L (read_list cells) ≡ Ok (record { count = n; octets = o })) where
         abbrev list : Taken L (read_list cells) n o
         list = taken L (read_list cells) n o e
 
@@ -95,22 +93,22 @@ module _ (L : Layout) where
               subst (λ (cs : Checks). Passed (take k cs) → (get_or cs k (true, 0)).0 ≡ false → measured ≡ refuse (get_or cs k (true, 0)).1 0) (tests-are ∙ sym same)
               (limit-fails (head_checks (content_of h)) limits cells (ok, tt) list.rs list.reads k)
 
-          pub all_fit : Passed ts → listed_of L measured ≡ listed.Records n o
+          pub all_fit : Passed ts → listed_of L measured ≡ Ok (record { count = n; octets = o })
           all_fit p =
               ap (listed_of L) (all_pass (head_checks (content_of h)) limits cells (ok, tt) list.rs list.reads (subst Passed (same ∙ sym tests-are) p))
-              ∙ λ i. listed.Records (list.count i) (record { 0 = list.size i })
+              ∙ λ i. Ok (record { count = list.count i; octets = record { 0 = list.size i } })
 
     -- a packet that was measured and refused
-    pub refused-write : (x : Refusal) → listed_of L measured ≡ listed.Refused x → write_content L (content_of h) cells room ≡ refused x
+    pub refused-write : (x : Refusal) → listed_of L measured ≡ Err x → write_content L (content_of h) cells room ≡ Err x
     unfolding write_content
     refused-write x e = rw (listed-refused L measured x e)
 
     -- a packet that was measured and fits
-    module _ (n : ℕ) (l : OctetCount) (e : listed_of L measured ≡ listed.Records n l) where
+    module _ (n : ℕ) (l : OctetCount) (e : listed_of L measured ≡ Ok (record { count = n; octets = l })) where
       pub record Fitting : Type 0 where
         pub rs : List Record
-        pub reads : read_list cells ≡ accepted rs
-        pub writes : write_content L (content_of h) cells room ≡ accepted (whole h rs)
+        pub reads : read_list cells ≡ Ok rs
+        pub writes : write_content L (content_of h) cells room ≡ Ok (whole h rs)
         pub count : length rs ≡ n
         pub size : run_size L rs ≡ l.0
         pub type : h.payload_type ≤ max_type
@@ -135,7 +133,7 @@ module _ (L : Layout) where
           record {
             rs = rs;
             reads = p.reads;
-            writes = ap (λ r. r then λ rs. accepted (whole h rs)) t.reads;
+            writes = ap (λ r. r then λ rs. Ok (whole h rs)) t.reads;
             count = t.count;
             size = t.size;
             type = leb-true h.payload_type max_type a.0;
@@ -163,8 +161,8 @@ module _ (L : Layout) where
             ∙ ap (λ (x : List ℕ). overwrite x out) (sym w)
             ∙ ap (λ r. octets_after r out) (sym t.writes)
 
-        pub written-length : written.Octets (record { 0 = at + l.0 }) ≡ written_of (write_content L (content_of h) cells room)
+        pub written-length : Ok (record { 0 = at + l.0 }) ≡ written_of (write_content L (content_of h) cells room)
         written-length =
             let t : Fitting = fitting in
             let e : at + l.0 ≡ length (whole h t.rs) = (λ i. here i + sym t.size i) ∙ sym (length_whole h t.rs) in
-            ap (λ (x : ℕ). written.Octets (record { 0 = x })) e ∙ ap written_of (sym t.writes)
+            ap (λ (x : ℕ). Ok (record { 0 = x })) e ∙ ap written_of (sym t.writes)

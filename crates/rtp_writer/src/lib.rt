@@ -7,25 +7,26 @@ ghost use Rattle.rtp_writer.specs.Entry.{write_leaves, write_returns};
 
 pub mod writing;
 
-use anc_writer::check::Listed;
 use anc_writer::write::write_run;
 use rtp_strict_reader::packet::Head;
 use wire_spec::count::OctetCount;
 use wire_spec::layout::Layout;
-use wire_spec::written::Written;
+use wire_spec::refusal::Refusal;
 use writing::{front_size, measure, write_front};
 
 // Writes a packet of the layout with the records of the cells into the first octets of `out`.
-pub fn write(layout: Layout, head: Head, cells: &[u16], out: &mut [u8]) -> Written
+pub fn write(
+    layout: Layout,
+    head: Head,
+    cells: &[u16],
+    out: &mut [u8],
+) -> Result<OctetCount, Refusal>
     ensures value { result ≡ write_returns layout head cells.now out.old }
     ensures out_after { out.new ≡ write_leaves layout head cells.now out.old }
 {
-    let listed = measure(layout, head, cells, out.len());
-    let Listed::Records { count, octets } = listed else {
-        return Written::Refused(listed.refusal());
-    };
+    let listed = measure(layout, head, cells, out.len())?;
     let front = front_size(layout);
-    write_front(layout, head, count as u8, octets, out);
+    write_front(layout, head, listed.count as u8, listed.octets, out);
     write_run(layout, cells, &mut out[front..]);
-    Written::Octets(OctetCount(front + octets.0))
+    Ok(OctetCount(front + listed.octets.0))
 }

@@ -9,13 +9,13 @@ ghost use Rattle.anc_writer.specs.Answers.{list_records, listed_of};
 ghost use Rattle.rtp_writer.specs.Answers.{content_of};
 ghost use Rattle.rtp_writer.specs.Front.{f_fields, front_fields, front_size};
 
-use anc_writer::check::{Listed, Measured, check_list, fits_behind, measure_list, no_stream};
+use anc_writer::check::{Listed, check_list, fits_behind, measure_list, no_stream};
 use rtp_strict_reader::packet::Head;
 use wire_offsets::payload_header_size;
 use wire_spec::count::OctetCount;
 use wire_spec::layout::{DRAFT_FRONT_SIZE, F_AT, Layout, RTP_HEADER_SIZE};
 use wire_spec::limit::{MAX_CELLS, MAX_RECORDS, MAX_TYPE};
-use wire_spec::refusal::Refusal;
+use wire_spec::refusal::{Refusal, refuse};
 use wire_words::octet::{copy, flag};
 
 // 24.
@@ -51,30 +51,34 @@ fn layout_ok(layout: Layout, f: u8, cells: &[u16]) -> bool
 }
 
 // 24, 20, 16, 21, 25, 23: the records, and the octets of their ANC data packets.
-pub(crate) fn measure(layout: Layout, head: Head, cells: &[u16], room: usize) -> Listed
+pub(crate) fn measure(
+    layout: Layout,
+    head: Head,
+    cells: &[u16],
+    room: usize,
+) -> Result<Listed, Refusal>
     ensures { result ≡ listed_of layout (packet_records layout (content_of head) cells.now room) }
 {
     if !head_ok(head) {
-        return Listed::refuse(Refusal::HEAD_INVALID);
+        return refuse(Refusal::HEAD_INVALID);
     }
-    let measured = measure_list(layout, cells);
-    let Measured::Records { count, octets } = measured else {
+    let Some(listed) = measure_list(layout, cells) else {
         return check_list(layout, cells);
     };
     let front = front_size(layout);
-    let within = within_limits(count, cells.len());
+    let within = within_limits(listed.count, cells.len());
     let held = layout_ok(layout, head.f, cells);
-    let enough = fits_behind(front, octets, room);
+    let enough = fits_behind(front, listed.octets, room);
     if !within {
-        return Listed::refuse(Refusal::OVER_LIMIT);
+        return refuse(Refusal::OVER_LIMIT);
     }
     if !held {
-        return Listed::refuse(Refusal::NOT_IN_LAYOUT);
+        return refuse(Refusal::NOT_IN_LAYOUT);
     }
     if !enough {
-        return Listed::refuse(Refusal::ROOM_TOO_SMALL);
+        return refuse(Refusal::ROOM_TOO_SMALL);
     }
-    Listed::Records { count, octets }
+    Ok(listed)
 }
 
 // The RTP header, and the payload header up to ANC_Count, with which the drafts' ends.

@@ -1,21 +1,21 @@
 // Packets of a line checked, without writing anything.
 ghost use Rattle.std.specs.Prelude.{◌≡◌, ◌+◌, ◌≤◌, length, take};
 ghost use Rattle.wire_spec.specs.Anc.{are_header_words};
-ghost use Rattle.wire_spec.specs.Words.{HeaderTable, is_header_word};
 ghost use Rattle.sdi_spec.specs.declared.position.Position.{Position};
 ghost use Rattle.sdi_spec.specs.Passes.{found_of, verdict_of};
 ghost use Rattle.sdi_spec.specs.Line.{position_ok};
 ghost use Rattle.sdi_spec.specs.Packets.{has_flag, line_count, packets_in, sum_ok};
 
 use anc_record::check::words_clear;
-use sdi_spec::answer::{Found, Verdict};
+use sdi_spec::answer::Found;
 use sdi_spec::position::Position;
 use wire_row_writer::sum::sum_cells;
 use wire_spec::layout::{
     FLAG_NUMBERS, HEADER_NUMBERS, LINE_NUMBERS, OFFSET_NUMBERS, STREAM_NUMBERS,
 };
-use wire_spec::refusal::Refusal;
+use wire_spec::refusal::{Refusal, refuse_at};
 use wire_words::checksum::checksum_word;
+use wire_words::table::{HeaderWords, header_words};
 
 // Words of the flag, those that a packet has behind it beside its user data words, and both.
 pub const FLAG_WORDS: usize = 3;
@@ -35,36 +35,25 @@ pub fn position_fits(position: Position) -> bool
 }
 
 // A whole flag stands at the front.
+#[tactic(auto, unfolding(sdi_spec::specs::Packets::has_flag))]
 pub fn has_flag(words: &[u16]) -> bool
     ensures { result ≡ has_flag words.now }
 {
-    if words.len() < FLAG_WORDS {
-        return false;
-    }
-    (words[0] == 0x000) & ((words[1] == 0x3FF) & (words[2] == 0x3FF))
-}
-
-// The table's word for the number that the word carries is the word.
-fn is_header_word(w: u16, table: &[u16; 256]) -> bool
-    requires { HeaderTable table.now }
-    ensures { result ≡ is_header_word w }
-{
-    let x = (w % HEADER_NUMBERS) as usize;
-    w == table[x]
+    matches!(words, [0x000, 0x3FF, 0x3FF, ..])
 }
 
 // DID, SDID and Data_Count.
-fn header_words_ok(words: &[u16], table: &[u16; 256]) -> bool
-    requires { HeaderTable table.now × (3 ≤ length words.now) }
+fn header_words_ok(words: &[u16], table: &HeaderWords) -> bool
+    requires { 3 ≤ length words.now }
     ensures { result ≡ are_header_words (take 3 words.now) }
 {
-    if !is_header_word(words[0], table) {
+    if !table.has(words[0]) {
         return false;
     }
-    if !is_header_word(words[1], table) {
+    if !table.has(words[1]) {
         return false;
     }
-    is_header_word(words[2], table)
+    table.has(words[2])
 }
 
 // Data_Count's number.
@@ -84,58 +73,45 @@ fn checksum_ok(words: &[u16], n: usize) -> bool
     words[end] == checksum_word(sum)
 }
 
-fn refuse(number: u8, index: usize) -> Verdict
-    ensures { result ≡ Verdict.Refused (record { number = number; index = index }) }
-{
-    Verdict::Refused(Refusal { number, index })
-}
-
 // The packet whose words behind the flag stand at the front, the line's packet `index`.
-fn check_packet(words: &[u16], index: usize, table: &[u16; 256]) -> Verdict
-    requires { HeaderTable table.now }
+fn check_packet(words: &[u16], index: usize, table: &HeaderWords) -> Result<usize, Refusal>
     ensures { result ≡ verdict_of index words.now }
 {
     if words.len() < FIXED_WORDS {
-        return refuse(Refusal::ANC_CUT, index);
+        return refuse_at(Refusal::ANC_CUT, index);
     }
     if !header_words_ok(words, table) {
-        return refuse(Refusal::HEADER_WORD_MALFORMED, index);
+        return refuse_at(Refusal::HEADER_WORD_MALFORMED, index);
     }
     let n = data_count(words);
     if words.len() < FIXED_WORDS + n {
-        return refuse(Refusal::ANC_CUT, index);
+        return refuse_at(Refusal::ANC_CUT, index);
     }
     let end = 3 + n;
     if !words_clear(&words[3..end]) {
-        return refuse(Refusal::PROTECTED_WORD, index);
+        return refuse_at(Refusal::PROTECTED_WORD, index);
     }
     if !checksum_ok(words, n) {
-        return refuse(Refusal::CHECKSUM_WRONG, index);
+        return refuse_at(Refusal::CHECKSUM_WRONG, index);
     }
-    Verdict::Accepted(n)
+    Ok(n)
 }
 
 // The packets at the front, as long as a flag follows directly; the position has no part in it.
-pub fn check_packets(words: &[u16]) -> Found
+pub fn check_packets(words: &[u16]) -> Result<Found, Refusal>
     ensures { (P : Position) → result ≡ found_of (packets_in P words.now) }
 {
-    let table = wire_words::table::header_words();
+    let table = header_words();
     let mut rest = words;
     let mut count: usize = 0;
     let mut used: usize = 0;
+    // Kept as a while: how many words a turn takes is read from them.
     while has_flag(rest) {
-        let verdict = check_packet(&rest[FLAG_WORDS..], count, &table);
-        match verdict {
-            Verdict::Refused(refusal) => {
-                return Found::Refused(refusal);
-            }
-            Verdict::Accepted(n) => {
-                let step = PACKET_WORDS + n;
-                rest = &rest[step..];
-                used += step;
-            }
-        }
+        let n = check_packet(&rest[FLAG_WORDS..], count, &table)?;
+        let step = PACKET_WORDS + n;
+        rest = &rest[step..];
+        used += step;
         count += 1;
     }
-    Found::Packets { count, words: used }
+    Ok(Found { count, words: used })
 }

@@ -29,18 +29,6 @@ fn put_head(words: &[u16], position: Position, cells: &mut [u16])
     cells[Header::INDEX_CELL] = READ_INDEX;
 }
 
-// Copies all of `from` to the front of `to`.
-pub(crate) fn copy(from: &[u16], to: &mut [u16])
-    requires { length from.now ≤ length to.old }
-    ensures { to.new ≡ overwrite from.now to.old }
-{
-    let mut k: usize = 0;
-    while k < from.len() {
-        to[k] = from[k];
-        k += 1;
-    }
-}
-
 // Writes the record of the packet whose words behind the flag stand at the front; its Data_Count.
 fn read_packet(words: &[u16], position: Position, cells: &mut [u16]) -> usize
     requires { (4 + line_count words.now ≤ length words.now) × (head_cells + line_count words.now ≤ length cells.old) }
@@ -48,9 +36,8 @@ fn read_packet(words: &[u16], position: Position, cells: &mut [u16]) -> usize
     ensures cells_after { cells.new ≡ overwrite (cells_of (line_record position words.now)) cells.old }
 {
     let n = data_count(words);
-    let end = 3 + n;
     put_head(words, position, cells);
-    copy(&words[3..end], &mut cells[Header::CELLS..]);
+    cells[Header::CELLS..Header::CELLS + n].copy_from_slice(&words[3..3 + n]);
     n
 }
 
@@ -61,6 +48,7 @@ pub fn read_packets(words: &[u16], position: Position, cells: &mut [u16])
 {
     let mut rest = words;
     let mut to: usize = 0;
+    // Kept as a while: how many words a turn takes is read from them.
     while has_flag(rest) {
         let n = read_packet(&rest[FLAG_WORDS..], position, &mut cells[to..]);
         let step = PACKET_WORDS + n;

@@ -5,27 +5,27 @@ ghost use Rattle.wire_spec.specs.Bits.{overwrite, splice};
 ghost use Rattle.wire_spec.specs.Cells.{cell_count, cell_record, head_cells, read_list};
 ghost use Rattle.wire_spec.specs.Layout.{rfc8331};
 ghost use Rattle.wire_spec.specs.Result.{IsAccepted};
-ghost use Rattle.wire_spec.specs.Words.{HeaderTable, header_numbers};
+ghost use Rattle.wire_spec.specs.Words.{header_numbers};
 ghost use Rattle.sdi_spec.specs.Passes.{front_of, list_stretch, summed_at};
 ghost use Rattle.sdi_spec.specs.Packets.{packet_words};
 
-use crate::reading::copy;
 use anc_record::header::Header;
 use sdi_check::check::PACKET_WORDS;
 use wire_row_writer::sum::sum_cells;
 use wire_words::checksum::checksum_word;
+use wire_words::table::{HeaderWords, header_words};
 
 // Writes the flag, DID, SDID and Data_Count.
-fn put_front(did: usize, sdid: usize, n: usize, words: &mut [u16], table: &[u16; 256])
-    requires { HeaderTable table.now × (did < header_numbers) × (sdid < header_numbers) × (n < header_numbers) × (6 ≤ length words.old) }
+fn put_front(did: u8, sdid: u8, n: u8, words: &mut [u16], table: &HeaderWords)
+    requires { 6 ≤ length words.old }
     ensures { words.new ≡ overwrite (front_of did sdid n) words.old }
 {
     words[0] = 0x000;
     words[1] = 0x3FF;
     words[2] = 0x3FF;
-    words[3] = table[did];
-    words[4] = table[sdid];
-    words[5] = table[n];
+    words[3] = table.of(did);
+    words[4] = table.of(sdid);
+    words[5] = table.of(n);
 }
 
 // Writes the checksum of the packet with `n` user data words, all before it being there.
@@ -39,16 +39,15 @@ fn put_checksum(n: usize, words: &mut [u16])
 }
 
 // Writes the packet of the record at the front of the cells to the first words; its Data_Count.
-fn write_packet(cells: &[u16], words: &mut [u16], table: &[u16; 256]) -> usize
-    requires header_table { HeaderTable table.now × WellFormed rfc8331 (cell_record cells.now) }
+fn write_packet(cells: &[u16], words: &mut [u16], table: &HeaderWords) -> usize
+    requires well_formed { WellFormed rfc8331 (cell_record cells.now) }
     requires cells_in_bounds { (head_cells + cell_count cells.now ≤ length cells.now) × (7 + cell_count cells.now ≤ length words.old) }
     ensures value { result ≡ cell_count cells.now }
     ensures words_after { words.new ≡ overwrite (packet_words (cell_record cells.now)) words.old }
 {
     let n = cells[Header::COUNT_CELL] as usize;
-    let end = Header::CELLS + n;
-    put_front(cells[5] as usize, cells[6] as usize, n, words, table);
-    copy(&cells[Header::CELLS..end], &mut words[6..]);
+    put_front(cells[5] as u8, cells[6] as u8, n as u8, words, table);
+    words[6..6 + n].copy_from_slice(&cells[Header::CELLS..Header::CELLS + n]);
     put_checksum(n, words);
     n
 }
@@ -58,9 +57,10 @@ pub fn write_packets(cells: &[u16], words: &mut [u16])
     requires { IsAccepted (read_list cells.now) × (length (list_stretch (read_list cells.now)) ≤ length words.old) }
     ensures { words.new ≡ overwrite (list_stretch (read_list cells.now)) words.old }
 {
-    let table = wire_words::table::header_words();
+    let table = header_words();
     let mut rest = cells;
     let mut to: usize = 0;
+    // Kept as a while: how many cells a turn takes is read from them.
     while rest.len() > 0 {
         let n = write_packet(rest, &mut words[to..], &table);
         let step = Header::CELLS + n;

@@ -16,13 +16,11 @@ use Rattle.wire_spec.specs.Layout.{rfc8331}
 use Rattle.wire_spec.specs.Anc.{Record, WellFormed, are_header_words, checksum}
 use Rattle.wire_spec.specs.Cells.{head_cells, cell_count, cell_record, cells_of}
 use Rattle.wire_spec.specs.declared.refusal.Refusal.{Refusal}
-use Rattle.wire_spec.specs.Result.{Result, refused, accepted, Checks, judge}
-use Rattle.wire_spec.proofs.ResultLaws.{Passed}
-use Rattle.wire_spec.proofs.ListLaws.{drop-run, splice-append, part-written}
+use Rattle.wire_spec.specs.Result.{Result, Err, Ok, Checks, judge}
+use Rattle.wire_spec.proofs.ListLaws.{drop-run, splice-append}
 use Rattle.sdi_spec.specs.declared.position.Position.{Position}
 use Rattle.sdi_spec.specs.Packets.{packet_words, line_count, user_words, line_record, sum_ok}
-use Rattle.sdi_spec.specs.Passes.{head_of, front_of, summed_at, verdict_from}
-use Rattle.sdi_spec.specs.declared.answer.Verdict.TheVariants as verdict
+use Rattle.sdi_spec.specs.Passes.{head_of, front_of, summed_at}
 
 -- what a branch on a test says of what the test computes
 pub passed : (t r : Bool) → r ≡ t → not r ≡ false → t ≡ true
@@ -49,12 +47,13 @@ sum-test t n s w e hs hw =
     ap (eqb (get_or t (3 + n) 0)) (hw ∙ summed-word s (sum_low (take (3 + n - 0) (drop 0 t))) hs ∙ ap (λ (m : ℕ). checksum_word (sum_low (take m t))) k)
     ∙ ap (λ (m : ℕ). eqb (get_or t (3 + m) 0) (checksum_word (sum_low (take (3 + m) t)))) e
 
--- the front of a list overwritten, and then a part behind that
-pub two-parts : (old head part x y : List ℕ) (k : ℕ) → length x ≡ k → head ≡ overwrite x old → part ≡ overwrite y (take (length head - k) (drop k head))
-    → take k head ++ (part ++ drop (length head - k) (drop k head)) ≡ overwrite (x ++ y) old
-two-parts old head part x y k l h e =
-    let m : k ≡ 0 + length x = omega arith in
-    part-written k head y part e ∙ ap₂ (λ (a : List ℕ) (j : ℕ). splice a j y) h m ∙ splice-append old 0 x y (omega arith)
+-- the front of a list overwritten, and then the elements behind that
+pub two-parts : (old head x y : List ℕ) (k n : ℕ) → length x ≡ k → length y ≡ n → head ≡ overwrite x old
+    → take k head ++ (y ++ drop n (drop k head)) ≡ overwrite (x ++ y) old
+two-parts old head x y k n l m h =
+    let e : k ≡ 0 + length x = omega arith in
+    (λ i. take k head ++ (y ++ drop (sym m i) (drop k head)))
+    ∙ ap₂ (λ (a : List ℕ) (j : ℕ). splice a j y) h e ∙ splice-append old 0 x y (omega arith)
 
 -- as many words are read as Data_Count says
 pub length-user : (t : List ℕ) → 4 + line_count t ≤ length t → length (user_words t) ≡ line_count t
@@ -79,16 +78,11 @@ packet-written r old summed after hs ha =
     ∙ ap (λ (m : ℕ). splice (overwrite f old) m (checksum r ∷ [])) l
     ∙ splice-append old 0 f (checksum r ∷ []) (omega arith)
 
--- one packet's verdict: refused, so are the packets; accepted, its checks pass
-pub verdict-refused : {A : Type 0} (i n : ℕ) (ts : Checks) (x : Refusal) (r : Result A) → verdict_from (judge i ts (accepted n)) ≡ verdict.Refused x → judge i ts r ≡ refused x
+-- one packet's verdict: refused, so are the packets
+pub verdict-refused : {A : Type 0} (i n : ℕ) (ts : Checks) (x : Refusal) (r : Result A) → judge i ts (Ok n) ≡ Err x → judge i ts r ≡ Err x
 verdict-refused i n [] x r e = let z : ◌≡◌ {A = ℕ} 0 1 = cc in absurd (omega arith)
 verdict-refused i n ((true, m) ∷ ts) x r e = verdict-refused i n ts x r e
-verdict-refused i n ((false, m) ∷ ts) x r e = let q : record { number = m; index = i } ≡ x = cc in ap refused q
-
-pub verdict-accepted : (i n m : ℕ) (ts : Checks) → verdict_from (judge i ts (accepted n)) ≡ verdict.Accepted m → Passed ts × (m ≡ n)
-verdict-accepted i n m [] e = let q : n ≡ m = cc in (tt, sym q)
-verdict-accepted i n m ((true, k) ∷ ts) e = let p = verdict-accepted i n m ts e in ((refl, p.0), p.1)
-verdict-accepted i n m ((false, k) ∷ ts) e = let z : ◌≡◌ {A = ℕ} 0 1 = cc in absurd (omega arith)
+verdict-refused i n ((false, m) ∷ ts) x r e = let q : record { number = m; index = i } ≡ x = cc in ap Err q
 
 -- the numbers of a record's header words, as they stand in the cells
 pub record Named (l : List ℕ) : Type 0 where

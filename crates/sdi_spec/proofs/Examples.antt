@@ -5,7 +5,7 @@ use mathlib.Core.List.{List, [], ◌∷◌, ◌++◌}
 use Prim.Native.Nat.{ℕ, zero, suc}
 use lib.ListN.{take, set}
 use Rattle.wire_spec.specs.Words.{header_word, checksum_word}
-use Rattle.wire_spec.specs.Result.{accepted, refuse}
+use Rattle.wire_spec.specs.Result.{Ok, refuse}
 use Rattle.wire_spec.specs.Anc.{Record}
 use Rattle.wire_spec.specs.Cells.{cells_in, cells_of, list_of, max_index, cell_record, head_in_range, cell_checks, records_from, clear_from}
 use Rattle.wire_spec.proofs.Examples.{a, b}
@@ -36,12 +36,12 @@ abbrev filled : List ℕ
 filled = 1 ∷ 2 ∷ (a_words ++ (b_words ++ (3 ∷ 4 ∷ [])))
 
 -- A and B written from word 2 on: the words outside stay; an exact fit is one, whatever the index; no records are written anywhere, also at the end
-pub writes : (write_line line 2 (list_of (a ∷ b ∷ [])) ≡ accepted (a_words ++ b_words))
+pub writes : (write_line line 2 (list_of (a ∷ b ∷ [])) ≡ Ok (a_words ++ b_words))
     × (line_after (write_line line 2 (list_of (a ∷ b ∷ []))) line 2 ≡ filled)
-    × (write_line line 4 (list_of (a ∷ b ∷ [])) ≡ accepted (a_words ++ b_words))
-    × (write_line line 4 (cells_in 5 a ++ cells_in max_index b) ≡ accepted (a_words ++ b_words))
-    × (write_line line 20 [] ≡ accepted [])
-    × (write_line (2000 ∷ []) 0 [] ≡ accepted [])
+    × (write_line line 4 (list_of (a ∷ b ∷ [])) ≡ Ok (a_words ++ b_words))
+    × (write_line line 4 (cells_in 5 a ++ cells_in max_index b) ≡ Ok (a_words ++ b_words))
+    × (write_line line 20 [] ≡ Ok [])
+    × (write_line (2000 ∷ []) 0 [] ≡ Ok [])
 unfolding header_word checksum_word cell_record head_in_range cell_checks records_from clear_from line_checks write_line
 writes = (refl, refl, refl, refl, refl, refl)
 
@@ -67,14 +67,14 @@ here = record { c = 1; line = 0x7FF; offset = 0xFFF; s = 1; stream = 127 }
 
 -- read back: the data part at the caller's position; where there is no flag, nothing; a flag cut by the line's end is none, and neither
 -- are two words of one; reading does not go on over a gap
-pub reads : (read_line filled 2 here ≡ accepted (placed here a ∷ placed here b ∷ []))
-    × (read_line filled 9 here ≡ accepted (placed here b ∷ []))
-    × (read_line filled 3 here ≡ accepted [])
-    × (read_line filled 20 here ≡ accepted [])
-    × (read_line (a_words ++ (0x000 ∷ 0x3FF ∷ [])) 0 here ≡ accepted (placed here a ∷ []))
-    × (read_line (a_words ++ (0x000 ∷ 0x3FF ∷ 0x3FE ∷ 0x040 ∷ [])) 0 here ≡ accepted (placed here a ∷ []))
-    × (read_line (a_words ++ (0x040 ∷ b_words)) 0 here ≡ accepted (placed here a ∷ []))
-    × (read_line_into filled 2 here 20 ≡ accepted (placed here a ∷ placed here b ∷ []))
+pub reads : (read_line filled 2 here ≡ Ok (placed here a ∷ placed here b ∷ []))
+    × (read_line filled 9 here ≡ Ok (placed here b ∷ []))
+    × (read_line filled 3 here ≡ Ok [])
+    × (read_line filled 20 here ≡ Ok [])
+    × (read_line (a_words ++ (0x000 ∷ 0x3FF ∷ [])) 0 here ≡ Ok (placed here a ∷ []))
+    × (read_line (a_words ++ (0x000 ∷ 0x3FF ∷ 0x3FE ∷ 0x040 ∷ [])) 0 here ≡ Ok (placed here a ∷ []))
+    × (read_line (a_words ++ (0x040 ∷ b_words)) 0 here ≡ Ok (placed here a ∷ []))
+    × (read_line_into filled 2 here 20 ≡ Ok (placed here a ∷ placed here b ∷ []))
 unfolding header_word checksum_word has_flag line_record sum_ok packet_checks packets_from line_checks position_ok reading_checks read_line read_line_into
 reads = (refl, refl, refl, refl, refl, refl, refl, refl)
 
@@ -111,6 +111,6 @@ unfolding header_word checksum_word has_flag line_record sum_ok packet_checks pa
 packet-refusals = (refl, refl, refl, refl, refl, refl, refl, refl, refl, refl, refl)
 
 -- a line of 4,096 words is not too long
-pub longest : (read_line (blank 4096) 4096 here ≡ accepted []) × (write_line (blank 4096) 4096 [] ≡ accepted [])
+pub longest : (read_line (blank 4096) 4096 here ≡ Ok []) × (write_line (blank 4096) 4096 [] ≡ Ok [])
 unfolding has_flag packets_from line_checks position_ok reading_checks read_line records_from clear_from write_line
 longest = (refl, refl)

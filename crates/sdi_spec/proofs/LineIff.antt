@@ -14,7 +14,7 @@ use borrow.Author.Tests.{leb-true, le-leb, ltb-true, lt-ltb}
 use Rattle.wire_spec.specs.Bits.{Below, splice}
 use Rattle.wire_spec.specs.Words.{word_bits}
 use Rattle.wire_spec.specs.Layout.{rfc8331, s_bits, stream_bits}
-use Rattle.wire_spec.specs.Result.{accepted, judge, ◌then◌}
+use Rattle.wire_spec.specs.Result.{Ok, judge, ◌then◌}
 use Rattle.wire_spec.specs.Anc.{Each, Record, WellFormed}
 use Rattle.wire_spec.specs.Cells.{list_of, Lists, read_list}
 use Rattle.wire_spec.proofs.BitLaws.{below-append}
@@ -42,7 +42,7 @@ position-iff P = (
 
 -- A LINE is read exactly where the stretch of those records, well-formed and at the caller's position, stands at the start and no flag follows
 pub line-iff : (line : List ℕ) (start : ℕ) (P : Position) (rs : List Record)
-    → (read_line line start P ≡ accepted rs) ↔ (Readable line start P × Each (WellFormed rfc8331) rs × Each (At P) rs × Stands rs (drop start line))
+    → (read_line line start P ≡ Ok rs) ↔ (Readable line start P × Each (WellFormed rfc8331) rs × Each (At P) rs × Stands rs (drop start line))
 unfolding read_line line_checks reading_checks
 line-iff line start P rs =
     let s = drop start line in (
@@ -69,7 +69,7 @@ line-iff line start P rs =
     )
 
 -- A LIST is written exactly where it is the cells of well-formed records, whatever index each has that is taken (02, K13), and there is room before the end; then the stretch is theirs
-pub write-iff : (line : List ℕ) (start : ℕ) (cells o : List ℕ) → (write_line line start cells ≡ accepted o)
+pub write-iff : (line : List ℕ) (start : ℕ) (cells o : List ℕ) → (write_line line start cells ≡ Ok o)
     ↔ ((length line ≤ max_line) × (start + length o ≤ length line) × ((rs : List Record) × Each (WellFormed rfc8331) rs × Lists rs cells × (stretch rs ≡ o)))
 unfolding write_line line_checks
 write-iff line start cells o = (
@@ -77,7 +77,7 @@ write-iff line start cells o = (
       let a = judge-accepts 0 (line_checks line start) _ o e in
       let b = then-accepts (read_list cells) _ o a.1 in
       let rs = b.0 in
-      let c = judge-accepts 0 ((leb (start + length (stretch rs)) (length line), 72) ∷ []) (accepted (stretch rs)) o b.2 in
+      let c = judge-accepts 0 ((leb (start + length (stretch rs)) (length line), 72) ∷ []) (Ok (stretch rs)) o b.2 in
       let q = accepted-inj c.1 in
       let l = (list-iff cells rs).0 b.1 in
       (leb-true (length line) max_line search, rw (← q) (leb-true (start + length (stretch rs)) (length line) c.0.0), (rs, l.0, l.1, q)),
@@ -86,9 +86,9 @@ write-iff line start cells o = (
       let q = p.2.3 in
       let fits : start + length (stretch rs) ≤ length line = rw q p.1 in
       judge-passes 0 (line_checks line start) _ (le-leb _ _ p.0, (le-leb start (length line) (omega arith), tt))
-      ∙ ap (λ x. x then λ rs. judge 0 ((leb (start + length (stretch rs)) (length line), 72) ∷ []) (accepted (stretch rs))) ((list-iff cells rs).1 (p.2.1, p.2.2))
-      ∙ judge-passes 0 ((leb (start + length (stretch rs)) (length line), 72) ∷ []) (accepted (stretch rs)) (le-leb _ _ fits, tt)
-      ∙ ap accepted q,
+      ∙ ap (λ x. x then λ rs. judge 0 ((leb (start + length (stretch rs)) (length line), 72) ∷ []) (Ok (stretch rs))) ((list-iff cells rs).1 (p.2.1, p.2.2))
+      ∙ judge-passes 0 ((leb (start + length (stretch rs)) (length line), 72) ∷ []) (Ok (stretch rs)) (le-leb _ _ fits, tt)
+      ∙ ap Ok q,
 )
 
 -- the records' stretch does not depend on their position
@@ -141,7 +141,7 @@ outside-stays line start o h =
 
 -- WRITE THEN READ "gives the data part of the records, where no flag stands directly after the written stretch and no word outside it is over 1,023;
 -- C, place, S and StreamNum come from the caller"
-pub written_read : (line : List ℕ) (start : ℕ) (cells o : List ℕ) (P : Position) → write_line line start cells ≡ accepted o
+pub written_read : (line : List ℕ) (start : ℕ) (cells o : List ℕ) (P : Position) → write_line line start cells ≡ Ok o
     → (Flagged (drop (start + length o) line) → ⊥)
     → Below (2 ^ word_bits) (take start line) → Below (2 ^ word_bits) (drop (start + length o) line)
     → PositionFits P
@@ -161,7 +161,7 @@ written_read line start cells o P e ends before behind fits =
     subst (Below (2 ^ word_bits)) (sym s)
     (below-append (2 ^ word_bits) (take start line) _ before
     (below-append (2 ^ word_bits) o _ (subst (Below (2 ^ word_bits)) w.2.3 (stretch-below rs w.2.1)) behind)) in
-    let r : read_line after start P ≡ accepted (map (placed P) rs) =
+    let r : read_line after start P ≡ Ok (map (placed P) rs) =
     (line-iff after start P (map (placed P) rs)).1 (
       record { long = rw out.long w.0; inside = rw out.long (omega (arith, w.1)); position = fits; words = words },
       placed_ok.0,
@@ -173,14 +173,14 @@ written_read line start cells o P e ends before behind fits =
       written = (list-iff cells rs).1 (w.2.1, w.2.2);
       read = r;
       room = λ n h.
-          ap (λ x. x then λ rs. judge 0 ((leb (length (list_of rs)) n, 14) ∷ []) (accepted rs)) r
-          ∙ judge-passes 0 ((leb (length (list_of (map (placed P) rs))) n, 14) ∷ []) (accepted (map (placed P) rs))
+          ap (λ x. x then λ rs. judge 0 ((leb (length (list_of rs)) n, 14) ∷ []) (Ok rs)) r
+          ∙ judge-passes 0 ((leb (length (list_of (map (placed P) rs))) n, 14) ∷ []) (Ok (map (placed P) rs))
           (le-leb (length (list_of (map (placed P) rs))) n (omega (arith, cells-placed P rs, lists_length rs cells w.2.2)), tt);
     }
 
 -- READ THEN WRITE: the records that were read, written where they were read, give the line again
-pub read-written : (line : List ℕ) (start : ℕ) (P : Position) (rs : List Record) → read_line line start P ≡ accepted rs
-    → (write_line line start (list_of rs) ≡ accepted (stretch rs)) × (splice line start (stretch rs) ≡ line)
+pub read-written : (line : List ℕ) (start : ℕ) (P : Position) (rs : List Record) → read_line line start P ≡ Ok rs
+    → (write_line line start (list_of rs) ≡ Ok (stretch rs)) × (splice line start (stretch rs) ≡ line)
 read-written line start P rs e =
     let p = (line-iff line start P rs).0 e in
     let st = p.3 in

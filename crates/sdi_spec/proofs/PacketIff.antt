@@ -8,7 +8,7 @@ use Prim.Native.Nat.{ℕ, zero, suc, ◌+◌, ◌≤◌}
 use native.Mathlib.Omega.{arith}
 use lib.ListN.{length, drop, length-drop}
 use Rattle.wire_spec.specs.Layout.{rfc8331}
-use Rattle.wire_spec.specs.Result.{Result, accepted, judge, ◌then◌}
+use Rattle.wire_spec.specs.Result.{Result, Ok, judge, ◌then◌}
 use Rattle.wire_spec.specs.Anc.{Each, Record, WellFormed}
 use Rattle.wire_spec.proofs.ResultLaws.{Passed, accepted-inj, judge-accepts, judge-passes, then-accepts}
 use Rattle.sdi_spec.specs.declared.position.Position.{Position}
@@ -33,23 +33,23 @@ placed-read P t = refl
 
 -- where no flag stands, nothing is taken
 none-iff : (P : Position) (s : List ℕ) → (Flagged s → ⊥) → (rs : List Record)
-    → (◌≡◌ {A = Result (List Record)} (accepted []) (accepted rs)) ↔ (Each (WellFormed rfc8331) rs × Each (At P) rs × Stands rs s)
+    → (◌≡◌ {A = Result (List Record)} (Ok []) (Ok rs)) ↔ (Each (WellFormed rfc8331) rs × Each (At P) rs × Stands rs s)
 none-iff P s ends [] = (λ e. (tt, tt, record { rest = s; words = refl; ends = ends }), λ p. refl)
 none-iff P s ends (r ∷ rs) = (λ e. absurd (nil≢cons (accepted-inj e)), λ p. absurd (ends (front-flagged r rs s p.2)))
 
 -- PACKETS, with a bound that is large enough
 pub packets-iff : (bound : ℕ) (P : Position) → PositionFits P → (i : ℕ) (s : List ℕ) → length s ≤ bound → (rs : List Record)
-    → (packets_from bound P i s ≡ accepted rs) ↔ (Each (WellFormed rfc8331) rs × Each (At P) rs × Stands rs s)
+    → (packets_from bound P i s ≡ Ok rs) ↔ (Each (WellFormed rfc8331) rs × Each (At P) rs × Stands rs s)
 unfolding packets_from
 packets-iff zero P fits i s h rs = none-iff P s (λ f. absurd (omega (arith, ap length f.1))) rs
 packets-iff (suc bound) P fits i s h rs = go (has_flag s) refl (λ l qs. packets-iff bound P fits (i + 1) (behind s) l qs) rs
   where
     Ih : Type 0
     Ih = length (behind s) ≤ bound → (qs : List Record)
-        → (packets_from bound P (i + 1) (behind s) ≡ accepted qs) ↔ (Each (WellFormed rfc8331) qs × Each (At P) qs × Stands qs (behind s))
+        → (packets_from bound P (i + 1) (behind s) ≡ Ok qs) ↔ (Each (WellFormed rfc8331) qs × Each (At P) qs × Stands qs (behind s))
 
     go : (t : Bool) → has_flag s ≡ t → Ih → (rs : List Record)
-        → (cond t (judge i (packet_checks (drop 3 s)) (packets_from bound P (i + 1) (behind s) then λ rs. accepted (line_record P (drop 3 s) ∷ rs))) (accepted []) ≡ accepted rs)
+        → (cond t (judge i (packet_checks (drop 3 s)) (packets_from bound P (i + 1) (behind s) then λ rs. Ok (line_record P (drop 3 s) ∷ rs))) (Ok []) ≡ Ok rs)
         ↔ (Each (WellFormed rfc8331) rs × Each (At P) rs × Stands rs s)
     go false e ih rs = none-iff P s (not-flagged s e) rs
     go true e ih [] = (
@@ -69,7 +69,7 @@ packets-iff (suc bound) P fits i s h rs = go (has_flag s) refl (λ l qs. packets
               let b = then-accepts (packets_from bound P (i + 1) (behind s)) _ (r ∷ rs) j.1 in
               let c = cons-eq-cons.0 (accepted-inj b.2) in
               let k = packet-passed P fits t j.0 in
-              let more = ih.0 (b.1 ∙ ap accepted c.1) in
+              let more = ih.0 (b.1 ∙ ap Ok c.1) in
               let w : s ≡ packet_words r ++ behind s = f ∙ ap (λ (x : List ℕ). flag ++ x) k.1 ∙ ap (λ (x : Record). packet_words x ++ behind s) c.0 in (
                 (subst (WellFormed rfc8331) c.0 k.0, more.0),
                 (ap (placed P) (sym c.0) ∙ placed-read P t ∙ c.0, more.1),
@@ -87,6 +87,6 @@ packets-iff (suc bound) P fits i s h rs = go (has_flag s) refl (λ l qs. packets
               (packet-reads P r (stretch rs ++ d.rest) p.0.0) in
               let more = ih.1 (p.0.1, p.1.1, record { rest = d.rest; words = q.2; ends = d.ends }) in
               judge-passes i (packet_checks t) _ q.0
-              ∙ ap (λ x. x then λ ys. accepted (line_record P t ∷ ys)) more
-              ∙ ap (λ (x : Record). accepted (x ∷ rs)) (q.1 ∙ p.1.0),
+              ∙ ap (λ x. x then λ ys. Ok (line_record P t ∷ ys)) more
+              ∙ ap (λ (x : Record). Ok (x ∷ rs)) (q.1 ∙ p.1.0),
         )

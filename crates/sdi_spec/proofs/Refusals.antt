@@ -13,14 +13,12 @@ use borrow.Author.Tests.{leb-true, leb-false, le-leb, lt-leb, eqb-false, ne_eqb}
 use Rattle.wire_spec.specs.declared.refusal.Refusal.{Refusal}
 use Rattle.wire_spec.specs.Layout.{rfc8331}
 use Rattle.wire_spec.specs.Words.{word_bits, least_clear, most_clear, is_clear, all_clear, sum_low, checksum_word}
-use Rattle.wire_spec.specs.Result.{Result, refused, accepted, judge, ◌then◌}
+use Rattle.wire_spec.specs.Result.{Result, Err, Ok, judge, ◌then◌}
 use Rattle.wire_spec.specs.Anc.{Each, Record, WellFormed}
 use Rattle.wire_spec.specs.Cells.{list_of, all_below, read_list}
 use Rattle.wire_spec.proofs.CellLaws.{below-iff}
 use Rattle.wire_spec.proofs.ResultLaws.{Passed, and-true, and_both, judge-passes, not-refused, Fails, judge-refused, fails-judge, then-refused}
 use Rattle.sdi_spec.specs.declared.position.Position.{Position}
-use Rattle.sdi_spec.specs.declared.answer.WrittenLine.TheVariants as written_line
-use Rattle.sdi_spec.specs.declared.answer.ReadLine.TheVariants as read_line_answer
 use Rattle.sdi_spec.specs.Packets.{flag, data_words, packet_words, stretch, At, Unprotected, has_flag, line_count, user_words, line_record, sum_ok, packet_checks, behind, packets_from, packets_in, placed}
 use Rattle.sdi_spec.specs.Line.{max_line, line_checks, line_after, write_line, PositionFits, position_ok, reading_checks, read_line, read_line_into}
 use Rattle.sdi_spec.specs.Answers.{cells_after, read_of, read_leaves, read_returns, write_leaves, write_returns, written_of}
@@ -106,7 +104,7 @@ placed-read P t = refl
 plus-zero : (i : ℕ) → i ≡ i + 0
 plus-zero i = omega arith
 
-refused-from : (bound : ℕ) (P : Position) → PositionFits P → (i : ℕ) (s : List ℕ) (x : Refusal) → packets_from bound P i s ≡ refused x → From i P s x
+refused-from : (bound : ℕ) (P : Position) → PositionFits P → (i : ℕ) (s : List ℕ) (x : Refusal) → packets_from bound P i s ≡ Err x → From i P s x
 unfolding packets_from
 refused-from zero P fits i s x e = absurd (not-refused e)
 refused-from (suc bound) P fits i s x e = go (has_flag s) refl e (refused-from bound P fits (i + 1) (behind s) x)
@@ -126,27 +124,27 @@ refused-from (suc bound) P fits i s x e = go (has_flag s) refl e (refused-from b
           index = let k = r.index in omega arith;
         }
 
-    checks : has_flag s ≡ true → (packets_from bound P (i + 1) (behind s) ≡ refused x → From (i + 1) P (behind s) x)
+    checks : has_flag s ≡ true → (packets_from bound P (i + 1) (behind s) ≡ Err x → From (i + 1) P (behind s) x)
         → Fails i (packet_checks (drop 3 s)) x
-        ⊎ (Passed (packet_checks (drop 3 s)) × ((packets_from bound P (i + 1) (behind s) then λ rs. accepted (line_record P (drop 3 s) ∷ rs)) ≡ refused x)) → From i P s x
+        ⊎ (Passed (packet_checks (drop 3 s)) × ((packets_from bound P (i + 1) (behind s) then λ rs. Ok (line_record P (drop 3 s) ∷ rs)) ≡ Err x)) → From i P s x
     checks h ih (inl f) =
         let b = fails-packet i (drop 3 s) x f in
         record { before = []; formed = tt; at = tt; rest = drop 3 s; words = (flag-iff s).0 h; by = b.0; index = b.1 ∙ plus-zero i }
     checks h ih (inr p) = on (then-refused (packets_from bound P (i + 1) (behind s)) _ x p.1)
       where
-        on : (packets_from bound P (i + 1) (behind s) ≡ refused x)
-            ⊎ ((rs : List Record) × (packets_from bound P (i + 1) (behind s) ≡ accepted rs) × (◌≡◌ {A = Result (List Record)} (accepted (line_record P (drop 3 s) ∷ rs)) (refused x))) → From i P s x
+        on : (packets_from bound P (i + 1) (behind s) ≡ Err x)
+            ⊎ ((rs : List Record) × (packets_from bound P (i + 1) (behind s) ≡ Ok rs) × (◌≡◌ {A = Result (List Record)} (Ok (line_record P (drop 3 s) ∷ rs)) (Err x))) → From i P s x
         on (inl e) = more h p.0 (ih e)
         on (inr q) = absurd (not-refused q.2)
 
     go : (b : Bool) → has_flag s ≡ b
-        → cond b (judge i (packet_checks (drop 3 s)) (packets_from bound P (i + 1) (behind s) then λ rs. accepted (line_record P (drop 3 s) ∷ rs))) (accepted []) ≡ refused x
-        → (packets_from bound P (i + 1) (behind s) ≡ refused x → From (i + 1) P (behind s) x) → From i P s x
+        → cond b (judge i (packet_checks (drop 3 s)) (packets_from bound P (i + 1) (behind s) then λ rs. Ok (line_record P (drop 3 s) ∷ rs))) (Ok []) ≡ Err x
+        → (packets_from bound P (i + 1) (behind s) ≡ Err x → From (i + 1) P (behind s) x) → From i P s x
     go false h e ih = absurd (not-refused e)
     go true h e ih = checks h ih (judge-refused i (packet_checks (drop 3 s)) _ x e)
 
 from-refused : (bound : ℕ) (P : Position) (i : ℕ) (s : List ℕ) (x : Refusal) → length s ≤ bound → (before : List Record) → Each (WellFormed rfc8331) before
-    → (rest : List ℕ) → s ≡ stretch before ++ (flag ++ rest) → PacketFails rest x.number → x.index ≡ i + length before → packets_from bound P i s ≡ refused x
+    → (rest : List ℕ) → s ≡ stretch before ++ (flag ++ rest) → PacketFails rest x.number → x.index ≡ i + length before → packets_from bound P i s ≡ Err x
 unfolding packets_from
 from-refused zero P i s x l [] f rest w by k = absurd (omega (arith, ap length w))
 from-refused zero P i s x l (r ∷ before) f rest w by k =
@@ -163,16 +161,16 @@ from-refused (suc bound) P i s x l (r ∷ before) f rest w by k =
     let shorter : length (behind s) ≤ bound = rw (length-drop (4 + line_count (drop 3 s)) (drop 3 s), length-drop 3 s) (omega (arith, ap length ws)) in
     let ih = from-refused bound P (i + 1) (behind s) x shorter before f.1 rest q.2 by (k ∙ omega arith) in
     rw (flagged s (data_words r ++ u, ws))
-    (judge-passes i (packet_checks (drop 3 s)) _ q.0 ∙ ap (λ (y : Result (List Record)). y then λ rs. accepted (line_record P (drop 3 s) ∷ rs)) ih)
+    (judge-passes i (packet_checks (drop 3 s)) _ q.0 ∙ ap (λ (y : Result (List Record)). y then λ rs. Ok (line_record P (drop 3 s) ∷ rs)) ih)
 
 -- READING
 module _ (line : List ℕ) (start : ℕ) (P : Position) (room : ℕ) (x : Refusal) where
-  line_refused : read_line line start P ≡ refused x → refuses.ReadRefuses line start P room x
+  line_refused : read_line line start P ≡ Err x → refuses.ReadRefuses line start P room x
   unfolding read_line line_checks reading_checks
   line_refused e = first (judge-refused 0 (line_checks line start) _ x e)
     where
       second : length line ≤ 4096 → start ≤ length line
-          → Fails 0 (reading_checks line P) x ⊎ (Passed (reading_checks line P) × (packets_in P (drop start line) ≡ refused x)) → refuses.ReadRefuses line start P room x
+          → Fails 0 (reading_checks line P) x ⊎ (Passed (reading_checks line P) × (packets_in P (drop start line) ≡ Err x)) → refuses.ReadRefuses line start P room x
       second l h (inl (inl f)) = refuses.position l h (λ p. differ (sym ((position-iff P).1 p) ∙ f.0)) f.1
       second l h (inl (inr (p, inl f))) = refuses.too_large l h ((position-iff P).0 p) (λ b. differ (sym ((below-iff (2 ^ word_bits) line).1 b) ∙ f.0)) f.1
       second l h (inl (inr (p, inr f))) = absurd f.1
@@ -182,102 +180,102 @@ module _ (line : List ℕ) (start : ℕ) (P : Position) (room : ℕ) (x : Refusa
           refuses.packet (record { long = l; inside = h; position = fits; words = (below-iff (2 ^ word_bits) line).0 p.0.1.0 })
           (record { before = r.before; formed = r.formed; placed = r.at; behind = r.rest; words = r.words; by = r.by; index = let k = r.index in omega arith })
 
-      first : Fails 0 (line_checks line start) x ⊎ (Passed (line_checks line start) × (judge 0 (reading_checks line P) (packets_in P (drop start line)) ≡ refused x))
+      first : Fails 0 (line_checks line start) x ⊎ (Passed (line_checks line start) × (judge 0 (reading_checks line P) (packets_in P (drop start line)) ≡ Err x))
           → refuses.ReadRefuses line start P room x
       first (inl (inl f)) = refuses.too_long (leb-false (length line) max_line f.0) f.1
       first (inl (inr (l, inl f))) = refuses.past_end (leb-true (length line) max_line l) (leb-false start (length line) f.0) f.1
       first (inl (inr (l, inr f))) = absurd f.1
       first (inr p) = second (leb-true (length line) max_line p.0.0) (leb-true start (length line) p.0.1.0) (judge-refused 0 (reading_checks line P) _ x p.1)
 
-  into-refused : read_line_into line start P room ≡ refused x → refuses.ReadRefuses line start P room x
+  into-refused : read_line_into line start P room ≡ Err x → refuses.ReadRefuses line start P room x
   unfolding read_line_into
   into-refused e = go (then-refused (read_line line start P) _ x e)
     where
-      last : (rs : List Record) → read_line line start P ≡ accepted rs
-          → Fails 0 ((leb (length (list_of rs)) room, 14) ∷ []) x ⊎ (Passed ((leb (length (list_of rs)) room, 14) ∷ []) × (accepted rs ≡ refused x)) → refuses.ReadRefuses line start P room x
+      last : (rs : List Record) → read_line line start P ≡ Ok rs
+          → Fails 0 ((leb (length (list_of rs)) room, 14) ∷ []) x ⊎ (Passed ((leb (length (list_of rs)) room, 14) ∷ []) × (Ok rs ≡ Err x)) → refuses.ReadRefuses line start P room x
       last rs h (inl (inl f)) = refuses.list_short rs h (leb-false (length (list_of rs)) room f.0) f.1
       last rs h (inl (inr f)) = absurd f.1
       last rs h (inr f) = absurd (not-refused f.1)
 
-      go : (read_line line start P ≡ refused x)
-          ⊎ ((rs : List Record) × (read_line line start P ≡ accepted rs) × (judge 0 ((leb (length (list_of rs)) room, 14) ∷ []) (accepted rs) ≡ refused x)) → refuses.ReadRefuses line start P room x
+      go : (read_line line start P ≡ Err x)
+          ⊎ ((rs : List Record) × (read_line line start P ≡ Ok rs) × (judge 0 ((leb (length (list_of rs)) room, 14) ∷ []) (Ok rs) ≡ Err x)) → refuses.ReadRefuses line start P room x
       go (inl e) = line_refused e
-      go (inr p) = last p.0 p.1 (judge-refused 0 ((leb (length (list_of p.0)) room, 14) ∷ []) (accepted p.0) x p.2)
+      go (inr p) = last p.0 p.1 (judge-refused 0 ((leb (length (list_of p.0)) room, 14) ∷ []) (Ok p.0) x p.2)
 
-  early : read_line line start P ≡ refused x → read_line_into line start P room ≡ refused x
+  early : read_line line start P ≡ Err x → read_line_into line start P room ≡ Err x
   unfolding read_line_into
   early e = rw e
 
-  back : refuses.ReadRefuses line start P room x → read_line_into line start P room ≡ refused x
+  back : refuses.ReadRefuses line start P room x → read_line_into line start P room ≡ Err x
   unfolding read_line line_checks reading_checks read_line_into
-  back (refuses.too_long l e) = rw (lt-leb (length line) max_line l) (ap refused (sym e))
-  back (refuses.past_end l h e) = rw (le-leb (length line) max_line l, lt-leb start (length line) h) (ap refused (sym e))
-  back (refuses.position l h p e) = rw (le-leb (length line) max_line l, le-leb start (length line) h, false_of (position_ok P) (λ q. p ((position-iff P).0 q))) (ap refused (sym e))
+  back (refuses.too_long l e) = rw (lt-leb (length line) max_line l) (ap Err (sym e))
+  back (refuses.past_end l h e) = rw (le-leb (length line) max_line l, lt-leb start (length line) h) (ap Err (sym e))
+  back (refuses.position l h p e) = rw (le-leb (length line) max_line l, le-leb start (length line) h, false_of (position_ok P) (λ q. p ((position-iff P).0 q))) (ap Err (sym e))
   back (refuses.too_large l h p w e) =
-      rw (le-leb (length line) max_line l, le-leb start (length line) h, (position-iff P).1 p, false_of (all_below (2 ^ word_bits) line) (λ q. w ((below-iff (2 ^ word_bits) line).0 q))) (ap refused (sym e))
+      rw (le-leb (length line) max_line l, le-leb start (length line) h, (position-iff P).1 p, false_of (all_below (2 ^ word_bits) line) (λ q. w ((below-iff (2 ^ word_bits) line).0 q))) (ap Err (sym e))
   back (refuses.packet h r) =
-      let q : packets_in P (drop start line) ≡ refused x =
+      let q : packets_in P (drop start line) ≡ Err x =
       from-refused (length (drop start line)) P 0 (drop start line) x (le_refl (length (drop start line))) r.before r.formed r.behind r.words r.by (let k = r.index in omega arith) in
       rw (le-leb (length line) max_line h.long, le-leb start (length line) h.inside, (position-iff P).1 h.position, (below-iff (2 ^ word_bits) line).1 h.words, q)
-  back (refuses.list_short rs h l e) = rw (h, lt-leb (length (list_of rs)) room l) (ap refused (sym e))
+  back (refuses.list_short rs h l e) = rw (h, lt-leb (length (list_of rs)) room l) (ap Err (sym e))
 
 -- of what `read` takes and returns; "Lent memory is unchanged"
 module _ (line : List ℕ) (start : ℕ) (P : Position) (lent : List ℕ) (x : Refusal) where
-  pub read-refused-iff : (read_returns line start P lent ≡ read_line_answer.Refused x) ↔ refuses.ReadRefuses line start P (length lent) x
+  pub read-refused-iff : (read_returns line start P lent ≡ Err x) ↔ refuses.ReadRefuses line start P (length lent) x
   read-refused-iff = (λ e. go (read_line_into line start P (length lent)) refl e, λ r. ap (read_of start) (back line start P (length lent) x r))
     where
-      go : (r : Result (List Record)) → read_line_into line start P (length lent) ≡ r → read_of start r ≡ read_line_answer.Refused x → refuses.ReadRefuses line start P (length lent) x
-      go (refused y) q e = let s : y ≡ x = cc in into-refused line start P (length lent) x (q ∙ ap refused s)
-      go (accepted rs) q e = let z : ◌≡◌ {A = ℕ} 0 1 = cc in absurd (omega arith)
+      go : (r : Result (List Record)) → read_line_into line start P (length lent) ≡ r → read_of start r ≡ Err x → refuses.ReadRefuses line start P (length lent) x
+      go (Err y) q e = let s : y ≡ x = cc in into-refused line start P (length lent) x (q ∙ ap Err s)
+      go (Ok rs) q e = let z : ◌≡◌ {A = ℕ} 0 1 = cc in absurd (omega arith)
 
-  pub read-refused-stays : read_returns line start P lent ≡ read_line_answer.Refused x → read_leaves line start P lent ≡ lent
+  pub read-refused-stays : read_returns line start P lent ≡ Err x → read_leaves line start P lent ≡ lent
   read-refused-stays e = go (read_line_into line start P (length lent)) e
     where
-      go : (r : Result (List Record)) → read_of start r ≡ read_line_answer.Refused x → cells_after r lent ≡ lent
-      go (refused y) e = refl
-      go (accepted rs) e = let z : ◌≡◌ {A = ℕ} 0 1 = cc in absurd (omega arith)
+      go : (r : Result (List Record)) → read_of start r ≡ Err x → cells_after r lent ≡ lent
+      go (Err y) e = refl
+      go (Ok rs) e = let z : ◌≡◌ {A = ℕ} 0 1 = cc in absurd (omega arith)
 
 -- WRITING, of what `write` takes and returns
 module _ (line : List ℕ) (start : ℕ) (cells : List ℕ) (x : Refusal) where
-  write-refused : write_line line start cells ≡ refused x → refuses.WriteRefuses line start cells x
+  write-refused : write_line line start cells ≡ Err x → refuses.WriteRefuses line start cells x
   unfolding write_line line_checks
   write-refused e = first (judge-refused 0 (line_checks line start) _ x e)
     where
-      third : length line ≤ 4096 → start ≤ length line → (rs : List Record) → read_list cells ≡ accepted rs
-          → Fails 0 ((leb (start + length (stretch rs)) (length line), 72) ∷ []) x ⊎ (Passed ((leb (start + length (stretch rs)) (length line), 72) ∷ []) × (accepted (stretch rs) ≡ refused x))
+      third : length line ≤ 4096 → start ≤ length line → (rs : List Record) → read_list cells ≡ Ok rs
+          → Fails 0 ((leb (start + length (stretch rs)) (length line), 72) ∷ []) x ⊎ (Passed ((leb (start + length (stretch rs)) (length line), 72) ∷ []) × (Ok (stretch rs) ≡ Err x))
           → refuses.WriteRefuses line start cells x
       third l h rs q (inl (inl f)) = refuses.no_room l h rs q (leb-false (start + length (stretch rs)) (length line) f.0) f.1
       third l h rs q (inl (inr f)) = absurd f.1
       third l h rs q (inr f) = absurd (not-refused f.1)
 
       second : length line ≤ 4096 → start ≤ length line
-          → (read_list cells ≡ refused x)
-          ⊎ ((rs : List Record) × (read_list cells ≡ accepted rs) × (judge 0 ((leb (start + length (stretch rs)) (length line), 72) ∷ []) (accepted (stretch rs)) ≡ refused x))
+          → (read_list cells ≡ Err x)
+          ⊎ ((rs : List Record) × (read_list cells ≡ Ok rs) × (judge 0 ((leb (start + length (stretch rs)) (length line), 72) ∷ []) (Ok (stretch rs)) ≡ Err x))
           → refuses.WriteRefuses line start cells x
       second l h (inl e) = refuses.list l h e
-      second l h (inr p) = third l h p.0 p.1 (judge-refused 0 ((leb (start + length (stretch p.0)) (length line), 72) ∷ []) (accepted (stretch p.0)) x p.2)
+      second l h (inr p) = third l h p.0 p.1 (judge-refused 0 ((leb (start + length (stretch p.0)) (length line), 72) ∷ []) (Ok (stretch p.0)) x p.2)
 
       first : Fails 0 (line_checks line start) x
           ⊎ (Passed (line_checks line start)
-          × ((read_list cells then λ rs. judge 0 ((leb (start + length (stretch rs)) (length line), 72) ∷ []) (accepted (stretch rs))) ≡ refused x)) → refuses.WriteRefuses line start cells x
+          × ((read_list cells then λ rs. judge 0 ((leb (start + length (stretch rs)) (length line), 72) ∷ []) (Ok (stretch rs))) ≡ Err x)) → refuses.WriteRefuses line start cells x
       first (inl (inl f)) = refuses.too_long (leb-false (length line) max_line f.0) f.1
       first (inl (inr (l, inl f))) = refuses.past_end (leb-true (length line) max_line l) (leb-false start (length line) f.0) f.1
       first (inl (inr (l, inr f))) = absurd f.1
       first (inr p) = second (leb-true (length line) max_line p.0.0) (leb-true start (length line) p.0.1.0) (then-refused (read_list cells) _ x p.1)
 
-  refuses-write : refuses.WriteRefuses line start cells x → write_line line start cells ≡ refused x
+  refuses-write : refuses.WriteRefuses line start cells x → write_line line start cells ≡ Err x
   unfolding write_line line_checks
-  refuses-write (refuses.too_long l e) = rw (lt-leb (length line) max_line l) (ap refused (sym e))
-  refuses-write (refuses.past_end l h e) = rw (le-leb (length line) max_line l, lt-leb start (length line) h) (ap refused (sym e))
+  refuses-write (refuses.too_long l e) = rw (lt-leb (length line) max_line l) (ap Err (sym e))
+  refuses-write (refuses.past_end l h e) = rw (le-leb (length line) max_line l, lt-leb start (length line) h) (ap Err (sym e))
   refuses-write (refuses.list l h e) = rw (le-leb (length line) max_line l, le-leb start (length line) h, e)
-  refuses-write (refuses.no_room l h rs q m e) = rw (le-leb (length line) max_line l, le-leb start (length line) h, q, lt-leb (start + length (stretch rs)) (length line) m) (ap refused (sym e))
+  refuses-write (refuses.no_room l h rs q m e) = rw (le-leb (length line) max_line l, le-leb start (length line) h, q, lt-leb (start + length (stretch rs)) (length line) m) (ap Err (sym e))
 
-  wrote-refused : (r : Result (List ℕ)) → written_of start r ≡ written_line.Refused x → (r ≡ refused x) × (line_after r line start ≡ line)
-  wrote-refused (refused y) e = let s : y ≡ x = cc in (ap refused s, refl)
-  wrote-refused (accepted o) e = let z : ◌≡◌ {A = ℕ} 0 1 = cc in absurd (omega arith)
+  wrote-refused : (r : Result (List ℕ)) → written_of start r ≡ Err x → (r ≡ Err x) × (line_after r line start ≡ line)
+  wrote-refused (Err y) e = let s : y ≡ x = cc in (ap Err s, refl)
+  wrote-refused (Ok o) e = let z : ◌≡◌ {A = ℕ} 0 1 = cc in absurd (omega arith)
 
-  pub write-refused-iff : (write_returns line start cells ≡ written_line.Refused x) ↔ refuses.WriteRefuses line start cells x
+  pub write-refused-iff : (write_returns line start cells ≡ Err x) ↔ refuses.WriteRefuses line start cells x
   write-refused-iff = (λ e. write-refused (wrote-refused (write_line line start cells) e).0, λ r. ap (written_of start) (refuses-write r))
 
-  pub write-refused-stays : write_returns line start cells ≡ written_line.Refused x → write_leaves line start cells ≡ line
+  pub write-refused-stays : write_returns line start cells ≡ Err x → write_leaves line start cells ≡ line
   write-refused-stays e = (wrote-refused (write_line line start cells) e).1

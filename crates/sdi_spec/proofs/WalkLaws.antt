@@ -13,22 +13,20 @@ use Rattle.wire_spec.specs.declared.refusal.Refusal.{Refusal}
 use Rattle.wire_spec.specs.Bits.{overwrite, splice}
 use Rattle.wire_spec.specs.Layout.{rfc8331}
 use Rattle.wire_spec.specs.Words.{header_numbers}
-use Rattle.wire_spec.specs.Result.{Result, refused, accepted, judge, ◌then◌, IsAccepted}
+use Rattle.wire_spec.specs.Result.{Result, Err, Ok, judge, ◌then◌, IsAccepted}
 use Rattle.wire_spec.specs.Anc.{Each, Record, WellFormed, checksum}
 use Rattle.wire_spec.specs.Cells.{head_cells, cells_of, list_of, Lists, cell_count, cell_record, cell_checks, rest, read_list}
 use Rattle.wire_spec.proofs.CellLaws.{front_reads, list-iff}
 use Rattle.wire_spec.proofs.ListLaws.{length-splice, splice-append, splice-none}
-use Rattle.wire_spec.proofs.ResultLaws.{Passed, accepted-is, judge-passes}
+use Rattle.wire_spec.proofs.ResultLaws.{Passed, accepted-inj, accepted-is, judge-accepts, judge-passes}
 use Rattle.sdi_spec.specs.declared.position.Position.{Position}
 use Rattle.sdi_spec.specs.declared.answer.Found.{Found}
-use Rattle.sdi_spec.specs.declared.answer.Found.TheVariants as found
-use Rattle.sdi_spec.specs.declared.answer.Verdict.TheVariants as verdict
 use Rattle.sdi_spec.specs.Packets.{Stands, At, data_words, packet_words, stretch, has_flag, line_count, line_record, packet_checks, behind, packets_from, packets_in, placed}
 use Rattle.sdi_spec.specs.Line.{PositionFits}
 use Rattle.sdi_spec.specs.Passes.{found_of, found_cells, list_stretch, verdict_of}
 use Rattle.sdi_spec.proofs.PacketLaws.{flag-iff, packet-reads}
 use Rattle.sdi_spec.proofs.PacketIff.{flagged, front-flagged, packets-iff}
-use Rattle.sdi_spec.proofs.CodeLaws.{verdict-refused, verdict-accepted, length-user, named}
+use Rattle.sdi_spec.proofs.CodeLaws.{verdict-refused, length-user, named}
 
 -- a packet takes 7 + n words, and its record 9 + n cells
 pub length-packet : (r : Record) → length (packet_words r) ≡ 7 + length r.words
@@ -62,57 +60,61 @@ bounds-agree (suc b) zero P i (x ∷ s) h k = absurd (omega arith)
 bounds-agree (suc b) (suc c) P i s h k = go (has_flag s) refl (λ h k. bounds-agree b c P (i + 1) (behind s) h k)
   where
     go : (t : Bool) → has_flag s ≡ t → (length (behind s) ≤ b → length (behind s) ≤ c → packets_from b P (i + 1) (behind s) ≡ packets_from c P (i + 1) (behind s))
-        → cond t (judge i (packet_checks (drop 3 s)) (packets_from b P (i + 1) (behind s) then λ rs. accepted (line_record P (drop 3 s) ∷ rs))) (accepted [])
-        ≡ cond t (judge i (packet_checks (drop 3 s)) (packets_from c P (i + 1) (behind s) then λ rs. accepted (line_record P (drop 3 s) ∷ rs))) (accepted [])
+        → cond t (judge i (packet_checks (drop 3 s)) (packets_from b P (i + 1) (behind s) then λ rs. Ok (line_record P (drop 3 s) ∷ rs))) (Ok [])
+        ≡ cond t (judge i (packet_checks (drop 3 s)) (packets_from c P (i + 1) (behind s) then λ rs. Ok (line_record P (drop 3 s) ∷ rs))) (Ok [])
     go false e ih = refl
     go true e ih =
         let l = behind-shorter s e in
-        ap (λ (x : Result (List Record)). judge i (packet_checks (drop 3 s)) (x then λ rs. accepted (line_record P (drop 3 s) ∷ rs))) (ih (omega arith) (omega arith))
+        ap (λ (x : Result (List Record)). judge i (packet_checks (drop 3 s)) (x then λ rs. Ok (line_record P (drop 3 s) ∷ rs))) (ih (omega arith) (omega arith))
+
+-- a walk's answer, by its two numbers
+abbrev walked : ℕ → ℕ → Result Found
+walked count used = Ok (record { count = count; words = used })
 
 -- `count` packets of `used` words before those that are read
-abbrev pub tally : ℕ → ℕ → Result (List Record) → Found
-tally count used (refused x) = found.Refused x
-tally count used (accepted rs) = found.Packets (count + length rs) (used + length (stretch rs))
+abbrev pub tally : ℕ → ℕ → Result (List Record) → Result Found
+tally count used (Err x) = Err x
+tally count used (Ok rs) = walked (count + length rs) (used + length (stretch rs))
 
 pub tally-none : (x : Result (List Record)) → tally 0 0 x ≡ found_of x
-tally-none (refused x) = refl
-tally-none (accepted rs) = ap₂ found.Packets (zero-add (length rs)) (zero-add (length (stretch rs)))
+tally-none (Err x) = refl
+tally-none (Ok rs) = ap₂ walked (zero-add (length rs)) (zero-add (length (stretch rs)))
 
 tally-one : (count used : ℕ) (r : Record) (y : Result (List Record))
-    → tally count used (y then λ rs. accepted (r ∷ rs)) ≡ tally (count + 1) (used + (7 + length r.words)) y
-tally-one count used r (refused x) = refl
-tally-one count used r (accepted rs) = ap₂ found.Packets (omega arith) (omega (arith, length-packet r, length-append (packet_words r) (stretch rs)))
+    → tally count used (y then λ rs. Ok (r ∷ rs)) ≡ tally (count + 1) (used + (7 + length r.words)) y
+tally-one count used r (Err x) = refl
+tally-one count used r (Ok rs) = ap₂ walked (omega arith) (omega (arith, length-packet r, length-append (packet_words r) (stretch rs)))
 
 module _ (P : Position) (count used : ℕ) (s : List ℕ) where
   -- without a flag the walk ends
-  pub tally-ends : has_flag s ≡ false → tally count used (packets_from (length s) P count s) ≡ found.Packets count used
+  pub tally-ends : has_flag s ≡ false → tally count used (packets_from (length s) P count s) ≡ walked count used
   unfolding packets_from
   tally-ends e = go s e
     where
-      none : found.Packets (count + 0) (used + 0) ≡ found.Packets count used
-      none = ap₂ found.Packets (add-zero count) (add-zero used)
+      none : walked (count + 0) (used + 0) ≡ walked count used
+      none = ap₂ walked (add-zero count) (add-zero used)
 
-      go : (s : List ℕ) → has_flag s ≡ false → tally count used (packets_from (length s) P count s) ≡ found.Packets count used
+      go : (s : List ℕ) → has_flag s ≡ false → tally count used (packets_from (length s) P count s) ≡ walked count used
       go [] e = none
       go (x ∷ s) e = rw e none
 
   -- one step of the walk
   step_is : has_flag s ≡ true → packets_from (length s) P count s
-      ≡ judge count (packet_checks (drop 3 s)) (packets_from (length (behind s)) P (count + 1) (behind s) then λ rs. accepted (line_record P (drop 3 s) ∷ rs))
+      ≡ judge count (packet_checks (drop 3 s)) (packets_from (length (behind s)) P (count + 1) (behind s) then λ rs. Ok (line_record P (drop 3 s) ∷ rs))
   unfolding packets_from
   step_is e = go s e
     where
       go : (s : List ℕ) → has_flag s ≡ true → packets_from (length s) P count s
-          ≡ judge count (packet_checks (drop 3 s)) (packets_from (length (behind s)) P (count + 1) (behind s) then λ rs. accepted (line_record P (drop 3 s) ∷ rs))
+          ≡ judge count (packet_checks (drop 3 s)) (packets_from (length (behind s)) P (count + 1) (behind s) then λ rs. Ok (line_record P (drop 3 s) ∷ rs))
       go [] e = absurd (omega (arith, flag-long [] e))
       go (x ∷ s) e =
           let l = behind-shorter (x ∷ s) e in
           rw e
-          (ap (λ (y : Result (List Record)). judge count (packet_checks (drop 3 (x ∷ s))) (y then λ rs. accepted (line_record P (drop 3 (x ∷ s)) ∷ rs)))
+          (ap (λ (y : Result (List Record)). judge count (packet_checks (drop 3 (x ∷ s))) (y then λ rs. Ok (line_record P (drop 3 (x ∷ s)) ∷ rs)))
           (bounds-agree (length s) (length (behind (x ∷ s))) P (count + 1) (behind (x ∷ s)) (omega arith) (le_refl _)))
 
   -- a packet that is refused ends it
-  pub tally-refused : has_flag s ≡ true → (x : Refusal) → verdict_of count (drop 3 s) ≡ verdict.Refused x → tally count used (packets_from (length s) P count s) ≡ found.Refused x
+  pub tally-refused : has_flag s ≡ true → (x : Refusal) → verdict_of count (drop 3 s) ≡ Err x → tally count used (packets_from (length s) P count s) ≡ Err x
   tally-refused e x v = ap (tally count used) (step_is e ∙ verdict-refused count (line_count (drop 3 s)) (packet_checks (drop 3 s)) x _ v)
 
 -- the words behind a packet of n user data words
@@ -127,13 +129,14 @@ pub record Taken (s : List ℕ) (n : ℕ) : Type 0 where
   pub count : n ≡ line_count (drop 3 s)
   pub fits : 7 + n ≤ length s
 
-pub taken : (i n : ℕ) (s : List ℕ) → has_flag s ≡ true → verdict_of i (drop 3 s) ≡ verdict.Accepted n → Taken s n
+pub taken : (i n : ℕ) (s : List ℕ) → has_flag s ≡ true → verdict_of i (drop 3 s) ≡ Ok n → Taken s n
 unfolding packet_checks
 taken i n s e v =
-    let p = verdict-accepted i (line_count (drop 3 s)) n (packet_checks (drop 3 s)) v in
+    let p = judge-accepts i (packet_checks (drop 3 s)) (Ok (line_count (drop 3 s))) n v in
     let ps = p.0 in
     let l : 4 + line_count (drop 3 s) ≤ length (drop 3 s) = leb-true (4 + line_count (drop 3 s)) (length (drop 3 s)) ps.1.1.0 in
-    record { passes = ps; count = p.1; fits = omega (arith, length-drop 3 s, flag-long s e, p.1) }
+    let count = sym (accepted-inj p.1) in
+    record { passes = ps; count = count; fits = omega (arith, length-drop 3 s, flag-long s e, count) }
 
 -- it is counted
 pub tally-next : (P : Position) (count used n : ℕ) (s : List ℕ) → has_flag s ≡ true → Taken s n

@@ -3,7 +3,7 @@ use Rattle.std.specs.Prelude.{◌≡◌, Bool, ◌&&◌, List, [], ◌∷◌, ma
 use Rattle.wire_spec.specs.Bits.{Below, splice}
 use Rattle.wire_spec.specs.Words.{word_bits}
 use Rattle.wire_spec.specs.Layout.{rfc8331, s_bits, stream_bits}
-use Rattle.wire_spec.specs.Result.{Result, refused, accepted, Checks, judge, ◌then◌}
+use Rattle.wire_spec.specs.Result.{Result, Err, Ok, Checks, judge, ◌then◌}
 use Rattle.wire_spec.specs.Anc.{Record}
 use Rattle.wire_spec.specs.Cells.{list_of, all_below, read_list}
 use Rattle.sdi_spec.specs.declared.position.Position.{Position}
@@ -24,12 +24,12 @@ line_checks line start =
 unfoldable pub write_line : (line : List ℕ) (start : ℕ) (cells : List ℕ) → Result (List ℕ)
 write_line line start cells =
     judge 0 (line_checks line start)
-    (read_list cells then λ rs. judge 0 ((leb (start + length (stretch rs)) (length line), 72) ∷ []) (accepted (stretch rs)))
+    (read_list cells then λ rs. judge 0 ((leb (start + length (stretch rs)) (length line), 72) ∷ []) (Ok (stretch rs)))
 
 -- "words outside the written stretch stay"; a refusal leaves the line alone
 abbrev pub line_after : Result (List ℕ) → List ℕ → ℕ → List ℕ
-line_after (refused x) line start = line
-line_after (accepted o) line start = splice line start o
+line_after (Err x) line start = line
+line_after (Ok o) line start = splice line start o
 
 -- each number of the position fits its field
 pub record PositionFits (P : Position) : Type 0 where
@@ -63,7 +63,7 @@ read_line line start P =
 -- "and 14 last": the lent list of `room` cells is shorter than the records need
 unfoldable pub read_line_into : (line : List ℕ) (start : ℕ) → Position → (room : ℕ) → Result (List Record)
 read_line_into line start P room =
-    read_line line start P then λ rs. judge 0 ((leb (length (list_of rs)) room, 14) ∷ []) (accepted rs)
+    read_line line start P then λ rs. judge 0 ((leb (length (list_of rs)) room, 14) ∷ []) (Ok rs)
 
 -- none of 70, 71, 20 and 73
 pub record Readable (line : List ℕ) (start : ℕ) (P : Position) : Type 0 where
@@ -82,6 +82,6 @@ pub record Outside (line after : List ℕ) (start : ℕ) (o : List ℕ) : Type 0
 -- What written words say when they are read at the position `P`, with lent room for as many cells as they were written from.
 pub record ReadBack (line : List ℕ) (start : ℕ) (cells o : List ℕ) (P : Position) : Type 0 where
   pub records : List Record
-  pub written : read_list cells ≡ accepted records
-  pub read : read_line (splice line start o) start P ≡ accepted (map (placed P) records)
-  pub room : (n : ℕ) → length cells ≤ n → read_line_into (splice line start o) start P n ≡ accepted (map (placed P) records)
+  pub written : read_list cells ≡ Ok records
+  pub read : read_line (splice line start o) start P ≡ Ok (map (placed P) records)
+  pub room : (n : ℕ) → length cells ≤ n → read_line_into (splice line start o) start P n ≡ Ok (map (placed P) records)

@@ -1,7 +1,7 @@
 -- ANC data packets in a line of the serial interface (02, K6): their words, and how they are read.
 use Rattle.std.specs.Prelude.{◌≡◌, Bool, ◌&&◌, cond, List, [], ◌∷◌, ◌++◌, ℕ, zero, suc, ◌+◌, ◌%◌, ◌<◌, eqb, leb, length, take, drop, get_or}
 use Rattle.wire_spec.specs.Words.{header_numbers, header_word, sum_low, checksum_word, all_clear}
-use Rattle.wire_spec.specs.Result.{Result, accepted, Checks, judge, ◌then◌}
+use Rattle.wire_spec.specs.Result.{Result, Ok, Checks, judge, ◌then◌}
 use Rattle.wire_spec.specs.Anc.{Record, checksum, are_header_words}
 use Rattle.sdi_spec.specs.declared.position.Position.{Position}
 
@@ -80,11 +80,11 @@ behind s = drop (least_words + line_count (drop flag_words s)) (drop flag_words 
 -- "takes packets as long as a flag follows directly": the records at the front of `s`, the first with index `i`; the first argument
 -- bounds how many there can be
 unfoldable pub packets_from : ℕ → Position → ℕ → List ℕ → Result (List Record)
-packets_from zero P i s = accepted []
+packets_from zero P i s = Ok []
 packets_from (suc bound) P i s =
     cond (has_flag s)
-    (judge i (packet_checks (drop flag_words s)) (packets_from bound P (i + 1) (behind s) then λ rs. accepted (line_record P (drop flag_words s) ∷ rs)))
-    (accepted [])
+    (judge i (packet_checks (drop flag_words s)) (packets_from bound P (i + 1) (behind s) then λ rs. Ok (line_record P (drop flag_words s) ∷ rs)))
+    (Ok [])
 
 -- the words `s` have at most as many packets as words
 abbrev pub packets_in : Position → List ℕ → Result (List Record)

@@ -1,39 +1,32 @@
 -- What the passes over a line say in the papers' terms, and what they store.
 use Rattle.std.specs.Prelude.{List, [], ◌∷◌, ℕ, ◌+◌, ◌%◌, length, take, drop, get_or}
 use Rattle.wire_spec.specs.Bits.{splice}
-use Rattle.wire_spec.specs.Result.{Result, refused, accepted, judge}
+use Rattle.wire_spec.specs.Result.{Result, Err, Ok, judge}
 use Rattle.wire_spec.specs.Words.{header_numbers, header_word, sum_low, checksum_word}
 use Rattle.wire_spec.specs.Anc.{Record}
 use Rattle.wire_spec.specs.Cells.{list_of}
 use Rattle.sdi_spec.specs.declared.position.Position.{Position}
 use Rattle.sdi_spec.specs.Packets.{stretch, line_count, packet_checks}
 use Rattle.sdi_spec.specs.declared.answer.Found.{Found}
-use Rattle.sdi_spec.specs.declared.answer.Found.TheVariants as found
-use Rattle.sdi_spec.specs.declared.answer.Verdict.{Verdict}
-use Rattle.sdi_spec.specs.declared.answer.Verdict.TheVariants as verdict
 
 -- the packets of a line: how many, and their words
-abbrev pub found_of : Result (List Record) → Found
-found_of (refused x) = found.Refused x
-found_of (accepted rs) = found.Packets (length rs) (length (stretch rs))
+abbrev pub found_of : Result (List Record) → Result Found
+found_of (Err x) = Err x
+found_of (Ok rs) = Ok (record { count = length rs; words = length (stretch rs) })
 
 -- the cells of their records
 abbrev pub found_cells : Result (List Record) → List ℕ
-found_cells (refused x) = []
-found_cells (accepted rs) = list_of rs
+found_cells (Err x) = []
+found_cells (Ok rs) = list_of rs
 
 -- the words of a list's packets
 abbrev pub list_stretch : Result (List Record) → List ℕ
-list_stretch (refused x) = []
-list_stretch (accepted rs) = stretch rs
+list_stretch (Err x) = []
+list_stretch (Ok rs) = stretch rs
 
 -- one packet: its Data_Count
-abbrev pub verdict_from : Result ℕ → Verdict
-verdict_from (refused x) = verdict.Refused x
-verdict_from (accepted n) = verdict.Accepted n
-
-abbrev pub verdict_of : ℕ → List ℕ → Verdict
-verdict_of i t = verdict_from (judge i (packet_checks t) (accepted (line_count t)))
+abbrev pub verdict_of : ℕ → List ℕ → Result ℕ
+verdict_of i t = judge i (packet_checks t) (Ok (line_count t))
 
 -- the cells before the words of a record that is read: "The packet and line readers give 0" (02, K13)
 abbrev pub head_of : Position → List ℕ → List ℕ

@@ -5,7 +5,7 @@ use Rattle.wire_spec.specs.declared.refusal.Refusal.{Refusal}
 use Rattle.wire_spec.specs.Bits.{Below}
 use Rattle.wire_spec.specs.Layout.{rfc8331}
 use Rattle.wire_spec.specs.Words.{sum_low, checksum_word}
-use Rattle.wire_spec.specs.Result.{refused, accepted}
+use Rattle.wire_spec.specs.Result.{Err, Ok}
 use Rattle.wire_spec.specs.Anc.{Each, Record, WellFormed, are_header_words}
 use Rattle.wire_spec.specs.Cells.{list_of, read_list}
 use Rattle.sdi_spec.specs.declared.position.Position.{Position}
@@ -19,8 +19,8 @@ only n = record { number = n; index = 0 }
 pub data WriteRefuses (line : List ℕ) (start : ℕ) (cells : List ℕ) (x : Refusal) : Type 0 where
   too_long : 4096 < length line → x ≡ only 70 → WriteRefuses line start cells x
   past_end : length line ≤ 4096 → length line < start → x ≡ only 71 → WriteRefuses line start cells x
-  list : length line ≤ 4096 → start ≤ length line → read_list cells ≡ refused x → WriteRefuses line start cells x
-  no_room : length line ≤ 4096 → start ≤ length line → (rs : List Record) → read_list cells ≡ accepted rs → length line < start + length (stretch rs)
+  list : length line ≤ 4096 → start ≤ length line → read_list cells ≡ Err x → WriteRefuses line start cells x
+  no_room : length line ≤ 4096 → start ≤ length line → (rs : List Record) → read_list cells ≡ Ok rs → length line < start + length (stretch rs)
       → x ≡ only 72 → WriteRefuses line start cells x
 
 -- by which number the packet offends whose words behind the flag are `t` and the rest of the line
@@ -48,4 +48,4 @@ pub data ReadRefuses (line : List ℕ) (start : ℕ) (P : Position) (room : ℕ)
   position : length line ≤ 4096 → start ≤ length line → (PositionFits P → ⊥) → x ≡ only 20 → ReadRefuses line start P room x
   too_large : length line ≤ 4096 → start ≤ length line → PositionFits P → (Below 1024 line → ⊥) → x ≡ only 73 → ReadRefuses line start P room x
   packet : Readable line start P → PacketAt P (drop start line) x → ReadRefuses line start P room x
-  list_short : (rs : List Record) → read_line line start P ≡ accepted rs → room < length (list_of rs) → x ≡ only 14 → ReadRefuses line start P room x
+  list_short : (rs : List Record) → read_line line start P ≡ Ok rs → room < length (list_of rs) → x ≡ only 14 → ReadRefuses line start P room x

@@ -8,7 +8,7 @@ ghost use Rattle.sdp_spec.specs.Reading.{are_value, did_sdid_of, digits, hex_beh
 ghost use Rattle.sdp_spec.specs.Text.{decimal_base, decimal_most, digit_value, hex_base, hex_most, is_name, is_value, within};
 
 use sdp_spec::item::Item;
-use sdp_spec::parameters::Vpid;
+use sdp_spec::parameters::Parameters;
 
 // Digits at the front of a text: the number that they write, and how many they are.
 #[derive(Clone, Copy)]
@@ -17,19 +17,12 @@ pub struct Digits {
     pub count: usize,
 }
 
-fn in_range(least: u8, most: u8, octet: u8) -> bool
-    ensures { result ≡ within least most octet }
-{
-    (least <= octet) & (octet <= most)
-}
-
 // Letters, digits, `_` or `-`.
+#[tactic(auto, unfolding(sdp_spec::specs::Text::is_name))]
 fn is_name(octet: u8) -> bool
     ensures { result ≡ is_name octet }
 {
-    in_range(b'0', b'9', octet)
-        | (in_range(b'A', b'Z', octet)
-            | (in_range(b'a', b'z', octet) | ((octet == b'_') | (octet == b'-'))))
+    octet.is_ascii_alphanumeric() | ((octet == b'_') | (octet == b'-'))
 }
 
 // Octets other than `;` and space.
@@ -40,42 +33,23 @@ fn is_value(octet: u8) -> bool
 }
 
 // A digit of either case; 16 for any other octet.
+#[tactic(auto, unfolding(sdp_spec::specs::Text::digit_value))]
 fn digit_value(octet: u8) -> u16
     ensures { result ≡ digit_value octet }
 {
-    if in_range(b'0', b'9', octet) {
-        return (octet - b'0') as u16;
+    match octet {
+        b'0'..=b'9' => u16::from(octet - b'0'),
+        b'A'..=b'F' => u16::from(octet - 0x37),
+        b'a'..=b'f' => u16::from(octet - 0x57),
+        _ => 16,
     }
-    if in_range(b'A', b'F', octet) {
-        return (octet - 0x37) as u16;
-    }
-    if in_range(b'a', b'f', octet) {
-        return (octet - 0x57) as u16;
-    }
-    16
 }
 
 // The octet at an index, and 0 past the end.
 fn octet_at(text: &[u8], i: usize) -> u8
     ensures { result ≡ get_or text.now i 0 }
 {
-    if i < text.len() { text[i] } else { 0 }
-}
-
-fn starts_with(text: &[u8], word: &[u8]) -> bool
-    ensures { result ≡ starts_with word.now text.now }
-{
-    let mut i = 0;
-    while i < word.len() {
-        if text.len() <= i {
-            return false;
-        }
-        if text[i] != word[i] {
-            return false;
-        }
-        i += 1;
-    }
-    true
+    text.get(i).copied().unwrap_or(0)
 }
 
 // One or two hex digits.
@@ -131,7 +105,7 @@ fn decimal(text: &[u8]) -> Digits
 fn hex_behind(text: &[u8], word: &[u8]) -> Digits
     ensures { result ≡ digits_of hex_base (hex_behind word.now text.now) }
 {
-    if !starts_with(text, word) {
+    if !text.starts_with(word) {
         return Digits { value: 0, count: 0 };
     }
     let n = word.len();
@@ -154,7 +128,7 @@ fn did_sdid(value: &[u8]) -> Item
     }
     let behind_sdid = 3 + sdid.count;
     let last = &rest[behind_sdid..];
-    if !starts_with(last, b"}") {
+    if !last.starts_with(b"}") {
         return Item::Malformed;
     }
     if last.len() != 1 {
@@ -177,7 +151,7 @@ fn vpid_code(value: &[u8]) -> Item
     if code.count != value.len() {
         return Item::Malformed;
     }
-    if Vpid::MAX_CODE < code.value {
+    if Parameters::MAX_CODE < code.value {
         return Item::Malformed;
     }
     Item::VpidCode(code.value as u8)
@@ -187,27 +161,13 @@ fn vpid_code(value: &[u8]) -> Item
 fn name_length(text: &[u8]) -> usize
     ensures { result ≡ name_length text.now }
 {
-    let mut i = 0;
-    while i < text.len() {
-        if !is_name(text[i]) {
-            return i;
-        }
-        i += 1;
-    }
-    i
+    text.iter().take_while(|octet| is_name(**octet)).count()
 }
 
 fn are_value(text: &[u8]) -> bool
     ensures { result ≡ are_value text.now }
 {
-    let mut i = 0;
-    while i < text.len() {
-        if !is_value(text[i]) {
-            return false;
-        }
-        i += 1;
-    }
-    true
+    text.iter().all(|octet| is_value(*octet))
 }
 
 // Another name, `=`, and a value of one or more octets.
@@ -235,10 +195,10 @@ fn other(text: &[u8]) -> Item
 pub fn read_item(text: &[u8]) -> Item
     ensures { result ≡ item_of text.now }
 {
-    if starts_with(text, b"DID_SDID=") {
+    if text.starts_with(b"DID_SDID=") {
         return did_sdid(&text[9..]);
     }
-    if starts_with(text, b"VPID_Code=") {
+    if text.starts_with(b"VPID_Code=") {
         return vpid_code(&text[10..]);
     }
     other(text)

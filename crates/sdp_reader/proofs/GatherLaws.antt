@@ -8,22 +8,13 @@ use native.Mathlib.Omega.{arith}
 use lib.ListN.{length, take, drop}
 use Rattle.wire_spec.specs.declared.refusal.Refusal.{Refusal}
 use Rattle.wire_spec.specs.Bits.{bit}
-use Rattle.wire_spec.specs.Result.{Result, refused, accepted, ◌then◌}
+use Rattle.wire_spec.specs.Result.{Result, Err, Ok, ◌then◌}
 use Rattle.wire_spec.proofs.ListLaws.{part-all}
 use Rattle.sdp_spec.specs.declared.parameters.Parameters.{Parameters}
 use Rattle.sdp_spec.specs.Reading.{next, add, gather}
 use Rattle.sdp_spec.proofs.CutLaws.{left, left-next, next-shorter}
-use Rattle.sdp_reader.specs.declared.Reading.TheVariants as reading
 use Rattle.sdp_reader.specs.declared.Step.{Step}
-use Rattle.sdp_reader.specs.Answers.{reading_of, Stepped}
-
-pub reading-accepted : (v : Result Parameters) (q : Parameters) → reading_of v ≡ reading.Accepted q → v ≡ accepted q
-reading-accepted (accepted p) q e = let h : p ≡ q = cc in ap accepted h
-reading-accepted (refused x) q e = let z : ◌≡◌ {A = ℕ} 0 1 = cc in absurd (omega arith)
-
-pub reading-refused : (v : Result Parameters) (x : Refusal) → reading_of v ≡ reading.Refused x → v ≡ refused x
-reading-refused (refused y) x e = let h : y ≡ x = cc in ap refused h
-reading-refused (accepted p) x e = let z : ◌≡◌ {A = ℕ} 0 1 = cc in absurd (omega arith)
+use Rattle.sdp_reader.specs.Answers.{Stepped}
 
 -- the item at the front of what is left
 module _ (s : List ℕ) (r : Step) (step : Stepped s r) where
@@ -46,16 +37,14 @@ module _ (s : List ℕ) (r : Step) (step : Stepped s r) where
     gather-step = ap (gather i p) left_step
 
     -- it offends: the items are refused
-    pub gather-refused : (x : Refusal) → reading_of (add i p r.item) ≡ reading.Refused x → reading_of (gather i p (left true s)) ≡ reading.Refused x
-    gather-refused x e =
-        ap reading_of gather-step
-        ∙ ap (λ (v : Result Parameters). reading_of (v then λ q. gather (i + 1) q (left r.more Behind))) (reading-refused (add i p r.item) x e)
+    pub gather-refused : (x : Refusal) → add i p r.item ≡ Err x → gather i p (left true s) ≡ Err x
+    gather-refused x e = gather-step ∙ ap (λ (v : Result Parameters). v then λ q. gather (i + 1) q (left r.more Behind)) e
 
     -- it does not: the items behind it are gathered
-    pub gather-accepted : (q : Parameters) → reading_of (add i p r.item) ≡ reading.Accepted q
+    pub gather-accepted : (q : Parameters) → add i p r.item ≡ Ok q
         → gather (i + 1) q (left r.more Behind) ≡ gather i p (left true s)
     gather-accepted q e =
-        sym (gather-step ∙ ap (λ (v : Result Parameters). v then λ q. gather (i + 1) q (left r.more Behind)) (reading-accepted (add i p r.item) q e))
+        sym (gather-step ∙ ap (λ (v : Result Parameters). v then λ q. gather (i + 1) q (left r.more Behind)) e)
 
 -- what is left gets shorter, and the index stays within the text
 pub left_less : (a n b : ℕ) → a ≤ n → b ≡ 1 → a < n + b

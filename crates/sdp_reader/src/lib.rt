@@ -6,18 +6,12 @@ ghost use Rattle.std.specs.Prelude.{◌≡◌, ◌+◌, ◌≤◌, drop, length}
 ghost use Rattle.wire_spec.specs.Bits.{overwrite, splice};
 ghost use Rattle.sdp_spec.specs.Grammar.{pairs_of};
 ghost use Rattle.sdp_spec.specs.Reading.{add, add_code, add_pair, front, gather, items, none, skip_spaces};
-ghost use Rattle.sdp_reader.specs.Answers.{Stepped, item_pairs, read_leaves, read_returns, reading_of};
+ghost use Rattle.sdp_reader.specs.Answers.{Stepped, item_pairs, read_leaves, read_returns};
 
 use sdp_item::read_item;
 use sdp_spec::item::Item;
-use sdp_spec::parameters::{Parameters, Vpid};
-use wire_spec::refusal::Refusal;
-
-#[derive(Clone, Copy)]
-pub enum Reading {
-    Accepted(Parameters),
-    Refused(Refusal),
-}
+use sdp_spec::parameters::Parameters;
+use wire_spec::refusal::{Refusal, refuse, refuse_at};
 
 // The item at the front of a text, how many octets lie before the next one, and whether there is a next one.
 #[derive(Clone, Copy)]
@@ -27,40 +21,18 @@ pub struct Step {
     pub more: bool,
 }
 
-impl Reading {
-    fn refuse(number: u8, index: usize) -> Reading
-        ensures { result ≡ Reading.Refused (record { number = number; index = index }) }
-    {
-        Reading::Refused(Refusal { number, index })
-    }
-}
-
 // How many octets stand before the first `;`.
 fn front_length(text: &[u8]) -> usize
     ensures { result ≡ length (front text.now) }
 {
-    let mut i = 0;
-    while i < text.len() {
-        if text[i] == b';' {
-            return i;
-        }
-        i += 1;
-    }
-    i
+    text.iter().take_while(|octet| **octet != b';').count()
 }
 
 // How many spaces stand at the front.
 fn spaces(text: &[u8]) -> usize
     ensures { (result ≤ length text.now) × (drop result text.now ≡ skip_spaces text.now) }
 {
-    let mut i = 0;
-    while i < text.len() {
-        if text[i] != b' ' {
-            return i;
-        }
-        i += 1;
-    }
-    i
+    text.iter().take_while(|octet| **octet == b' ').count()
 }
 
 fn next_item(text: &[u8]) -> Step
@@ -84,73 +56,66 @@ fn next_item(text: &[u8]) -> Step
     }
 }
 
-fn add_pair(index: usize, found: Parameters) -> Reading
-    ensures { result ≡ reading_of (add_pair index found) }
+fn add_pair(index: usize, found: Parameters) -> Result<Parameters, Refusal>
+    ensures { result ≡ add_pair index found }
 {
     let vpid = found.vpid;
     if Parameters::MAX_PAIRS <= found.pairs {
-        return Reading::refuse(Refusal::TOO_MANY_PAIRS, index);
+        return refuse_at(Refusal::TOO_MANY_PAIRS, index);
     }
-    Reading::Accepted(Parameters {
+    Ok(Parameters {
         pairs: found.pairs + 1,
         vpid,
     })
 }
 
-fn add_code(index: usize, found: Parameters, code: u8) -> Reading
-    ensures { result ≡ reading_of (add_code index found.pairs found.vpid code) }
+fn add_code(index: usize, found: Parameters, code: u8) -> Result<Parameters, Refusal>
+    ensures { result ≡ add_code index found.pairs found.vpid code }
 {
     let vpid = found.vpid;
     match vpid {
-        Vpid::Code(_) => Reading::refuse(Refusal::SECOND_VPID_CODE, index),
-        Vpid::Absent => Reading::Accepted(Parameters {
+        Some(_) => refuse_at(Refusal::SECOND_VPID_CODE, index),
+        None => Ok(Parameters {
             pairs: found.pairs,
-            vpid: Vpid::Code(code),
+            vpid: Some(code),
         }),
     }
 }
 
 // One item more: a malformed one offends before all else.
-fn add_item(index: usize, found: Parameters, item: Item) -> Reading
-    ensures { result ≡ reading_of (add index found item) }
+fn add_item(index: usize, found: Parameters, item: Item) -> Result<Parameters, Refusal>
+    ensures { result ≡ add index found item }
 {
     match item {
-        Item::Malformed => Reading::refuse(Refusal::ITEM_MALFORMED, index),
-        Item::Other => Reading::Accepted(found),
+        Item::Malformed => refuse_at(Refusal::ITEM_MALFORMED, index),
+        Item::Other => Ok(found),
         Item::VpidCode(code) => add_code(index, found, code),
         Item::DidSdid { did: _, sdid: _ } => add_pair(index, found),
     }
 }
 
 // The items from left to right, up to the first that offends.
-fn check_items(text: &[u8]) -> Reading
-    ensures { result ≡ reading_of (gather 0 none (items text.now)) }
+fn check_items(text: &[u8]) -> Result<Parameters, Refusal>
+    ensures { result ≡ gather 0 none (items text.now) }
 {
     let mut found = Parameters {
         pairs: 0,
-        vpid: Vpid::Absent,
+        vpid: None,
     };
     let mut rest = text;
     let mut more = 0 < text.len();
     let mut index: usize = 0;
+    // Kept as a while: how many octets a turn takes is read from them, and an empty item may be the last.
     while more {
         let step = next_item(rest);
         let item = step.item;
-        let reading = add_item(index, found, item);
-        match reading {
-            Reading::Refused(refusal) => {
-                return Reading::Refused(refusal);
-            }
-            Reading::Accepted(parameters) => {
-                found = parameters;
-            }
-        }
+        found = add_item(index, found, item)?;
         let used = step.used;
         rest = &rest[used..];
         more = step.more;
         index += 1;
     }
-    Reading::Accepted(found)
+    Ok(found)
 }
 
 // Writes the octets of an item that is a pair from `to` on, and none of any other item; how many are then written.
@@ -178,6 +143,7 @@ fn store_pairs(text: &[u8], pairs: &mut [u8])
     let mut rest = text;
     let mut more = 0 < text.len();
     let mut to: usize = 0;
+    // Kept as a while: how many octets a turn takes is read from them, and an empty item may be the last.
     while more {
         let step = next_item(rest);
         let item = step.item;
@@ -189,20 +155,17 @@ fn store_pairs(text: &[u8], pairs: &mut [u8])
 }
 
 // Reads the pairs of a text into the first octets of `pairs`, DID then SDID.
-pub fn read(text: &[u8], pairs: &mut [u8]) -> Reading
+pub fn read(text: &[u8], pairs: &mut [u8]) -> Result<Parameters, Refusal>
     ensures value { result ≡ read_returns text.now pairs.old }
     ensures pairs_after { pairs.new ≡ read_leaves text.now pairs.old }
 {
     if Parameters::MAX_TEXT < text.len() {
-        return Reading::refuse(Refusal::TEXT_TOO_LONG, 0);
+        return refuse(Refusal::TEXT_TOO_LONG);
     }
-    let reading = check_items(text);
-    let Reading::Accepted(parameters) = reading else {
-        return reading;
-    };
+    let parameters = check_items(text)?;
     if pairs.len() / 2 < parameters.pairs {
-        return Reading::refuse(Refusal::TEXT_ROOM_TOO_SMALL, 0);
+        return refuse(Refusal::TEXT_ROOM_TOO_SMALL);
     }
     store_pairs(text, pairs);
-    Reading::Accepted(parameters)
+    Ok(parameters)
 }

@@ -1,47 +1,44 @@
 -- A text cut into items: the octets before the first `;`, and the text behind it and its spaces.
 -- By the octet at the front: `;`, a space, or another.
 use mathlib.Core.Path.{◌≡◌, refl, ap, sym, ◌∙◌}
-use mathlib.Core.Bool.{Bool, true, false, cond}
+use mathlib.Core.Bool.{Bool, true, false, cond, not}
 use mathlib.Core.List.{List, [], ◌∷◌, map}
-use Prim.Native.Nat.{ℕ, suc, ◌+◌, ◌<◌, ◌≤◌}
+use Prim.Native.Nat.{ℕ, suc, ◌+◌, ◌≤◌}
 use native.Mathlib.Nat.{suc-add}
-use native.Mathlib.Numerals.{add-one}
 use native.Mathlib.Omega.{arith}
 use lib.Dec.{ltb, eqb, leb-suc-suc}
-use lib.ListN.{length, take, drop, get_or, length-drop, drop_of_length-le}
-use lib.Seq.{drop-cons}
-use borrow.Author.Tests.{lt-ltb, ltb-true, eq-eqb, ne_eqb, eqb-true}
+use lib.ListN.{length, take, drop, length-drop, drop_of_length-le}
+use borrow.Author.Tests.{lt-ltb, ltb-true, eqb-true}
+use Rattle.std.specs.List.{prefix_len}
 use Rattle.wire_spec.specs.Bits.{bit}
 use Rattle.sdp_spec.specs.declared.item.Item.{Item}
 use Rattle.sdp_spec.specs.Text.{semicolon, space}
 use Rattle.sdp_spec.specs.Reading.{item_of, skip_spaces, front, next, fronts, items}
 
-module _ (s : List ℕ) (i : ℕ) where
-  -- the octets before the first `;`, from `i` on
-  pub front-stops : i < length s → get_or s i 0 ≡ semicolon → front (drop i s) ≡ []
-  unfolding front
-  front-stops h e = rw (drop-cons s i 0 h, eq-eqb (get_or s i 0) semicolon e)
+-- how many octets are before the first `;`, and how many spaces are at the front, as the library counts them
+pub front-is : (s : List ℕ) → prefix_len (λ o. not (eqb o semicolon)) s ≡ length (front s)
+unfolding front
+front-is [] = refl
+front-is (a ∷ s) = go (front-is s) (eqb a semicolon)
+  where
+    n : ℕ
+    n = prefix_len (λ o. not (eqb o semicolon)) s
 
-  pub front_goes : i < length s → (get_or s i 0 ≡ semicolon → ⊥) → front (drop i s) ≡ get_or s i 0 ∷ front (drop (i + 1) s)
-  unfolding front
-  front_goes h e = rw (add-one, drop-cons s i 0 h, ne_eqb (get_or s i 0) semicolon e)
+    go : n ≡ length (front s) → (t : Bool) → cond (not t) (1 + n) 0 ≡ length (cond t [] (a ∷ front s))
+    go h true = refl
+    go h false = omega arith
 
-  pub front_ends : length s ≤ i → front (drop i s) ≡ []
-  unfolding front
-  front_ends h = rw (drop_of_length-le s h)
+pub skip-is : (s : List ℕ) → drop (prefix_len (λ o. eqb o space) s) s ≡ skip_spaces s
+unfolding skip_spaces
+skip-is [] = refl
+skip-is (a ∷ s) = go (skip-is s) (eqb a space)
+  where
+    n : ℕ
+    n = prefix_len (λ o. eqb o space) s
 
-  -- the spaces, from `i` on
-  pub skip-stops : i < length s → (get_or s i 0 ≡ space → ⊥) → skip_spaces (drop i s) ≡ drop i s
-  unfolding skip_spaces
-  skip-stops h e = rw (drop-cons s i 0 h, ne_eqb (get_or s i 0) space e)
-
-  pub skip-goes : i < length s → get_or s i 0 ≡ space → skip_spaces (drop i s) ≡ skip_spaces (drop (i + 1) s)
-  unfolding skip_spaces
-  skip-goes h e = rw (add-one, drop-cons s i 0 h, eq-eqb (get_or s i 0) space e)
-
-  pub skip-ends : length s ≤ i → skip_spaces (drop i s) ≡ drop i s
-  unfolding skip_spaces
-  skip-ends h = rw (drop_of_length-le s h)
+    go : drop n s ≡ skip_spaces s → (t : Bool) → drop (cond t (1 + n) 0) (a ∷ s) ≡ cond t (skip_spaces s) (a ∷ s)
+    go h true = let e : 1 + n ≡ suc n = omega arith in ap (λ (k : ℕ). drop k (a ∷ s)) e ∙ h
+    go h false = refl
 
 -- the octets before the first `;` stand at the front
 pub front-take : (s : List ℕ) → take (length (front s)) s ≡ front s

@@ -1,10 +1,10 @@
 -- Texts of RFC 8331 and of the drafts, refusals with their items, and what the laws leave open: the numbers.
 -- By computation.
+use Rattle.std.specs.Prelude.{Some, None}
 use mathlib.Core.Path.{◌≡◌, refl}
 use mathlib.Core.List.{List, [], ◌∷◌, ◌++◌}
 use Prim.Native.Nat.{ℕ, zero, suc}
-use Rattle.wire_spec.specs.Result.{Result, accepted, refuse}
-use Rattle.sdp_spec.specs.declared.parameters.Vpid.TheVariants.{Code, Absent}
+use Rattle.wire_spec.specs.Result.{Result, Ok, refuse}
 use Rattle.sdp_spec.specs.Text.{semicolon, space, is_name, is_value, digit_value, number}
 use Rattle.sdp_spec.specs.Grammar.{Content}
 use Rattle.sdp_spec.specs.Reading.{starts_with, digits, hex_behind, did_sdid_of, vpid_code_of, name_length, are_value, other_of, item_of, skip_spaces, front, fronts, items, gather, read_text, read_into}
@@ -69,29 +69,29 @@ abbrev ◌then-text◌ : List ℕ → List ℕ → List ℕ
 s then-text t = s ++ (semicolon ∷ t)
 
 abbrev says : List ℕ → Result Content
-says pairs = accepted (record { pairs = pairs; vpid = Absent })
+says pairs = Ok (record { pairs = pairs; vpid = None })
 
 -- RFC 8331, section 4: `DID_SDID={0x61,0x02};DID_SDID={0x41,0x05};VPID_Code=132`, read and written; the drafts' has no VPID code
 abbrev sample : Content
-sample = record { pairs = 0x61 ∷ 0x02 ∷ 0x41 ∷ 0x05 ∷ []; vpid = Code 132 }
+sample = record { pairs = 0x61 ∷ 0x02 ∷ 0x41 ∷ 0x05 ∷ []; vpid = Some 132 }
 
-pub reads-sample : (read_text (captions then-text afd then-text vpid) ≡ accepted sample)
-    × (read_into (captions then-text afd then-text vpid) 4 ≡ accepted sample)
+pub reads-sample : (read_text (captions then-text afd then-text vpid) ≡ Ok sample)
+    × (read_into (captions then-text afd then-text vpid) 4 ≡ Ok sample)
     × (read_text captions ≡ says (0x61 ∷ 0x02 ∷ []))
     × (read_text (captions then-text afd) ≡ says (0x61 ∷ 0x02 ∷ 0x41 ∷ 0x05 ∷ []))
 unfolding is_name is_value digit_value number starts_with digits hex_behind did_sdid_of vpid_code_of name_length are_value other_of item_of skip_spaces front fronts items gather read_text read_into
 reads-sample = (refl, refl, refl, refl)
 
-pub writes-sample : (write_text sample 55 ≡ accepted (captions then-text afd then-text vpid))
-    × (write_text (record { pairs = 0x61 ∷ 0x02 ∷ 0x41 ∷ 0x05 ∷ []; vpid = Absent }) 41 ≡ accepted (captions then-text afd))
-    × (write_text (record { pairs = []; vpid = Code 132 }) 13 ≡ accepted vpid)
-    × (write_text (record { pairs = []; vpid = Absent }) 0 ≡ accepted [])
+pub writes-sample : (write_text sample 55 ≡ Ok (captions then-text afd then-text vpid))
+    × (write_text (record { pairs = 0x61 ∷ 0x02 ∷ 0x41 ∷ 0x05 ∷ []; vpid = None }) 41 ≡ Ok (captions then-text afd))
+    × (write_text (record { pairs = []; vpid = Some 132 }) 13 ≡ Ok vpid)
+    × (write_text (record { pairs = []; vpid = None }) 0 ≡ Ok [])
 unfolding text_digits decimal_in decimal hex pair_text code_text pair_texts separated joined write_text
 writes-sample = (refl, refl, refl, refl)
 
 -- digits: one or two, of either case; leading zeros are read, and written are lower-case digits without them
 pub digits-read : (read_text short ≡ says (0x0A ∷ 0x0F ∷ []))
-    × (read_text leading ≡ accepted (record { pairs = []; vpid = Code 7 }))
+    × (read_text leading ≡ Ok (record { pairs = []; vpid = Some 7 }))
     × (read_text three ≡ refuse 41 0)
     × (read_text four ≡ refuse 41 0)
     × (read_text over ≡ refuse 41 0)
@@ -125,7 +125,7 @@ empty = (refl, refl, refl, refl, refl)
 
 -- names are exact: another case is another name, and another name is passed over with its value
 pub names : (read_text (unknown then-text afd) ≡ says (0x41 ∷ 0x05 ∷ []))
-    × (read_text (lower_name then-text vpid) ≡ accepted (record { pairs = []; vpid = Code 132 }))
+    × (read_text (lower_name then-text vpid) ≡ Ok (record { pairs = []; vpid = Some 132 }))
     × (read_text (afd then-text bare) ≡ refuse 41 1)
     × (read_text (afd then-text valueless) ≡ refuse 41 1)
 unfolding is_name is_value digit_value number starts_with digits hex_behind did_sdid_of vpid_code_of name_length are_value other_of item_of skip_spaces front fronts items gather read_text read_into
@@ -152,7 +152,7 @@ unfolding is_name is_value digit_value number starts_with digits hex_behind did_
 limits = (refl, refl, refl, refl)
 
 -- an odd octet is 41, before 43 and 44
-pub refusals-written : (write_text (record { pairs = 0x61 ∷ []; vpid = Absent }) 0 ≡ refuse 41 0)
-    × (write_text (record { pairs = 0x61 ∷ 0x02 ∷ []; vpid = Absent }) 19 ≡ refuse 44 0)
+pub refusals-written : (write_text (record { pairs = 0x61 ∷ []; vpid = None }) 0 ≡ refuse 41 0)
+    × (write_text (record { pairs = 0x61 ∷ 0x02 ∷ []; vpid = None }) 19 ≡ refuse 44 0)
 unfolding text_digits decimal_in decimal hex pair_text code_text pair_texts separated joined write_text
 refusals-written = (refl, refl)

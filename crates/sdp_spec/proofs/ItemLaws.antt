@@ -1,46 +1,35 @@
 -- Words, digits and names at the front of a text: what the readers of an item take from it.
 -- By the octet at the front.
-use mathlib.Core.Path.{◌≡◌, refl, ap, sym, ◌∙◌}
+use mathlib.Core.Path.{◌≡◌, refl, ap, ap₂, sym, ◌∙◌}
 use mathlib.Core.Bool.{Bool, true, false, cond, ◌&&◌, true≢false}
 use mathlib.Core.List.{List, [], ◌∷◌, ◌++◌}
 use Prim.Native.Nat.{ℕ, zero, suc, ◌+◌, ◌<◌, ◌≤◌}
-use native.Mathlib.Numerals.{add-one}
 use native.Mathlib.Omega.{arith}
-use lib.Dec.{leb, ltb, eqb}
-use lib.ListN.{length, drop, get_or, length-drop, drop_of_length-le}
-use lib.Seq.{drop-cons, drop-drop, get_or-drop}
-use borrow.Author.Tests.{leb-true, ltb-true, lt-ltb, le-ltb, eqb-true, eq-eqb, ne_eqb}
+use lib.Dec.{ltb, eqb}
+use lib.ListN.{length, take, drop, get_or, length-drop}
+use lib.Seq.{drop-drop, get_or-drop}
+use borrow.Author.Tests.{ltb-true, lt-ltb, le-ltb, eqb-true, eqb-false, eq-eqb, ne_eqb}
+use Rattle.std.specs.List.{list_all, prefix_len}
+use Rattle.std.specs.Cmp.Lexicographic.{pointwise}
 use Rattle.wire_spec.specs.Anc.{Each}
 use Rattle.wire_spec.proofs.ResultLaws.{and-true}
-use Rattle.sdp_spec.specs.Text.{within, is_name, is_value, digit_value, number, no_digit, hex_base, hex_most}
+use Rattle.sdp_spec.specs.Text.{is_name, is_value, digit_value, number, no_digit, hex_base, hex_most}
 use Rattle.sdp_spec.specs.Reading.{starts_with, digits, hex_behind, name_length, are_value}
 
-pub within-true : (a b o : ℕ) → within a b o ≡ true → (a ≤ o) × (o ≤ b)
-within-true a b o e = let p = and-true (leb a o) (leb o b) e in (leb-true a o p.0, leb-true o b p.1)
-
 -- WORDS
--- past the text's end no octet of a word matches
-pub starts-short : (word text : List ℕ) (i : ℕ) → i < length word → length text ≤ i → starts_with (drop i word) (drop i text) ≡ false
+same : (a b : ℕ) → eqb a b ≡ eqb b a
+same a b = go (eqb b a) refl
+  where
+    go : (t : Bool) → eqb b a ≡ t → eqb a b ≡ t
+    go true e = eq-eqb a b (sym (eqb-true b a e))
+    go false e = ne_eqb a b (λ h. eqb-false b a e (sym h))
+
+-- what the library's `starts_with` tells
+pub started : (word text : List ℕ) → pointwise eqb word (take (length word) text) ≡ starts_with word text
 unfolding starts_with
-starts-short word text i h l = rw (drop-cons word i 0 h, drop_of_length-le text l)
-
--- a word's octet, and those behind it
-starts-next : (word text : List ℕ) (i : ℕ) → i < length word → i < length text
-    → starts_with (drop i word) (drop i text) ≡ eqb (get_or text i 0) (get_or word i 0) && starts_with (drop (i + 1) word) (drop (i + 1) text)
-unfolding starts_with
-starts-next word text i h l = rw (add-one, drop-cons word i 0 h, drop-cons text i 0 l)
-
-pub starts-same : (word text : List ℕ) (i : ℕ) → i < length word → i < length text → get_or text i 0 ≡ get_or word i 0
-    → starts_with (drop (i + 1) word) (drop (i + 1) text) ≡ starts_with (drop i word) (drop i text)
-starts-same word text i h l e = sym (starts-next word text i h l ∙ rw (eq-eqb (get_or text i 0) (get_or word i 0) e))
-
-pub starts-differs : (word text : List ℕ) (i : ℕ) → i < length word → i < length text → (get_or text i 0 ≡ get_or word i 0 → ⊥)
-    → starts_with (drop i word) (drop i text) ≡ false
-starts-differs word text i h l e = starts-next word text i h l ∙ rw (ne_eqb (get_or text i 0) (get_or word i 0) e)
-
-pub starts-end : (word text : List ℕ) (i : ℕ) → length word ≤ i → starts_with (drop i word) (drop i text) ≡ true
-unfolding starts_with
-starts-end word text i h = rw (drop_of_length-le word h)
+started [] s = refl
+started (w ∷ ws) [] = refl
+started (w ∷ ws) (a ∷ s) = ap₂ ◌&&◌ (same w a) (started ws s)
 
 -- a text that starts with a word is the word and what is behind it
 pub starts_is : (word s : List ℕ) → starts_with word s ≡ true → s ≡ word ++ drop (length word) s
@@ -146,17 +135,10 @@ behind-octet word s = go (starts_with word s)
     go true = let d = digits_are hex_base hex_most (drop (length word) s) in hex-octet (digits hex_base hex_most (drop (length word) s)) d.each d.few
 
 -- NAMES
-pub name-next : (s : List ℕ) (i : ℕ) → i < length s → is_name (get_or s i 0) ≡ true → name_length (drop i s) ≡ 1 + name_length (drop (i + 1) s)
+pub name-is : (s : List ℕ) → prefix_len is_name s ≡ name_length s
 unfolding name_length
-name-next s i h e = rw (add-one, drop-cons s i 0 h, e) (omega arith)
-
-pub name-stops : (s : List ℕ) (i : ℕ) → i < length s → is_name (get_or s i 0) ≡ false → name_length (drop i s) ≡ 0
-unfolding name_length
-name-stops s i h e = rw (drop-cons s i 0 h, e)
-
-pub name-ends : (s : List ℕ) (i : ℕ) → length s ≤ i → name_length (drop i s) ≡ 0
-unfolding name_length
-name-ends s i h = rw (drop_of_length-le s h)
+name-is [] = refl
+name-is (a ∷ s) = let e : 1 + prefix_len is_name s ≡ suc (name_length s) = omega (arith, name-is s) in ap (λ (n : ℕ). cond (is_name a) n 0) e
 
 pub name-inside : (s : List ℕ) → name_length s ≤ length s
 unfolding name_length
@@ -168,16 +150,7 @@ name-inside (a ∷ s) = go (name-inside s) (is_name a)
     go h false = omega arith
 
 -- VALUES
-value-next : (s : List ℕ) (i : ℕ) → i < length s → are_value (drop i s) ≡ is_value (get_or s i 0) && are_value (drop (i + 1) s)
+pub value-is : (s : List ℕ) → list_all is_value s ≡ are_value s
 unfolding are_value
-value-next s i h = rw (add-one, drop-cons s i 0 h)
-
-pub value-holds : (s : List ℕ) (i : ℕ) → i < length s → is_value (get_or s i 0) ≡ true → are_value (drop (i + 1) s) ≡ are_value (drop i s)
-value-holds s i h e = sym (value-next s i h ∙ rw e)
-
-pub value-fails : (s : List ℕ) (i : ℕ) → i < length s → is_value (get_or s i 0) ≡ false → are_value (drop i s) ≡ false
-value-fails s i h e = value-next s i h ∙ rw e
-
-pub value-ends : (s : List ℕ) (i : ℕ) → length s ≤ i → are_value (drop i s) ≡ true
-unfolding are_value
-value-ends s i h = rw (drop_of_length-le s h)
+value-is [] = refl
+value-is (a ∷ s) = ap (λ (t : Bool). is_value a && t) (value-is s)

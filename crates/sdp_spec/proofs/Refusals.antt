@@ -1,5 +1,6 @@
 -- A text is refused exactly where 01 says so: 40; the first item that offends, by its number and index; 44.
 -- The items before one that offends are gathered, and that one is not.
+use Rattle.std.specs.Prelude.{Option, Some, None}
 use mathlib.Core.Path.{◌≡◌, refl, ap, ap₂, sym, ◌∙◌, subst}
 use mathlib.Core.Bool.{Bool, true, false, cond}
 use mathlib.Core.Logic.{◌↔◌}
@@ -11,13 +12,11 @@ use lib.ListN.{length}
 use borrow.Author.Tests.{leb-true, leb-false, le-leb, lt-leb, ltb-false, le-ltb, eqb-true, eqb-false, eq-eqb, ne_eqb}
 use Rattle.wire_spec.specs.declared.refusal.Refusal.{Refusal}
 use Rattle.wire_spec.specs.Anc.{Each}
-use Rattle.wire_spec.specs.Result.{Result, refused, accepted, refuse, judge, ◌then◌}
+use Rattle.wire_spec.specs.Result.{Result, Err, Ok, refuse, judge, ◌then◌}
 use Rattle.wire_spec.proofs.ResultLaws.{refused-inj, not-refused}
 use Rattle.sdp_spec.specs.declared.item.Item.{Item}
 use Rattle.sdp_spec.specs.declared.item.Item.TheVariants.{DidSdid, VpidCode, Other, Malformed}
 use Rattle.sdp_spec.specs.declared.parameters.Parameters.{Parameters}
-use Rattle.sdp_spec.specs.declared.parameters.Vpid.{Vpid}
-use Rattle.sdp_spec.specs.declared.parameters.Vpid.TheVariants.{Code, Absent}
 use Rattle.sdp_spec.specs.Text.{max_text, max_pairs}
 use Rattle.sdp_spec.specs.Grammar.{ItemText, pairs_of, codes_of, codes, Content}
 use Rattle.sdp_spec.specs.Reading.{item_of, items, add_code, add, gather, none, read_text, read_into}
@@ -35,21 +34,21 @@ record At (i : ℕ) (p : Parameters) (ts : List (List ℕ)) (x : Refusal) : Type
   after : List (List ℕ)
   parts : ts ≡ before ++ (item ∷ after)
   found : Parameters
-  gathered : gather i p (map item_of before) ≡ accepted found
-  adds : add (i + length before) found (item_of item) ≡ refused x
+  gathered : gather i p (map item_of before) ≡ Ok found
+  adds : add (i + length before) found (item_of item) ≡ Err x
 
-refused-at : (i : ℕ) (p : Parameters) (ts : List (List ℕ)) (x : Refusal) → gather i p (map item_of ts) ≡ refused x → At i p ts x
+refused-at : (i : ℕ) (p : Parameters) (ts : List (List ℕ)) (x : Refusal) → gather i p (map item_of ts) ≡ Err x → At i p ts x
 unfolding gather
 refused-at i p [] x e = absurd (not-refused e)
 refused-at i p (t ∷ ts) x e = go (add i p (item_of t)) refl e (λ q. refused-at (i + 1) q ts x)
   where
-    go : (r : Result Parameters) → add i p (item_of t) ≡ r → (r then λ q. gather (i + 1) q (map item_of ts)) ≡ refused x
-        → ((q : Parameters) → gather (i + 1) q (map item_of ts) ≡ refused x → At (i + 1) q ts x) → At i p (t ∷ ts) x
-    go (refused y) h e ih = record { before = []; item = t; after = ts; parts = refl; found = p; gathered = refl; adds = ap (λ (n : ℕ). add n p (item_of t)) (plus i) ∙ h ∙ e }
+    go : (r : Result Parameters) → add i p (item_of t) ≡ r → (r then λ q. gather (i + 1) q (map item_of ts)) ≡ Err x
+        → ((q : Parameters) → gather (i + 1) q (map item_of ts) ≡ Err x → At (i + 1) q ts x) → At i p (t ∷ ts) x
+    go (Err y) h e ih = record { before = []; item = t; after = ts; parts = refl; found = p; gathered = refl; adds = ap (λ (n : ℕ). add n p (item_of t)) (plus i) ∙ h ∙ e }
       where
         plus : (n : ℕ) → n + 0 ≡ n
         plus n = omega arith
-    go (accepted q) h e ih =
+    go (Ok q) h e ih =
         let a = ih q e in
         let sum : i + suc (length a.before) ≡ i + 1 + length a.before = omega arith in
         record {
@@ -63,7 +62,7 @@ refused-at i p (t ∷ ts) x e = go (add i p (item_of t)) refl e (λ q. refused-a
         }
 
 at-refused : (i : ℕ) (p q : Parameters) (before : List (List ℕ)) (item : List ℕ) (after : List (List ℕ)) (x : Refusal)
-    → gather i p (map item_of before) ≡ accepted q → add (i + length before) q (item_of item) ≡ refused x → gather i p (map item_of (before ++ (item ∷ after))) ≡ refused x
+    → gather i p (map item_of before) ≡ Ok q → add (i + length before) q (item_of item) ≡ Err x → gather i p (map item_of (before ++ (item ∷ after))) ≡ Err x
 unfolding gather
 at-refused i p q [] item after x g e =
     let same : p ≡ q = cc in
@@ -71,12 +70,12 @@ at-refused i p q [] item after x g e =
     ap (λ (r : Result Parameters). r then λ q. gather (i + 1) q (map item_of after)) (ap₂ (λ (n : ℕ) (p : Parameters). add n p (item_of item)) (sym sum) same ∙ e)
 at-refused i p q (t ∷ before) item after x g e = go (add i p (item_of t)) refl g (λ r. at-refused (i + 1) r q before item after x)
   where
-    go : (r : Result Parameters) → add i p (item_of t) ≡ r → (r then λ q. gather (i + 1) q (map item_of before)) ≡ accepted q
-        → ((r : Parameters) → gather (i + 1) r (map item_of before) ≡ accepted q → add (i + 1 + length before) q (item_of item) ≡ refused x
-        → gather (i + 1) r (map item_of (before ++ (item ∷ after))) ≡ refused x)
-        → (add i p (item_of t) then λ q. gather (i + 1) q (map item_of (before ++ (item ∷ after)))) ≡ refused x
-    go (refused y) h g ih = absurd (not-refused (sym g))
-    go (accepted r) h g ih =
+    go : (r : Result Parameters) → add i p (item_of t) ≡ r → (r then λ q. gather (i + 1) q (map item_of before)) ≡ Ok q
+        → ((r : Parameters) → gather (i + 1) r (map item_of before) ≡ Ok q → add (i + 1 + length before) q (item_of item) ≡ Err x
+        → gather (i + 1) r (map item_of (before ++ (item ∷ after))) ≡ Err x)
+        → (add i p (item_of t) then λ q. gather (i + 1) q (map item_of (before ++ (item ∷ after)))) ≡ Err x
+    go (Err y) h g ih = absurd (not-refused (sym g))
+    go (Ok r) h g ih =
         let sum : i + suc (length before) ≡ i + 1 + length before = omega arith in
         ap (λ (r : Result Parameters). r then λ q. gather (i + 1) q (map item_of (before ++ (item ∷ after)))) h
         ∙ ih r g (ap (λ (n : ℕ). add n q (item_of item)) (sym sum) ∙ e)
@@ -92,13 +91,13 @@ texts-are [] (t ∷ ts) h = absurd h
 texts-are (x ∷ xs) [] h = absurd h
 texts-are (x ∷ xs) (t ∷ ts) h = let r = texts-are xs ts h.1 in (ap₂ ◌∷◌ (text-item x t h.0) r.0, (text-formed x t h.0, r.1))
 
-one_code : (v : Vpid) → length (codes v) ≤ 1
-one_code (Code c) = omega arith
-one_code Absent = omega arith
+one_code : (v : Option ℕ) → length (codes v) ≤ 1
+one_code (Some c) = omega arith
+one_code None = omega arith
 
-abbrev vpid_of : List ℕ → Vpid
-vpid_of [] = Absent
-vpid_of (c ∷ l) = Code c
+abbrev vpid_of : List ℕ → Option ℕ
+vpid_of [] = None
+vpid_of (c ∷ l) = Some c
 
 codes-of : (l : List ℕ) → length l ≤ 1 → codes (vpid_of l) ≡ l
 codes-of [] h = refl
@@ -116,7 +115,7 @@ gathered-sound ts q a =
 -- what sound items have added up to
 record Gathered (ts : List (List ℕ)) (xs : List Item) : Type 0 where
   found : Parameters
-  gathered : gather 0 none (map item_of ts) ≡ accepted found
+  gathered : gather 0 none (map item_of ts) ≡ Ok found
   pairs : 2 * found.pairs ≡ length (pairs_of xs)
   vpid : codes found.vpid ≡ codes_of xs
 
@@ -132,25 +131,25 @@ sound-gathered ts xs s =
 
 -- BY WHICH NUMBER
 offends-by : (i : ℕ) (q : Parameters) (xs : List Item) (t : List ℕ) (x : Refusal) → 2 * q.pairs ≡ length (pairs_of xs) → q.pairs ≤ max_pairs → codes q.vpid ≡ codes_of xs
-    → add i q (item_of t) ≡ refused x → OffendsBy xs t x.number × (x.index ≡ i)
+    → add i q (item_of t) ≡ Err x → OffendsBy xs t x.number × (x.index ≡ i)
 offends-by i q xs t x n few c e = go (item_of t) refl e
   where
-    code : (v : Vpid) → q.vpid ≡ v → (c : ℕ) → item_of t ≡ VpidCode c → add_code i q.pairs v c ≡ refused x → OffendsBy xs t x.number × (x.index ≡ i)
-    code (Code d) k v h e =
+    code : (v : Option ℕ) → q.vpid ≡ v → (c : ℕ) → item_of t ≡ VpidCode c → add_code i q.pairs v c ≡ Err x → OffendsBy xs t x.number × (x.index ≡ i)
+    code (Some d) k v h e =
         let r : record { number = 42; index = i } ≡ x = cc in
         let one : length (codes_of xs) ≡ 1 = ap length (sym c ∙ ap codes k) in
         (second_code (ap (λ (y : Refusal). y.number) (sym r)) v (item-text t (VpidCode v) h tt) one, ap (λ (y : Refusal). y.index) (sym r))
-    code Absent k v h e = absurd (not-refused e)
+    code None k v h e = absurd (not-refused e)
 
     pair : (did sdid : ℕ) → item_of t ≡ DidSdid did sdid → (b : Bool) → ltb q.pairs max_pairs ≡ b
-        → cond {A = Result Parameters} b (accepted (record { pairs = q.pairs + 1; vpid = q.vpid })) (refuse 43 i) ≡ refused x → OffendsBy xs t x.number × (x.index ≡ i)
+        → cond {A = Result Parameters} b (Ok (record { pairs = q.pairs + 1; vpid = q.vpid })) (refuse 43 i) ≡ Err x → OffendsBy xs t x.number × (x.index ≡ i)
     pair did sdid h true k e = absurd (not-refused e)
     pair did sdid h false k e =
         let r : record { number = 43; index = i } ≡ x = cc in
         let l = ltb-false q.pairs max_pairs k in
         (pair_too_many (ap (λ (y : Refusal). y.number) (sym r)) did sdid (item-text t (DidSdid did sdid) h tt) (omega arith), ap (λ (y : Refusal). y.index) (sym r))
 
-    go : (y : Item) → item_of t ≡ y → add i q y ≡ refused x → OffendsBy xs t x.number × (x.index ≡ i)
+    go : (y : Item) → item_of t ≡ y → add i q y ≡ Err x → OffendsBy xs t x.number × (x.index ≡ i)
     go (DidSdid did sdid) h e = pair did sdid h (ltb q.pairs max_pairs) refl e
     go (VpidCode v) h e = code q.vpid refl v h e
     go Other h e = absurd (not-refused e)
@@ -172,25 +171,25 @@ malformed-is t none_of = go (item_of t) refl
     go Malformed h = refl
 
 by-refused : (i : ℕ) (q : Parameters) (xs : List Item) (t : List ℕ) (x : Refusal) → 2 * q.pairs ≡ length (pairs_of xs) → codes q.vpid ≡ codes_of xs
-    → x.index ≡ i → OffendsBy xs t x.number → add i q (item_of t) ≡ refused x
-by-refused i q xs t x n c at (malformed h none_of) = rw (malformed-is t none_of) (ap refused (refusal_is x 41 i h at))
+    → x.index ≡ i → OffendsBy xs t x.number → add i q (item_of t) ≡ Err x
+by-refused i q xs t x n c at (malformed h none_of) = rw (malformed-is t none_of) (ap Err (refusal_is x 41 i h at))
 by-refused i q xs t x n c at (second_code h code text one) = ap (add i q) (text-item (VpidCode code) t text) ∙ go q.vpid refl
   where
-    go : (v : Vpid) → q.vpid ≡ v → add_code i q.pairs v code ≡ refused x
-    go (Code d) k = ap refused (refusal_is x 42 i h at)
-    go Absent k = let z : ◌≡◌ {A = ℕ} 0 1 = ap length (sym (ap codes k)) ∙ ap length c ∙ one in absurd (omega arith)
+    go : (v : Option ℕ) → q.vpid ≡ v → add_code i q.pairs v code ≡ Err x
+    go (Some d) k = ap Err (refusal_is x 42 i h at)
+    go None k = let z : ◌≡◌ {A = ℕ} 0 1 = ap length (sym (ap codes k)) ∙ ap length c ∙ one in absurd (omega arith)
 by-refused i q xs t x n c at (pair_too_many h did sdid text all) =
-    ap (add i q) (text-item (DidSdid did sdid) t text) ∙ rw (le-ltb q.pairs max_pairs (omega arith)) (ap refused (refusal_is x 43 i h at))
+    ap (add i q) (text-item (DidSdid did sdid) t text) ∙ rw (le-ltb q.pairs max_pairs (omega arith)) (ap Err (refusal_is x 43 i h at))
 
 zero-plus : (n : ℕ) → 0 + n ≡ n
 zero-plus n = omega arith
 
 -- THE ITEMS of a text
 module _ (s : List ℕ) (x : Refusal) where
-  pub gather-offends : gather 0 none (items s) ≡ refused x → Offends s x
+  pub gather-offends : gather 0 none (items s) ≡ Err x → Offends s x
   gather-offends e = go (ltb 0 (length s)) refl
     where
-      empty : (s : List ℕ) → length s ≤ 0 → gather 0 none (items s) ≡ refused x → ⊥
+      empty : (s : List ℕ) → length s ≤ 0 → gather 0 none (items s) ≡ Err x → ⊥
       empty [] h e = unfold items in (unfold gather in (not-refused e))
       empty (a ∷ s) h e = omega arith
 
@@ -217,7 +216,7 @@ module _ (s : List ℕ) (x : Refusal) where
           ltb-some : ltb 0 (length s) ≡ true → 0 < length s
           ltb-some k = leb-true 1 (length s) k
 
-  pub offends-gather : Offends s x → gather 0 none (items s) ≡ refused x
+  pub offends-gather : Offends s x → gather 0 none (items s) ≡ Err x
   offends-gather o =
       let g = sound-gathered o.before o.items o.sound in
       let all : items s ≡ map item_of (o.before ++ (o.item ∷ o.after)) = items-are s o.some ∙ ap (map item_of) (cut-is (o.before ++ (o.item ∷ o.after)) s o.cut) in
@@ -226,55 +225,55 @@ module _ (s : List ℕ) (x : Refusal) where
       (ap (λ (n : ℕ). add n g.found (item_of o.item)) (zero-plus (length o.before)) ∙ by-refused (length o.before) g.found o.items o.item x g.pairs g.vpid o.index o.by)
 
   abbrev said : Parameters → Result Content
-  said p = accepted (record { pairs = pairs_of (items s); vpid = p.vpid })
+  said p = Ok (record { pairs = pairs_of (items s); vpid = p.vpid })
 
   abbrev fitted : ℕ → Content → Result Content
-  fitted room k = judge 0 ((leb (length k.pairs) room, 44) ∷ []) (accepted k)
+  fitted room k = judge 0 ((leb (length k.pairs) room, 44) ∷ []) (Ok k)
 
   -- A TEXT IS REFUSED exactly so
-  pub read-refuses : (room : ℕ) → (read_into s room ≡ refused x) ↔ Refuses s room x
+  pub read-refuses : (room : ℕ) → (read_into s room ≡ Err x) ↔ Refuses s room x
   unfolding read_into read_text
   read-refuses room = (λ e. long (leb (length s) max_text) refl e, back)
     where
-      full : (k : Content) → read_text s ≡ accepted k → (b : Bool) → leb (length k.pairs) room ≡ b → cond b (accepted k) (refuse 44 0) ≡ refused x → Refuses s room x
+      full : (k : Content) → read_text s ≡ Ok k → (b : Bool) → leb (length k.pairs) room ≡ b → cond b (Ok k) (refuse 44 0) ≡ Err x → Refuses s room x
       full k h true c e = absurd (not-refused e)
       full k h false c e = too_small k ((accepts-iff s k).0 h) (leb-false (length k.pairs) room c) (sym (refused-inj e))
 
       parts : length s ≤ 4096 → (r : Result Parameters) → gather 0 none (items s) ≡ r
-          → ((r then said) then fitted room) ≡ refused x
+          → ((r then said) then fitted room) ≡ Err x
           → Refuses s room x
-      parts l (refused y) g e = offends l (gather-offends (g ∙ ap refused (refused-inj e)))
-      parts l (accepted p) g e =
+      parts l (Err y) g e = offends l (gather-offends (g ∙ ap Err (refused-inj e)))
+      parts l (Ok p) g e =
           full (record { pairs = pairs_of (items s); vpid = p.vpid })
           (rw (le-leb (length s) max_text l, g)) (leb (length (pairs_of (items s))) room) refl e
 
       long : (b : Bool) → leb (length s) max_text ≡ b
-          → (cond b (gather 0 none (items s) then said) (refuse 40 0) then fitted room) ≡ refused x
+          → (cond b (gather 0 none (items s) then said) (refuse 40 0) then fitted room) ≡ Err x
           → Refuses s room x
       long false h e = too_long (leb-false (length s) max_text h) (sym (refused-inj e))
       long true h e = parts (leb-true (length s) max_text h) (gather 0 none (items s)) refl e
 
-      back : Refuses s room x → read_into s room ≡ refused x
-      back (too_long h e) = unfold read_into in (unfold read_text in (rw (lt-leb (length s) max_text h) (ap refused (sym e))))
+      back : Refuses s room x → read_into s room ≡ Err x
+      back (too_long h e) = unfold read_into in (unfold read_text in (rw (lt-leb (length s) max_text h) (ap Err (sym e))))
       back (offends h o) = unfold read_into in (unfold read_text in (rw (le-leb (length s) max_text h, offends-gather o)))
-      back (too_small k t h e) = unfold read_into in (rw ((accepts-iff s k).1 t, lt-leb (length k.pairs) room h) (ap refused (sym e)))
+      back (too_small k t h e) = unfold read_into in (rw ((accepts-iff s k).1 t, lt-leb (length k.pairs) room h) (ap Err (sym e)))
 
 -- AND PARAMETERS that are written: 41, 43, 44
-module _ (pairs : List ℕ) (v : Vpid) (room : ℕ) where
+module _ (pairs : List ℕ) (v : Option ℕ) (room : ℕ) where
   abbrev k : Content
   k = record { pairs = pairs; vpid = v }
 
-  pub write-refuses : (x : Refusal) → (write_text k (room) ≡ refused x) ↔ WriteRefuses pairs v (room) x
+  pub write-refuses : (x : Refusal) → (write_text k (room) ≡ Err x) ↔ WriteRefuses pairs v (room) x
   unfolding write_text
   write-refuses x = (λ e. whole (eqb (length pairs % 2) 0) refl e, back)
     where
       full : length pairs % 2 ≡ 0 → length pairs ≤ 2 * 64 → (b : Bool) → leb (length (text_of k)) (room) ≡ b
-          → cond b (accepted (text_of k)) (refuse 44 0) ≡ refused x → WriteRefuses pairs v (room) x
+          → cond b (Ok (text_of k)) (refuse 44 0) ≡ Err x → WriteRefuses pairs v (room) x
       full h l true q e = absurd (not-refused e)
       full h l false q e = no_room h l (leb-false (length (text_of k)) (room) q) (sym (refused-inj e))
 
       many : length pairs % 2 ≡ 0 → (b : Bool) → leb (length pairs) (2 * 64) ≡ b
-          → cond b (cond (leb (length (text_of k)) (room)) (accepted (text_of k)) (refuse 44 0)) (refuse 43 0) ≡ refused x → WriteRefuses pairs v (room) x
+          → cond b (cond (leb (length (text_of k)) (room)) (Ok (text_of k)) (refuse 44 0)) (refuse 43 0) ≡ Err x → WriteRefuses pairs v (room) x
       many h true q e = full h (leb-true (length pairs) (2 * 64) q) (leb (length (text_of k)) (room)) refl e
       many h false q e = too_many h (leb-false (length pairs) (2 * 64) q) (sym (refused-inj e))
 
@@ -282,12 +281,12 @@ module _ (pairs : List ℕ) (v : Vpid) (room : ℕ) where
       is_odd q = let n = eqb-false (length pairs % 2) 0 q in omega arith
 
       whole : (b : Bool) → eqb (length pairs % 2) 0 ≡ b
-          → cond b (cond (leb (length pairs) (2 * 64)) (cond (leb (length (text_of k)) (room)) (accepted (text_of k)) (refuse 44 0)) (refuse 43 0)) (refuse 41 0) ≡ refused x
+          → cond b (cond (leb (length pairs) (2 * 64)) (cond (leb (length (text_of k)) (room)) (Ok (text_of k)) (refuse 44 0)) (refuse 43 0)) (refuse 41 0) ≡ Err x
           → WriteRefuses pairs v (room) x
       whole true q e = many (eqb-true (length pairs % 2) 0 q) (leb (length pairs) (2 * 64)) refl e
       whole false q e = odd (is_odd q) (sym (refused-inj e))
 
-      back : WriteRefuses pairs v (room) x → write_text k (room) ≡ refused x
-      back (odd h e) = unfold write_text in (rw (ne_eqb (length pairs % 2) 0 (λ q. omega arith)) (ap refused (sym e)))
-      back (too_many h l e) = unfold write_text in (rw (eq-eqb (length pairs % 2) 0 h, lt-leb (length pairs) (2 * 64) l) (ap refused (sym e)))
-      back (no_room h l s e) = unfold write_text in (rw (eq-eqb (length pairs % 2) 0 h, le-leb (length pairs) (2 * 64) l, lt-leb (length (text_of k)) (room) s) (ap refused (sym e)))
+      back : WriteRefuses pairs v (room) x → write_text k (room) ≡ Err x
+      back (odd h e) = unfold write_text in (rw (ne_eqb (length pairs % 2) 0 (λ q. omega arith)) (ap Err (sym e)))
+      back (too_many h l e) = unfold write_text in (rw (eq-eqb (length pairs % 2) 0 h, lt-leb (length pairs) (2 * 64) l) (ap Err (sym e)))
+      back (no_room h l s e) = unfold write_text in (rw (eq-eqb (length pairs % 2) 0 h, le-leb (length pairs) (2 * 64) l, lt-leb (length (text_of k)) (room) s) (ap Err (sym e)))

@@ -1,5 +1,6 @@
 -- WHAT IS WRITTEN READS BACK THE SAME, for every list of at most 64 pairs and every VPID code or none.
 -- What is written is a text of the pairs' items and the VPID code's, so the grammar accepts it.
+use Rattle.std.specs.Prelude.{Option, Some, None}
 use mathlib.Core.Path.{◌≡◌, refl, ap, sym, ◌∙◌, subst}
 use mathlib.Core.Bool.{Bool, true, false, cond, ◌&&◌}
 use mathlib.Core.List.{List, [], ◌∷◌, ◌++◌, append-nil}
@@ -9,13 +10,11 @@ use lib.Dec.{leb, ltb, eqb}
 use lib.ListN.{length}
 use borrow.Author.Tests.{ltb-true, ltb-false, le-leb, lt-leb, leb-true, eqb-true}
 use Rattle.wire_spec.specs.Bits.{Below}
-use Rattle.wire_spec.specs.Result.{accepted, Checks}
+use Rattle.wire_spec.specs.Result.{Ok, Checks}
 use Rattle.wire_spec.proofs.ResultLaws.{accepted-inj, judge-accepts}
 use Rattle.text.specs.Text.{digit, digits, decimal, hex}
 use Rattle.sdp_spec.specs.declared.item.Item.{Item}
 use Rattle.sdp_spec.specs.declared.item.Item.TheVariants.{DidSdid, VpidCode}
-use Rattle.sdp_spec.specs.declared.parameters.Vpid.{Vpid}
-use Rattle.sdp_spec.specs.declared.parameters.Vpid.TheVariants.{Code, Absent}
 use Rattle.sdp_spec.specs.Text.{digit_value, number, hex_base, hex_most, decimal_base, decimal_most, max_pairs}
 use Rattle.sdp_spec.specs.Grammar.{Numeral, ItemText, ItemsText, pairs_of, codes_of, codes, Content, Says}
 use Rattle.sdp_spec.specs.Reading.{read_text, read_into}
@@ -104,39 +103,39 @@ joined-text (x ∷ y ∷ xs) (t ∷ u ∷ ts) h =
     record { first = t; spaces = 0; rest = joined (u ∷ ts); is_first = h.0; is_rest = joined-text (y ∷ xs) (u ∷ ts) h.1; text = refl }
 
 -- the items that are written
-abbrev code_items : Vpid → List Item
-code_items (Code code) = VpidCode code ∷ []
-code_items Absent = []
+abbrev code_items : Option ℕ → List Item
+code_items (Some code) = VpidCode code ∷ []
+code_items None = []
 
-abbrev written_items : List ℕ → Vpid → List Item
+abbrev written_items : List ℕ → Option ℕ → List Item
 written_items [] v = code_items v
 written_items (did ∷ []) v = code_items v
 written_items (did ∷ sdid ∷ l) v = DidSdid did sdid ∷ written_items l v
 
-code-texts : (v : Vpid) → Below 256 (codes v) → Texts (code_items v) (code_texts v)
-code-texts (Code code) h = (code-item code h.0, tt)
-code-texts Absent h = tt
+code-texts : (v : Option ℕ) → Below 256 (codes v) → Texts (code_items v) (code_texts v)
+code-texts (Some code) h = (code-item code h.0, tt)
+code-texts None h = tt
 
-written-texts : (l : List ℕ) (v : Vpid) → Below 256 l → Below 256 (codes v) → Texts (written_items l v) (pair_texts l ++ code_texts v)
+written-texts : (l : List ℕ) (v : Option ℕ) → Below 256 l → Below 256 (codes v) → Texts (written_items l v) (pair_texts l ++ code_texts v)
 unfolding pair_texts
 written-texts [] v h k = code-texts v k
 written-texts (did ∷ []) v h k = code-texts v k
 written-texts (did ∷ sdid ∷ l) v h k = (pair-item did sdid h.0 h.1.0, written-texts l v h.1.1 k)
 
-code-pairs : (v : Vpid) → pairs_of (code_items v) ≡ []
-code-pairs (Code code) = refl
-code-pairs Absent = refl
+code-pairs : (v : Option ℕ) → pairs_of (code_items v) ≡ []
+code-pairs (Some code) = refl
+code-pairs None = refl
 
-written-pairs : (l : List ℕ) (v : Vpid) → length l % 2 ≡ 0 → pairs_of (written_items l v) ≡ l
+written-pairs : (l : List ℕ) (v : Option ℕ) → length l % 2 ≡ 0 → pairs_of (written_items l v) ≡ l
 written-pairs [] v h = code-pairs v
 written-pairs (did ∷ []) v h = absurd (omega arith)
 written-pairs (did ∷ sdid ∷ l) v h = ap (λ (x : List ℕ). did ∷ sdid ∷ x) (written-pairs l v (omega (arith, h)))
 
-written-codes : (l : List ℕ) (v : Vpid) → codes_of (written_items l v) ≡ codes v
-written-codes [] (Code code) = refl
-written-codes [] Absent = refl
-written-codes (did ∷ []) (Code code) = refl
-written-codes (did ∷ []) Absent = refl
+written-codes : (l : List ℕ) (v : Option ℕ) → codes_of (written_items l v) ≡ codes v
+written-codes [] (Some code) = refl
+written-codes [] None = refl
+written-codes (did ∷ []) (Some code) = refl
+written-codes (did ∷ []) None = refl
 written-codes (did ∷ sdid ∷ l) v = written-codes l v
 
 pub text_says : (k : Content) → Writable k → Says (text_of k) k
@@ -152,15 +151,15 @@ text_says k w =
       short = let f = w.few in omega (arith, text-size l v w.whole, codes-few v);
     }
 
-pub text-reads : (k : Content) → Writable k → read_text (text_of k) ≡ accepted k
+pub text-reads : (k : Content) → Writable k → read_text (text_of k) ≡ Ok k
 text-reads k w = (accepts-iff (text_of k) k).1 (text_says k w)
 
 -- what the writer wrote, the reader reads, with room for the pairs
 pub written-reads : (k : Content) → Below 256 k.pairs → Below 256 (codes k.vpid) → (room space : ℕ) (s : List ℕ)
-    → write_text k room ≡ accepted s → length k.pairs ≤ space → read_into s space ≡ accepted k
+    → write_text k room ≡ Ok s → length k.pairs ≤ space → read_into s space ≡ Ok k
 unfolding write_text
 written-reads k h c room space s e l =
     let ts : Checks = (eqb (length k.pairs % 2) 0, 41) ∷ (leb (length k.pairs) (2 * max_pairs), 43) ∷ (leb (length (text_of k)) room, 44) ∷ [] in
-    let a = judge-accepts 0 ts (accepted (text_of k)) s e in
+    let a = judge-accepts 0 ts (Ok (text_of k)) s e in
     let w : Writable k = record { octets = h; code = c; whole = eqb-true (length k.pairs % 2) 0 a.0.0; few = leb-true (length k.pairs) (2 * max_pairs) a.0.1.0 } in
     ap (λ (t : List ℕ). read_into t space) (sym (accepted-inj a.1)) ∙ (room-iff (text_of k) space k).1 (text_says k w, l)

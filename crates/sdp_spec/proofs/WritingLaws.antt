@@ -1,5 +1,6 @@
 -- The size of a written text: 21 octets for each pair with its `;`, and a `;` less than there are items.
 -- By the items from left to right.
+use Rattle.std.specs.Prelude.{Option, Some, None}
 use mathlib.Core.Path.{◌≡◌, refl, ap, sym, ◌∙◌}
 use mathlib.Core.List.{List, [], ◌∷◌, ◌++◌, append_assoc}
 use Prim.Native.Nat.{ℕ, ◌+◌, ◌-◌, ◌*◌, ◌/◌, ◌%◌, ◌<◌, ◌≤◌}
@@ -8,8 +9,6 @@ use lib.ListN.{length, length-append}
 use borrow.Author.Tests.{lt-ltb, le-ltb}
 use Rattle.text.specs.Text.{digit, digits, decimal_most, decimal_in, decimal, hex}
 use Rattle.text.proofs.TextLaws.{length-decimal}
-use Rattle.sdp_spec.specs.declared.parameters.Vpid.{Vpid}
-use Rattle.sdp_spec.specs.declared.parameters.Vpid.TheVariants.{Code, Absent}
 use Rattle.sdp_spec.specs.Text.{semicolon, vpid_code_word}
 use Rattle.sdp_spec.specs.Writing.{pair_text, code_text, pair_texts, code_texts, separated, joined}
 
@@ -56,17 +55,17 @@ unfolding decimal decimal_in
 decimal-three n h k = rw (le-ltb n 10 (omega arith), le-ltb (n / 10) 10 (omega arith), lt-ltb (n / 10 / 10) 10 (omega arith))
 
 -- the item of a VPID code with its `;`
-pub codes-size : (code : ℕ) → length (separated (code_texts (Code code))) ≡ 11 + length (decimal code)
+pub codes-size : (code : ℕ) → length (separated (code_texts (Some code))) ≡ 11 + length (decimal code)
 unfolding separated
 codes-size code = omega (arith, code-size code, length-append (code_text code) [])
 
-pub codes-few : (v : Vpid) → length (separated (code_texts v)) ≤ 11 + decimal_most
+pub codes-few : (v : Option ℕ) → length (separated (code_texts v)) ≤ 11 + decimal_most
 unfolding separated
-codes-few (Code code) = omega (arith, codes-size code, length-decimal code)
-codes-few Absent = omega arith
+codes-few (Some code) = omega (arith, codes-size code, length-decimal code)
+codes-few None = omega arith
 
 -- a whole text
-pub text-size : (l : List ℕ) (v : Vpid) → length l % 2 ≡ 0
+pub text-size : (l : List ℕ) (v : Option ℕ) → length l % 2 ≡ 0
     → length (joined (pair_texts l ++ code_texts v)) ≡ 21 * (length l / 2) + length (separated (code_texts v)) - 1
 text-size l v h =
     joined-size (pair_texts l ++ code_texts v)

@@ -1,10 +1,8 @@
 -- What a text of parameters is (01, "SDP parameters"; RFC 8331, section 4): its items, and what they say.
-use Rattle.std.specs.Prelude.{◌≡◌, true, List, [], ◌∷◌, ◌++◌, ℕ, ◌*◌, ◌<◌, ◌≤◌, length, replicate}
+use Rattle.std.specs.Prelude.{◌≡◌, true, List, [], ◌∷◌, ◌++◌, ℕ, ◌*◌, ◌<◌, ◌≤◌, length, replicate, Option, Some, None}
 use Rattle.wire_spec.specs.Anc.{Each}
 use Rattle.sdp_spec.specs.declared.item.Item.{Item}
 use Rattle.sdp_spec.specs.declared.item.Item.TheVariants.{DidSdid, VpidCode, Other, Malformed}
-use Rattle.sdp_spec.specs.declared.parameters.Vpid.{Vpid}
-use Rattle.sdp_spec.specs.declared.parameters.Vpid.TheVariants.{Code, Absent}
 use Rattle.sdp_spec.specs.Text.{semicolon, space, equals_sign, did_sdid_name, vpid_code_name, did_sdid_word, vpid_code_word, open_word, comma_word, close_word, is_name, is_value, digit_value, number, hex_base, hex_most, decimal_base, decimal_most, max_code, max_text, max_pairs}
 
 -- "one or two hex digits", "one to three digits": one to `most` digits of a base, that write the number `n`
@@ -82,12 +80,12 @@ codes_of (Malformed ∷ xs) = codes_of xs
 -- what a text says: the pairs as octets, DID and SDID in turn, and the VPID code
 pub record Content : Type 0 where
   pub pairs : List ℕ
-  pub vpid : Vpid
+  pub vpid : Option ℕ
 
 -- "the VPID_Code or none", as a list
-abbrev pub codes : Vpid → List ℕ
-codes (Code code) = code ∷ []
-codes Absent = []
+abbrev pub codes : Option ℕ → List ℕ
+codes (Some code) = code ∷ []
+codes None = []
 
 -- a text of well-formed items says their pairs in order, with at most 64 of them, and the one VPID code or none
 pub record Says (s : List ℕ) (k : Content) : Type 0 where

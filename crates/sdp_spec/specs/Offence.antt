@@ -1,9 +1,8 @@
 -- When parameters are refused, by the grammar of the items and without the reader: "Order: 40; items left to right, the first that offends; 44".
-use Rattle.std.specs.Prelude.{◌≡◌, List, [], ◌∷◌, ◌++◌, ℕ, ◌*◌, ◌%◌, ◌<◌, ◌≤◌, length, replicate}
+use Rattle.std.specs.Prelude.{◌≡◌, List, [], ◌∷◌, ◌++◌, ℕ, ◌*◌, ◌%◌, ◌<◌, ◌≤◌, length, replicate, Option}
 use Rattle.wire_spec.specs.declared.refusal.Refusal.{Refusal}
 use Rattle.wire_spec.specs.Anc.{Each}
 use Rattle.sdp_spec.specs.declared.item.Item.{Item}
-use Rattle.sdp_spec.specs.declared.parameters.Vpid.{Vpid}
 use Rattle.sdp_spec.specs.Grammar.{DidSdidText, VpidCodeText, ItemText, pairs_of, codes_of, Content, Says}
 use Rattle.sdp_spec.specs.Writing.{text_of}
 
@@ -67,7 +66,7 @@ pub data Refuses (s : List ℕ) (room : ℕ) (x : Refusal) : Type 0 where
   too_small : (k : Content) → Says s k → room < length k.pairs → x ≡ record { number = 44; index = 0 } → Refuses s room x
 
 -- and parameters are refused that are to be written: "an odd octet being 41, index 0, before 43", then 44
-pub data WriteRefuses (pairs : List ℕ) (vpid : Vpid) (room : ℕ) (x : Refusal) : Type 0 where
+pub data WriteRefuses (pairs : List ℕ) (vpid : Option ℕ) (room : ℕ) (x : Refusal) : Type 0 where
   odd : length pairs % 2 ≡ 1 → x ≡ record { number = 41; index = 0 } → WriteRefuses pairs vpid room x
   too_many : length pairs % 2 ≡ 0 → 2 * 64 < length pairs → x ≡ record { number = 43; index = 0 } → WriteRefuses pairs vpid room x
   no_room : length pairs % 2 ≡ 0 → length pairs ≤ 2 * 64 → room < length (text_of (record { pairs = pairs; vpid = vpid }))

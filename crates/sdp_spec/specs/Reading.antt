@@ -1,11 +1,9 @@
 -- Reading a text of parameters, in 01's order: "40; items left to right, the first that offends; 44".
-use Rattle.std.specs.Prelude.{Bool, true, false, cond, ◌&&◌, List, [], ◌∷◌, map, ℕ, zero, suc, ◌+◌, eqb, leb, ltb, length, drop, get_or}
-use Rattle.wire_spec.specs.Result.{Result, accepted, refuse, judge, ◌then◌}
+use Rattle.std.specs.Prelude.{Bool, true, false, cond, ◌&&◌, List, [], ◌∷◌, map, ℕ, zero, suc, ◌+◌, eqb, leb, ltb, length, drop, get_or, Option, Some, None}
+use Rattle.wire_spec.specs.Result.{Result, Ok, refuse, judge, ◌then◌}
 use Rattle.sdp_spec.specs.declared.item.Item.{Item}
 use Rattle.sdp_spec.specs.declared.item.Item.TheVariants.{DidSdid, VpidCode, Other, Malformed}
 use Rattle.sdp_spec.specs.declared.parameters.Parameters.{Parameters}
-use Rattle.sdp_spec.specs.declared.parameters.Vpid.{Vpid}
-use Rattle.sdp_spec.specs.declared.parameters.Vpid.TheVariants.{Code, Absent}
 use Rattle.sdp_spec.specs.Text.{semicolon, space, equals_sign, did_sdid_word, vpid_code_word, open_word, comma_word, close_word, is_name, is_value, digit_value, number, hex_base, hex_most, decimal_base, decimal_most, max_code, max_text, max_pairs}
 use Rattle.sdp_spec.specs.Grammar.{Content, pairs_of}
 
@@ -101,35 +99,35 @@ items (a ∷ s) = map item_of (front (a ∷ s) ∷ fronts (a ∷ s))
 
 -- 43: "over 64 pairs"
 abbrev pub add_pair : ℕ → Parameters → Result Parameters
-add_pair i p = judge i ((ltb p.pairs max_pairs, 43) ∷ []) (accepted (record { pairs = p.pairs + 1; vpid = p.vpid }))
+add_pair i p = judge i ((ltb p.pairs max_pairs, 43) ∷ []) (Ok (record { pairs = p.pairs + 1; vpid = p.vpid }))
 
 -- 42: "second VPID_Code"
-abbrev pub add_code : ℕ → ℕ → Vpid → ℕ → Result Parameters
-add_code i pairs (Code c) code = refuse 42 i
-add_code i pairs Absent code = accepted (record { pairs = pairs; vpid = Code code })
+abbrev pub add_code : ℕ → ℕ → Option ℕ → ℕ → Result Parameters
+add_code i pairs (Some c) code = refuse 42 i
+add_code i pairs None code = Ok (record { pairs = pairs; vpid = Some code })
 
 -- one item more, of index `i`: 41, 42, 43
 abbrev pub add : ℕ → Parameters → Item → Result Parameters
 add i p (DidSdid did sdid) = add_pair i p
 add i p (VpidCode code) = add_code i p.pairs p.vpid code
-add i p Other = accepted p
+add i p Other = Ok p
 add i p Malformed = refuse 41 i
 
 -- items left to right, the first with the index `i`
 unfoldable pub gather : ℕ → Parameters → List Item → Result Parameters
-gather i p [] = accepted p
+gather i p [] = Ok p
 gather i p (x ∷ xs) = add i p x then λ q. gather (i + 1) q xs
 
 -- before the first item
 abbrev pub none : Parameters
-none = record { pairs = 0; vpid = Absent }
+none = record { pairs = 0; vpid = None }
 
 -- "40; items left to right, the first that offends"
 unfoldable pub read_text : List ℕ → Result Content
 read_text s =
     judge 0 ((leb (length s) max_text, 40) ∷ [])
-    (gather 0 none (items s) then λ p. accepted (record { pairs = pairs_of (items s); vpid = p.vpid }))
+    (gather 0 none (items s) then λ p. Ok (record { pairs = pairs_of (items s); vpid = p.vpid }))
 
 -- "44": room for so many octets is too small
 unfoldable pub read_into : List ℕ → ℕ → Result Content
-read_into s room = read_text s then λ k. judge 0 ((leb (length k.pairs) room, 44) ∷ []) (accepted k)
+read_into s room = read_text s then λ k. judge 0 ((leb (length k.pairs) room, 44) ∷ []) (Ok k)

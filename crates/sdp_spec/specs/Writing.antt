@@ -1,10 +1,8 @@
 -- Writing parameters: "pairs in order, two lower-case digits, then VPID_Code if present, without leading zeros or spaces".
-use Rattle.std.specs.Prelude.{◌≡◌, List, [], ◌∷◌, ◌++◌, ℕ, ◌*◌, ◌%◌, ◌≤◌, eqb, leb, length}
+use Rattle.std.specs.Prelude.{◌≡◌, List, [], ◌∷◌, ◌++◌, ℕ, ◌*◌, ◌%◌, ◌≤◌, eqb, leb, length, Option, Some, None}
 use Rattle.wire_spec.specs.Bits.{Below}
-use Rattle.wire_spec.specs.Result.{Result, accepted, judge}
+use Rattle.wire_spec.specs.Result.{Result, Ok, judge}
 use Rattle.text.specs.Text.{hex, decimal}
-use Rattle.sdp_spec.specs.declared.parameters.Vpid.{Vpid}
-use Rattle.sdp_spec.specs.declared.parameters.Vpid.TheVariants.{Code, Absent}
 use Rattle.sdp_spec.specs.Text.{semicolon, did_sdid_word, vpid_code_word, open_word, comma_word, close_word, max_pairs}
 use Rattle.sdp_spec.specs.Grammar.{codes, Content}
 
@@ -23,9 +21,9 @@ pair_texts (did ∷ []) = []
 pair_texts (did ∷ sdid ∷ pairs) = pair_text did sdid ∷ pair_texts pairs
 
 -- .. "then VPID_Code if present"
-abbrev pub code_texts : Vpid → List (List ℕ)
-code_texts (Code code) = code_text code ∷ []
-code_texts Absent = []
+abbrev pub code_texts : Option ℕ → List (List ℕ)
+code_texts (Some code) = code_text code ∷ []
+code_texts None = []
 
 -- "Items are separated by `;`": each item behind a `;`
 unfoldable pub separated : List (List ℕ) → List ℕ
@@ -49,7 +47,7 @@ write_text k room =
     ∷ (leb (length k.pairs) (2 * max_pairs), 43)
     ∷ (leb (length (text_of k)) room, 44)
     ∷ [])
-    (accepted (text_of k))
+    (Ok (text_of k))
 
 -- the parameters that are written and read back: octets, "DID then SDID", none odd (41), at most 64 pairs (43)
 pub record Writable (k : Content) : Type 0 where

@@ -8,5 +8,6 @@ pub enum Item {
     VpidCode(u8),
     // Another name with a value, passed over.
     Other,
+    // Kept as a kind of item: the definitions list it among the others, and the first item that offends decides.
     Malformed,
 }

@@ -10,22 +10,15 @@ ghost use Rattle.sdp_spec.specs.Writing.{code_text, code_texts, joined, pair_tex
 ghost use Rattle.sdp_writer.specs.Entry.{write_leaves, write_returns};
 ghost use Rattle.sdp_writer.specs.Parts.{following, separator};
 
-use sdp_spec::parameters::{Parameters, Vpid};
+use sdp_spec::parameters::Parameters;
 use text::{put, put_decimal, put_octet};
 use wire_spec::count::OctetCount;
-use wire_spec::refusal::Refusal;
-use wire_spec::written::Written;
+use wire_spec::refusal::{Refusal, refuse};
 
 // Octets of `DID_SDID={0xhh,0xhh}` with its `;`, and of `VPID_Code=` with its `;`.
 const SEPARATED_PAIR_OCTETS: usize = 21;
 
 const SEPARATED_NAME_OCTETS: usize = 11;
-
-fn refuse(number: u8) -> Written
-    ensures { result ≡ Written.Refused (record { number = number; index = 0 }) }
-{
-    Written::Refused(Refusal { number, index: 0 })
-}
 
 // Puts `DID_SDID={0xhh,0xhh}`.
 fn put_pair(out: &mut [u8], at: usize, did: u8, sdid: u8) -> usize
@@ -65,24 +58,22 @@ fn put_pairs(out: &mut [u8], pairs: &[u8]) -> usize
     requires pairs_in_bounds { length (joined (pair_texts pairs.now)) ≤ length out.old }
     ensures { Put out.old 0 (joined (pair_texts pairs.now)) out.new result }
 {
-    let mut to: usize = 0;
-    let mut i: usize = 0;
-    while i < pairs.len() {
+    let mut to = 0;
+    for k in 0..pairs.len() / 2 {
         let start = put_separator(out, to);
-        to = put_pair(out, start, pairs[i], pairs[i + 1]);
-        i += 2;
+        to = put_pair(out, start, pairs[2 * k], pairs[2 * k + 1]);
     }
     to
 }
 
 // Puts the item of a VPID code, where there is one, behind the first `at` octets of a text.
-fn put_vpid(out: &mut [u8], at: usize, vpid: Vpid) -> usize
+fn put_vpid(out: &mut [u8], at: usize, vpid: Option<u8>) -> usize
     requires { at + length (following at (code_texts vpid)) ≤ length out.old }
     ensures { Put out.old at (following at (code_texts vpid)) out.new result }
 {
     match vpid {
-        Vpid::Absent => at,
-        Vpid::Code(code) => {
+        None => at,
+        Some(code) => {
             let start = put_separator(out, at);
             put_code(out, start, code)
         }
@@ -103,17 +94,17 @@ fn decimal_size(n: u8) -> usize
 }
 
 // Octets of the item of a VPID code with its `;`.
-fn code_size(vpid: Vpid) -> usize
+fn code_size(vpid: Option<u8>) -> usize
     ensures { result ≡ length (separated (code_texts vpid)) }
 {
     match vpid {
-        Vpid::Absent => 0,
-        Vpid::Code(code) => SEPARATED_NAME_OCTETS + decimal_size(code),
+        None => 0,
+        Some(code) => SEPARATED_NAME_OCTETS + decimal_size(code),
     }
 }
 
 // Octets of a text: those of its items, and a `;` less than there are items.
-fn text_size(pairs: &[u8], vpid: Vpid) -> usize
+fn text_size(pairs: &[u8], vpid: Option<u8>) -> usize
     requires { (length pairs.now % 2 ≡ 0) × (length pairs.now ≤ 2 * max_pairs) }
     ensures { result ≡ length (text_of (record { pairs = pairs.entry.now; vpid = vpid })) }
 {
@@ -125,7 +116,7 @@ fn text_size(pairs: &[u8], vpid: Vpid) -> usize
 }
 
 // Writes pairs, DID then SDID, and a VPID code as a text to the first octets of `out`.
-pub fn write(pairs: &[u8], vpid: Vpid, out: &mut [u8]) -> Written
+pub fn write(pairs: &[u8], vpid: Option<u8>, out: &mut [u8]) -> Result<OctetCount, Refusal>
     ensures value { result ≡ write_returns pairs.now vpid out.old }
     ensures out_after { out.new ≡ write_leaves pairs.now vpid out.old }
 {
@@ -141,5 +132,5 @@ pub fn write(pairs: &[u8], vpid: Vpid, out: &mut [u8]) -> Written
     }
     let to = put_pairs(out, pairs);
     let end = put_vpid(out, to, vpid);
-    Written::Octets(OctetCount(end))
+    Ok(OctetCount(end))
 }

@@ -4,10 +4,11 @@
 ghost use Rattle.std.specs.Prelude.{length};
 ghost use Rattle.streamcheck_turns.specs.Turns.{Ended, Enough};
 
-use program::buffers::{failure_of, turns_left};
+use program::buffers::failure_of;
 use program::progress::is_watched;
+use program::run::run_on;
 use program::streams::{Sink, Source};
-use program_arguments::failures::report_failure;
+use program_arguments::failures::{Ends, report_failure};
 use program_arguments::files::{file_at, layout_told, open_input};
 use program_arguments::options::may_start;
 use program_arguments::words::{WORD_ROOM, word_at};
@@ -15,7 +16,7 @@ use program_spec::buffers::{Buffers, Failure};
 use rtp_frames::MAX_FRAME;
 use std::io::Stderr;
 use streamcheck_session::session::LINES_ROOM;
-use streamcheck_turns::{close, start, turn};
+use streamcheck_turns::{Check, close, start};
 use wire_spec::layout::Layout;
 use wire_spec::limit::MAX_PACKET;
 
@@ -37,18 +38,27 @@ fn check(
     requires { Enough (length input.old) (length cells.old) (length out.old) }
     ensures { Ended layout out.new result }
 {
-    let mut run = start(layout);
-    let mut turns = u64::MAX;
-    while turns > 0 {
-        run = turn(from, to, run, input, cells, out);
-        let buffers = run.buffers;
-        turns = turns_left(turns, buffers.open, watched);
-    }
+    let run = run_on(
+        Check,
+        from,
+        to,
+        watched,
+        u64::MAX,
+        start(layout),
+        input,
+        cells,
+        out,
+    );
     close(to, run, input, out)
 }
 
 // Checks them in buffers of its own; what failed, if anything did.
-fn check_file(rt: HostRuntime, layout: Layout, from: &mut Source, to: &mut Sink) -> Failure {
+fn check_file(
+    rt: HostRuntime,
+    layout: Layout,
+    from: &mut Source,
+    to: &mut Sink,
+) -> Option<Failure> {
     let mut input = [0u8; INPUT_SIZE];
     let mut cells = [0u16; MAX_PACKET];
     let mut out = [0u8; TEXT_SIZE];
@@ -92,14 +102,13 @@ fn main(rt: HostRuntime) {
     let mut to = Sink::standard(rt.stdout());
     let mut name = [0u8; WORD_ROOM];
     let length = word_at(rt, at, &mut name);
-    let failure = check_file(rt, layout, &mut from, &mut to);
-    report_failure(
-        rt.stderr(),
-        failure,
-        b"streamcheck",
-        &name[..length],
-        &from,
-        b"",
-        &to,
-    );
+    if let Some(failure) = check_file(rt, layout, &mut from, &mut to) {
+        let ends = Ends {
+            source: &from,
+            input: &name[..length],
+            sink: &to,
+            output: b"",
+        };
+        report_failure(rt.stderr(), b"streamcheck", failure, ends);
+    }
 }

@@ -1,11 +1,11 @@
 -- The lines of a packet are those of its findings, one behind the other; a cut frame's is the last.
 -- By each test.
+use Rattle.wire_spec.specs.Result.{Ok, Err}
 use mathlib.Core.Path.{◌≡◌, refl, ap, sym, ◌∙◌}
 use mathlib.Core.Bool.{Bool, true, false}
-use mathlib.Core.List.{List, [], ◌∷◌, ◌++◌, append-nil}
+use mathlib.Core.List.{List, ◌++◌, append-nil}
 use Prim.Native.Nat.{ℕ}
 use Rattle.streamcheck_spec.specs.declared.checker.Findings.{Findings}
-use Rattle.streamcheck_spec.specs.declared.checker.Outcome.TheVariants as outcome
 use Rattle.streamcheck_spec.specs.declared.finding.Finding.{Finding}
 use Rattle.streamcheck_spec.specs.declared.finding.Finding.TheVariants as finding
 use Rattle.streamcheck_spec.specs.Check.{only_if, entries, at_end}
@@ -24,7 +24,7 @@ unfolding report_text entries line_if
 last i true x = append-nil (line_text i x)
 last i false x = refl
 
-pub findings-text : (i : ℕ) (f : Findings) → findings_text i f ≡ report_text (entries i (findings_in (outcome.Sound f)))
+pub findings-text : (i : ℕ) (f : Findings) → findings_text i f ≡ report_text (entries i (findings_in (Ok f)))
 findings-text i f =
     sym
     (one_more i f.number finding.Number _
@@ -34,7 +34,7 @@ findings-text i f =
     (one_more i f.reserved finding.Reserved _
     ∙ ap (λ (z : List ℕ). line_if f.reserved i finding.Reserved ++ z) (last i f.raster finding.Raster))))
 
-pub refused-text : (i : ℕ) (x : Refusal) → line_text i (finding.Refused x) ≡ report_text (entries i (findings_in (outcome.Refused x)))
+pub refused-text : (i : ℕ) (x : Refusal) → line_text i (finding.Refused x) ≡ report_text (entries i (findings_in (Err x)))
 unfolding report_text entries
 refused-text i x = sym (append-nil (line_text i (finding.Refused x)))
 

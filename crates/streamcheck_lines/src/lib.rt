@@ -9,7 +9,7 @@ ghost use Rattle.streamcheck_spec.specs.Text.{line_text, report_text};
 ghost use Rattle.streamcheck_spec.specs.declared.finding.Finding.TheVariants as finding;
 ghost use Rattle.streamcheck_lines.specs.Lines.{findings_text, lines_room};
 
-use streamcheck_spec::checker::{Findings, Outcome};
+use streamcheck_spec::checker::Findings;
 use text::{put, put_decimal, put_labelled, put_numbered};
 use wire_spec::refusal::Refusal;
 
@@ -48,12 +48,12 @@ fn put_refused(out: &mut [u8], index: u64, refusal: Refusal) -> usize
 }
 
 // The lines of a packet with this index.
-pub fn put_outcome(out: &mut [u8], index: u64, outcome: Outcome) -> usize
+pub fn put_outcome(out: &mut [u8], index: u64, outcome: Result<Findings, Refusal>) -> usize
     requires { lines_room ≤ length out.old }
     ensures { Put out.old 0 (report_text (entries index (findings_in outcome))) out.new result }
 {
     match outcome {
-        Outcome::Refused(refusal) => put_refused(out, index, refusal),
-        Outcome::Sound(findings) => put_findings(out, index, findings),
+        Err(refusal) => put_refused(out, index, refusal),
+        Ok(findings) => put_findings(out, index, findings),
     }
 }

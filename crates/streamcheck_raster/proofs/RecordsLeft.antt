@@ -7,13 +7,12 @@ use native.Mathlib.Omega.{arith}
 use lib.ListN.{length}
 use Rattle.wire_spec.specs.declared.refusal.Refusal.{Refusal}
 use Rattle.wire_spec.specs.Layout.{rfc8331}
-use Rattle.wire_spec.specs.Result.{IsAccepted}
+use Rattle.wire_spec.specs.Result.{IsAccepted, Ok, Err}
 use Rattle.wire_spec.specs.Anc.{Each, Record, WellFormed}
 use Rattle.wire_spec.specs.Cells.{Lists, cell_record, cell_checks, rest, read_list}
 use Rattle.wire_spec.proofs.CellLaws.{front_reads, list-iff}
 use Rattle.wire_spec.proofs.ResultLaws.{Passed, accepted-is}
 use Rattle.anc_record.specs.declared.header.Header.{Header}
-use Rattle.anc_record.specs.declared.header.Found.TheVariants as found
 use Rattle.anc_record.specs.Answers.{found_of}
 use Rattle.anc_record.specs.Header.{header_of, header_at}
 use Rattle.anc_record.proofs.FoundLaws.{passed-found}
@@ -44,15 +43,15 @@ none_left all left s w l = go w.records w.cells w.scan
     go (r ∷ rs) e f = absurd (omega (arith, ap length e.3))
 
 -- a record that passes has a header
-pub header-there : (l : List ℕ) (x : Refusal) → Passed (cell_checks l) → found_of (header_at l 0) ≡ found.Refused x → ⊥
+pub header-there : (l : List ℕ) (x : Refusal) → Passed (cell_checks l) → found_of (header_at l 0) ≡ Err x → ⊥
 header-there l x p e =
-    let q : found.Header (header_of (cell_record l)) ≡ found.Refused x = sym (passed-found l 0 p) ∙ e in
+    let q : Ok (header_of (cell_record l)) ≡ Err x = sym (passed-found l 0 p) ∙ e in
     let o : ◌≡◌ {A = ℕ} 0 1 = cc in
     omega arith
 
 -- and the header that is found is its own
-pub header_is : (l : List ℕ) (h : Header) → Passed (cell_checks l) → found_of (header_at l 0) ≡ found.Header h → header_of (cell_record l) ≡ h
-header_is l h p e = let q : found.Header (header_of (cell_record l)) ≡ found.Header h = sym (passed-found l 0 p) ∙ e in cc
+pub header_is : (l : List ℕ) (h : Header) → Passed (cell_checks l) → found_of (header_at l 0) ≡ Ok h → header_of (cell_record l) ≡ h
+header_is l h p e = let q : Ok (header_of (cell_record l)) ≡ Ok h = sym (passed-found l 0 p) ∙ e in cc
 
 -- the record at the front, and what is left behind it
 pub record Next (all : Scan) (left : List ℕ) (s : Scan) : Type 0 where

@@ -6,7 +6,7 @@ ghost use Rattle.wire_spec.specs.Result.{IsAccepted};
 ghost use Rattle.streamcheck_spec.specs.Check.{is_lower};
 ghost use Rattle.streamcheck_spec.specs.Code as code;
 
-use anc_record::header::{Found, Header};
+use anc_record::header::Header;
 use anc_record::location::{Line, Location, Offset};
 use streamcheck_spec::place::{Place, Scan};
 
@@ -65,9 +65,9 @@ pub fn past_list(scan: Scan, cells: &[u16]) -> Scan
 {
     let mut rest = cells;
     let mut scan = scan;
+    // Kept as a while: how many cells a turn takes is read from them.
     while rest.len() > 0 {
-        let found = Header::at(rest, 0);
-        let Found::Header(h) = found else {
+        let Ok(h) = Header::at(rest, 0) else {
             return scan;
         };
         let words = h.words;

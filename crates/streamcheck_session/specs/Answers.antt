@@ -1,4 +1,5 @@
 -- What the code answers, and what it leaves in the cells and in the octets that it is lent.
+use Rattle.wire_spec.specs.Result.{Result, Ok, Err}
 use Rattle.std.specs.Prelude.{Bool, true, false, cond, ◌&&◌, List, [], ℕ, ◌+◌, ◌-◌, ◌^◌, ◌≤◌, leb, ltb, length}
 use Rattle.wire_spec.specs.Bits.{overwrite}
 use Rattle.wire_spec.specs.Layout.{Layout}
@@ -14,8 +15,6 @@ use Rattle.streamcheck_lines.specs.Lines.{cut_text, lines_room}
 use Rattle.program_spec.specs.Frames.{FrameProgram}
 use Rattle.program_spec.specs.Run.{room_too_small}
 use Rattle.streamcheck_session.specs.declared.session.Session.{Session}
-use Rattle.streamcheck_session.specs.declared.session.Text.{Text}
-use Rattle.streamcheck_session.specs.declared.session.Text.TheVariants as octets
 
 -- the lines of a packet
 unfoldable pub packet_text : Session → List ℕ → List ℕ
@@ -34,15 +33,15 @@ cells_then true s cut cells = cells
 cells_then true s (frame p rest) cells = cells_after (read_content s.layout p) cells
 
 -- its octets, where there is room
-abbrev pub text_of : Bool → List ℕ → Text
-text_of roomy t = cond roomy (octets.Octets (length t)) (octets.Refused room_too_small)
+abbrev pub text_of : Bool → List ℕ → Result ℕ
+text_of roomy t = cond roomy (Ok (length t)) (Err room_too_small)
 
 abbrev pub text_after : Bool → List ℕ → List ℕ → List ℕ
 text_after roomy t out = cond roomy (overwrite t out) out
 
-abbrev pub TextFits : Text → (out : ℕ) → Type 0
-TextFits (octets.Refused x) out = Unit {0}
-TextFits (octets.Octets n) out = n ≤ out
+abbrev pub TextFits : Result ℕ → (out : ℕ) → Type 0
+TextFits (Err x) out = Unit {0}
+TextFits (Ok n) out = n ≤ out
 
 -- before the first frame
 abbrev pub begun : Layout → Session

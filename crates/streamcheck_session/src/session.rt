@@ -19,7 +19,7 @@ use streamcheck_step::packet::check_packet;
 use streamcheck_step::step::open;
 use wire_spec::layout::Layout;
 use wire_spec::limit::MAX_PACKET;
-use wire_spec::refusal::Refusal;
+use wire_spec::refusal::{Refusal, refuse};
 
 // Octets of the lines of one packet.
 pub const LINES_ROOM: usize = 120;
@@ -37,12 +37,6 @@ pub struct Session {
 pub struct Reported {
     pub session: Session,
     pub step: Step,
-}
-
-#[derive(Clone, Copy)]
-pub enum Text {
-    Octets(usize),
-    Refused(Refusal),
 }
 
 // The state behind a packet, and the octets of its lines.
@@ -151,17 +145,14 @@ fn is_cut(here: Front) -> bool
 }
 
 // The last line, where the frame there is cut; `rest` is what is left of the input behind its whole frames.
-pub fn finish(index: u64, rest: &[u8], out: &mut [u8]) -> Text
+pub fn finish(index: u64, rest: &[u8], out: &mut [u8]) -> Result<usize, Refusal>
     ensures value { result ≡ text_of (leb lines_room (length out.old)) (cut_text (is_broken (front rest.now)) index) }
     ensures out_after { out.new ≡ text_after (leb lines_room (length out.old)) (cut_text (is_broken (front rest.now)) index) out.old }
     ensures text_fits { TextFits result (length out.old) }
 {
     if out.len() < LINES_ROOM {
-        return Text::Refused(Refusal {
-            number: Refusal::ROOM_TOO_SMALL,
-            index: 0,
-        });
+        return refuse(Refusal::ROOM_TOO_SMALL);
     }
     let broken = is_cut(frame_at(rest));
-    Text::Octets(put_if(out, 0, broken, index, b" cut\n"))
+    Ok(put_if(out, 0, broken, index, b" cut\n"))
 }

@@ -5,7 +5,7 @@ use mathlib.Core.Bool.{Bool, true, false, cond, ◌&&◌, ◌||◌, or_assoc, or
 use mathlib.Core.List.{List, [], ◌∷◌, ◌++◌}
 use Prim.Native.Nat.{ℕ, suc}
 use Rattle.wire_spec.specs.Layout.{Layout}
-use Rattle.wire_spec.specs.Result.{Result, refused, accepted, judge, ◌then◌}
+use Rattle.wire_spec.specs.Result.{Result, Err, Ok, judge, ◌then◌}
 use Rattle.wire_spec.specs.Anc.{Record}
 use Rattle.wire_spec.specs.Packet.{Packet, content, read_packet}
 use Rattle.anc_record.specs.declared.location.Line.{Line}
@@ -68,14 +68,14 @@ pub record Agrees (st : Checker) (answer : Result Packet) (t : Step) : Type 0 wh
   pub findings : findings_in t.outcome ≡ findings_of st answer
   pub state : t.checker ≡ carried st answer
 
-sound-agrees : (st : Checker) (k : Packet) → Agrees st (accepted k) (sound_step st (head_of (content k)) (is_reserved k) (past_all (scan_of st.place) k.records))
+sound-agrees : (st : Checker) (k : Packet) → Agrees st (Ok k) (sound_step st (head_of (content k)) (is_reserved k) (past_all (scan_of st.place) k.records))
 unfolding sound_step is_gap is_change
 sound-agrees st k =
     let e = past_all_lem k.records (scan_of st.place) in
     record { findings = rw e.0; state = rw e.1 }
 
 step-agrees : (st : Checker) (k : Packet) (a b : Bool)
-    → Agrees st (judge 0 ((a, 30) ∷ (b, 31) ∷ []) (accepted k))
+    → Agrees st (judge 0 ((a, 30) ∷ (b, 31) ∷ []) (Ok k))
     (cond a (cond b (sound_step st (head_of (content k)) (is_reserved k) (past_all (scan_of st.place) k.records)) (refused_step st 31)) (refused_step st 30))
 step-agrees st k true true = sound-agrees st k
 step-agrees st k true false = record { findings = refl; state = refl }
@@ -85,9 +85,9 @@ pub turn-agrees : (L : Layout) (st : Checker) (octets : List ℕ) → Agrees st 
 unfolding admitted turn step_of
 turn-agrees L st octets = go (read_packet L octets)
   where
-    go : (q : Result Packet) → Agrees st (q then λ k. judge 0 (origin_checks st k) (accepted k)) (turn_by st q)
-    go (refused x) = record { findings = refl; state = refl }
-    go (accepted k) = step-agrees st k (source_in st k.source) (type_in st k.type)
+    go : (q : Result Packet) → Agrees st (q then λ k. judge 0 (origin_checks st k) (Ok k)) (turn_by st q)
+    go (Err x) = record { findings = refl; state = refl }
+    go (Ok k) = step-agrees st k (source_in st k.source) (type_in st k.type)
 
 -- the report, turn by turn
 pub report-turn : (L : Layout) (broken : Bool) (i : ℕ) (st : Checker) (p : List ℕ) (ps : List (List ℕ))

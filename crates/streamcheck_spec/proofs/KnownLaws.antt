@@ -10,7 +10,7 @@ use lib.Dec.{eqb}
 use borrow.Author.Tests.{eqb-true, eqb-false}
 use Rattle.wire_spec.specs.declared.refusal.Refusal.{Refusal}
 use Rattle.wire_spec.specs.Layout.{Layout}
-use Rattle.wire_spec.specs.Result.{Result, refused, accepted, judge, ◌then◌}
+use Rattle.wire_spec.specs.Result.{Result, Err, Ok, judge, ◌then◌}
 use Rattle.wire_spec.specs.Packet.{Packet, read_packet}
 use Rattle.streamcheck_spec.specs.declared.checker.Checker.{Checker}
 use Rattle.streamcheck_spec.specs.Rules.{At, number_of, Reads, First, Compared, Refuses, Sound, Previous}
@@ -20,7 +20,7 @@ use Rattle.streamcheck_spec.proofs.RuleLaws.{less-or-equal-or-more, refused-excl
 module _ (L : Layout) (ps : List (List ℕ)) where
   -- no packet before `i` is accepted
   abbrev pub NoneAccepted : ℕ → Type 0
-  NoneAccepted i = (h : ℕ) → h < i → (k : Packet) → Reads L ps h (accepted k) → ⊥
+  NoneAccepted i = (h : ℕ) → h < i → (k : Packet) → Reads L ps h (Ok k) → ⊥
 
   -- the state is that of the last packet not refused before `i`
   pub record Follows (st : Checker) (i : ℕ) : Type 0 where
@@ -43,11 +43,11 @@ module _ (L : Layout) (ps : List (List ℕ)) where
 
   -- what an answer of the checker has to say of packet `i`
   abbrev pub Verdict : ℕ → Result Packet → Type 0
-  Verdict i (refused x) = Refuses L ps i x
-  Verdict i (accepted k) = Sound L ps i k
+  Verdict i (Err x) = Refuses L ps i x
+  Verdict i (Ok k) = Sound L ps i k
 
   -- the first accepted packet is not refused
-  pub first-sound : (i : ℕ) (k : Packet) → NoneAccepted i → Reads L ps i (accepted k) → Sound L ps i k
+  pub first-sound : (i : ℕ) (k : Packet) → NoneAccepted i → Reads L ps i (Ok k) → Sound L ps i k
   first-sound i k n a =
       record {
         opening = k;
@@ -57,8 +57,8 @@ module _ (L : Layout) (ps : List (List ℕ)) where
       }
 
   -- 30 and 31
-  origin-verdict : (st : Checker) (i : ℕ) (k : Packet) (b : Bool) → KnownBefore b st i → Reads L ps i (accepted k)
-      → Verdict i (judge 0 ((not b || eqb k.source st.source, 30) ∷ (not b || eqb k.type st.payload_type, 31) ∷ []) (accepted k))
+  origin-verdict : (st : Checker) (i : ℕ) (k : Packet) (b : Bool) → KnownBefore b st i → Reads L ps i (Ok k)
+      → Verdict i (judge 0 ((not b || eqb k.source st.source, 30) ∷ (not b || eqb k.type st.payload_type, 31) ∷ []) (Ok k))
   origin-verdict st i k false n a = first-sound i k n a
   origin-verdict st i k true n a = go (eqb k.source st.source) refl (eqb k.type st.payload_type) refl
     where
@@ -66,7 +66,7 @@ module _ (L : Layout) (ps : List (List ℕ)) where
       compared = record { accepts = a; origin = n.origin; first = n.first }
 
       go : (s : Bool) → eqb k.source st.source ≡ s → (t : Bool) → eqb k.type st.payload_type ≡ t
-          → Verdict i (judge 0 ((s, 30) ∷ (t, 31) ∷ []) (accepted k))
+          → Verdict i (judge 0 ((s, 30) ∷ (t, 31) ∷ []) (Ok k))
       go true e true d =
           record {
             opening = n.opening;
@@ -103,9 +103,9 @@ module _ (L : Layout) (ps : List (List ℕ)) where
   unfolding admitted
   verdict st i p a n = go (read_packet L p) refl
     where
-      go : (q : Result Packet) → read_packet L p ≡ q → Verdict i (q then λ k. judge 0 (origin_checks st k) (accepted k))
-      go (refused x) e = inl (record { octets = p; at = a; reading = e })
-      go (accepted k) e = origin-verdict st i k st.known n (record { octets = p; at = a; reading = e })
+      go : (q : Result Packet) → read_packet L p ≡ q → Verdict i (q then λ k. judge 0 (origin_checks st k) (Ok k))
+      go (Err x) e = inl (record { octets = p; at = a; reading = e })
+      go (Ok k) e = origin-verdict st i k st.known n (record { octets = p; at = a; reading = e })
 
   -- before the first packet nothing is known
   pub known-at-start : KnownBefore opened.known opened 0
@@ -120,7 +120,7 @@ module _ (L : Layout) (ps : List (List ℕ)) where
   refused-known : (st : Checker) (i : ℕ) (x : Refusal) (b : Bool) → KnownBefore b st i → Refuses L ps i x → KnownBefore b st (suc i)
   refused-known st i x false n v = λ h b k a.
       ⊎_elim (λ c. n h c k a)
-      (λ e. refused-excludes L ps i x k v (first-sound i k n (subst (λ (z : ℕ). Reads L ps z (accepted k)) e a)))
+      (λ e. refused-excludes L ps i x k v (first-sound i k n (subst (λ (z : ℕ). Reads L ps z (Ok k)) e a)))
       (before-next h i b)
   refused-known st i x true n v =
       record {
@@ -148,8 +148,8 @@ module _ (L : Layout) (ps : List (List ℕ)) where
   -- after packet `i` the state is that of the last packet not refused
   pub known-after : (st : Checker) (i : ℕ) (q : Result Packet) → KnownBefore st.known st i → Verdict i q
       → KnownBefore (carried st q).known (carried st q) (suc i)
-  known-after st i (refused x) n v = refused-known st i x st.known n v
-  known-after st i (accepted k) n v =
+  known-after st i (Err x) n v = refused-known st i x st.known n v
+  known-after st i (Ok k) n v =
       record {
         origin = v.compared.origin;
         opening = v.opening;

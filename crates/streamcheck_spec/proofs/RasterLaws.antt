@@ -15,7 +15,7 @@ use Rattle.anc_record.specs.declared.location.Offset.{Offset}
 use Rattle.anc_record.specs.declared.location.Offset.TheVariants as offset
 use Rattle.wire_spec.specs.Layout.{Layout}
 use Rattle.anc_record.specs.Location.{line_of, offset_of}
-use Rattle.wire_spec.specs.Result.{Result, refused, accepted}
+use Rattle.wire_spec.specs.Result.{Result, Err, Ok}
 use Rattle.wire_spec.specs.Anc.{Record}
 use Rattle.wire_spec.specs.Packet.{Packet}
 use Rattle.streamcheck_spec.specs.declared.checker.Checker.{Checker}
@@ -197,7 +197,7 @@ module _ (L : Layout) (ps : List (List ℕ)) where
   -- after packet `i` the place is that of the last plain record within the field
   pub place_after_lem : (st : Checker) (i : ℕ) (answer : Result Packet) → PlaceBefore L ps st.place.known st.place i 0 → Verdict L ps i answer
       → PlaceBefore L ps (carried st answer).place.known (carried st answer).place (suc i) 0
-  place_after_lem st i (refused x) v t =
+  place_after_lem st i (Err x) v t =
       past-packet L ps i 0 st.place.known st.place (λ a r p. absurd (refused-excludes L ps i x p.packet t p.sound))
       (λ k s d. refused-excludes L ps i x k t s) v
-  place_after_lem st i (accepted k) v t = place-within i k t (eqb k.marker 1) refl st.place v
+  place_after_lem st i (Ok k) v t = place-within i k t (eqb k.marker 1) refl st.place v

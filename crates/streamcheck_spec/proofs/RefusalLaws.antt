@@ -10,7 +10,7 @@ use lib.ListN.{length, take, drop}
 use Rattle.wire_spec.specs.declared.refusal.Refusal.{Refusal}
 use Rattle.wire_spec.specs.Bits.{num, bits_at}
 use Rattle.wire_spec.specs.Layout.{Layout, draft2015}
-use Rattle.wire_spec.specs.Result.{accepted}
+use Rattle.wire_spec.specs.Result.{Ok}
 use Rattle.wire_spec.specs.Anc.{Record, anc_checks, read_run}
 use Rattle.wire_spec.specs.Packet.{Packet, length_field, anc_count, run_at, packet_read, header_checks, padding_checks, payload_checks, read_records, read_packet}
 use Rattle.wire_spec.proofs.ResultLaws.{Numbered, judge-numbered, then-numbered}
@@ -27,7 +27,7 @@ unfolding read_records anc_checks
 records-numbered L s =
     then-numbered is_reading (read_run L 0 (anc_count s) (take (length_field s) (drop (run_at L s) s))) _
     (run-numbered is_reading L (λ t. refl) 0 (anc_count s) (take (length_field s) (drop (run_at L s) s)))
-    (λ q. judge-numbered {A = List Record} is_reading 0 ((eqb (length q.1) 0, 13) ∷ []) (accepted q.0) refl tt)
+    (λ q. judge-numbered {A = List Record} is_reading 0 ((eqb (length q.1) 0, 13) ∷ []) (Ok q.0) refl tt)
 
 packet-numbered : (L : Layout) (s : List ℕ) → Numbered is_reading (read_packet L s)
 unfolding read_packet header_checks padding_checks payload_checks

@@ -10,7 +10,7 @@ use native.Mathlib.Omega.{arith}
 use lib.ListN.{length, drop}
 use Rattle.wire_spec.specs.declared.refusal.Refusal.{Refusal}
 use Rattle.wire_spec.specs.Layout.{Layout}
-use Rattle.wire_spec.specs.Result.{Result, refused, accepted}
+use Rattle.wire_spec.specs.Result.{Result, Err, Ok}
 use Rattle.wire_spec.specs.Anc.{Each}
 use Rattle.wire_spec.specs.Packet.{Packet}
 use Rattle.wire_spec.proofs.ListLaws.{each_append}
@@ -119,9 +119,9 @@ module _ (L : Layout) (broken : Bool) (ps : List (List ℕ)) where
   module _ (st : Checker) (i : ℕ) (b : i < length ps) (n : KnownBefore L ps st.known st i)
       (v : PlaceBefore L ps st.place.known st.place i 0) where
     found-broken : (answer : Result Packet) → Verdict L ps i answer → (x : Finding) → Memᴰ x (findings_of st answer) → Breaks L ps broken i x
-    found-broken (refused y) t x m =
+    found-broken (Err y) t x m =
         subst (Breaks L ps broken i) (sym (Memᴰ.eq_of_singleton m)) t
-    found-broken (accepted k) t x m = go x (chosen_is (is_gap st k) (is_change st k) (is_reserved k) (descends st.place k.records) x m)
+    found-broken (Ok k) t x m = go x (chosen_is (is_gap st k) (is_change st k) (is_reserved k) (descends st.place k.records) x m)
       where
         go : (x : Finding) → Chosen (is_gap st k) (is_change st k) (is_reserved k) (descends st.place k.records) x → Breaks L ps broken i x
         go (finding.Refused y) h = absurd h
@@ -132,13 +132,13 @@ module _ (L : Layout) (broken : Bool) (ps : List (List ℕ)) where
         go finding.Raster h = (raster-iff L ps i k t st.place v).0 h
 
     broken-found : (answer : Result Packet) → Verdict L ps i answer → (x : Finding) → Breaks L ps broken i x → Memᴰ x (findings_of st answer)
-    broken-found (refused y) t (finding.Refused x) h = Memᴰ.head (ap finding.Refused (refused-one L ps i x y h t))
-    broken-found (refused y) t finding.Cut h = let e = h.1 in absurd (omega arith)
-    broken-found (refused y) t finding.Number h = absurd (refused-excludes L ps i y h.here t h.pair.sound)
-    broken-found (refused y) t finding.Change h = absurd (refused-excludes L ps i y h.here t h.pair.sound)
-    broken-found (refused y) t finding.Reserved h = absurd (refused-excludes L ps i y h.here t h.sound)
-    broken-found (refused y) t finding.Raster h = absurd (refused-excludes L ps i y h.1.here.packet t h.1.here.sound)
-    broken-found (accepted k) t x h = is-chosen (is_gap st k) (is_change st k) (is_reserved k) (descends st.place k.records) x (go x h)
+    broken-found (Err y) t (finding.Refused x) h = Memᴰ.head (ap finding.Refused (refused-one L ps i x y h t))
+    broken-found (Err y) t finding.Cut h = let e = h.1 in absurd (omega arith)
+    broken-found (Err y) t finding.Number h = absurd (refused-excludes L ps i y h.here t h.pair.sound)
+    broken-found (Err y) t finding.Change h = absurd (refused-excludes L ps i y h.here t h.pair.sound)
+    broken-found (Err y) t finding.Reserved h = absurd (refused-excludes L ps i y h.here t h.sound)
+    broken-found (Err y) t finding.Raster h = absurd (refused-excludes L ps i y h.1.here.packet t h.1.here.sound)
+    broken-found (Ok k) t x h = is-chosen (is_gap st k) (is_change st k) (is_reserved k) (descends st.place k.records) x (go x h)
       where
         go : (x : Finding) → Breaks L ps broken i x → Chosen (is_gap st k) (is_change st k) (is_reserved k) (descends st.place k.records) x
         go (finding.Refused y) h = absurd (refused-excludes L ps i y k h t)
@@ -215,9 +215,9 @@ from-index L broken (p ∷ rest) i st =
     (from-index L broken rest (suc i) (carried st answer)))
 
 packet-increases : (i : ℕ) (st : Checker) (answer : Result Packet) → Increasing (entries i (findings_of st answer))
-packet-increases i st (refused x) = entries-increase i 0 (finding.Refused x ∷ []) (omega arith, tt)
-packet-increases i st (accepted k) =
-    entries-increase i 0 (findings_of st (accepted k))
+packet-increases i st (Err x) = entries-increase i 0 (finding.Refused x ∷ []) (omega arith, tt)
+packet-increases i st (Ok k) =
+    entries-increase i 0 (findings_of st (Ok k))
     (ranks-only (is_gap st k) finding.Number _ 0 (omega arith)
     (ranks-only (is_change st k) finding.Change _ 2 (omega arith)
     (ranks-only (is_reserved k) finding.Reserved _ 3 (omega arith)

@@ -13,7 +13,7 @@ use lib.Seq.{drop-drop}
 use borrow.Author.Tests.{ltb-true, ltb-false}
 use Rattle.wire_spec.specs.declared.refusal.Refusal.{Refusal}
 use Rattle.wire_spec.specs.Layout.{Layout}
-use Rattle.wire_spec.specs.Result.{Result, refused, accepted}
+use Rattle.wire_spec.specs.Result.{Result, Err, Ok}
 use Rattle.wire_spec.specs.Packet.{Packet, read_packet}
 use Rattle.streamcheck_spec.specs.Rules.{At, Reads, First, Compared, OtherSource, OtherType, Refuses, Sound}
 
@@ -49,12 +49,12 @@ module _ (L : Layout) (ps : List (List ℕ)) where
       let e = at_one ps i a.octets b.octets a.at b.at in
       sym a.reading ∙ ap (read_packet L) e ∙ b.reading
 
-  pub accepts-one : (i : ℕ) (k l : Packet) → Reads L ps i (accepted k) → Reads L ps i (accepted l) → k ≡ l
-  accepts-one i k l a b = let e = reads-one i (accepted k) (accepted l) a b in cc
+  pub accepts-one : (i : ℕ) (k l : Packet) → Reads L ps i (Ok k) → Reads L ps i (Ok l) → k ≡ l
+  accepts-one i k l a b = let e = reads-one i (Ok k) (Ok l) a b in cc
 
-  pub refuses-or-accepts : (i : ℕ) (x : Refusal) (k : Packet) → Reads L ps i (refused x) → Reads L ps i (accepted k) → ⊥
+  pub refuses-or-accepts : (i : ℕ) (x : Refusal) (k : Packet) → Reads L ps i (Err x) → Reads L ps i (Ok k) → ⊥
   refuses-or-accepts i x k a b =
-      let e = reads-one i (refused x) (accepted k) a b in
+      let e = reads-one i (Err x) (Ok k) a b in
       let z : ◌≡◌ {A = ℕ} 0 1 = cc in
       omega arith
 
@@ -62,7 +62,7 @@ module _ (L : Layout) (ps : List (List ℕ)) where
   pub first_one : (i j : ℕ) (k l : Packet) → First L ps i k → First L ps j l → k ≡ l
   first_one i j k l a b =
       ⊎_elim (λ h. absurd (b.least i h k a.accepts))
-      (⊎_elim (λ e. accepts-one j k l (subst (λ (z : ℕ). Reads L ps z (accepted k)) e a.accepts) b.accepts)
+      (⊎_elim (λ e. accepts-one j k l (subst (λ (z : ℕ). Reads L ps z (Ok k)) e a.accepts) b.accepts)
       (λ h. absurd (a.least j h l b.accepts)))
       (less-or-equal-or-more i j)
 
@@ -93,7 +93,7 @@ module _ (L : Layout) (ps : List (List ℕ)) where
 
   -- a packet is refused by one refusal
   pub refused-one : (i : ℕ) (x y : Refusal) → Refuses L ps i x → Refuses L ps i y → x ≡ y
-  refused-one i x y (inl a) (inl b) = let e = reads-one i (refused x) (refused y) a b in cc
+  refused-one i x y (inl a) (inl b) = let e = reads-one i (Err x) (Err y) a b in cc
   refused-one i x y (inl a) (inr (inl b)) = absurd (refuses-or-accepts i x b.0.here a b.0.compared.accepts)
   refused-one i x y (inl a) (inr (inr b)) = absurd (refuses-or-accepts i x b.0.here a b.0.compared.accepts)
   refused-one i x y (inr (inl a)) (inl b) = absurd (refuses-or-accepts i y a.0.here b a.0.compared.accepts)

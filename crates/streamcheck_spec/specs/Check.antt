@@ -6,7 +6,7 @@ use Rattle.anc_record.specs.declared.location.Offset.{Offset}
 use Rattle.anc_record.specs.declared.location.Offset.TheVariants as offset
 use Rattle.wire_spec.specs.Layout.{Layout}
 use Rattle.anc_record.specs.Location.{line_of, offset_of}
-use Rattle.wire_spec.specs.Result.{Result, refused, accepted, Checks, judge, ◌then◌}
+use Rattle.wire_spec.specs.Result.{Result, Err, Ok, Checks, judge, ◌then◌}
 use Rattle.wire_spec.specs.Anc.{Record, Each}
 use Rattle.wire_spec.specs.Packet.{Packet, read_packet}
 use Rattle.streamcheck_spec.specs.declared.checker.Checker.{Checker}
@@ -39,7 +39,7 @@ origin_checks st k = (not st.known || eqb k.source st.source, 30) ∷ (not st.kn
 
 -- "refused (1 to 13, 15 or 16, strictly; 30 or 31 against the first accepted ..)"
 unfoldable pub admitted : Layout → Checker → List ℕ → Result Packet
-admitted L st octets = read_packet L octets then λ k. judge 0 (origin_checks st k) (accepted k)
+admitted L st octets = read_packet L octets then λ k. judge 0 (origin_checks st k) (Ok k)
 
 -- "plain line and offset"
 abbrev pub is_line : Line → Bool
@@ -98,8 +98,8 @@ only_if false x = []
 
 -- "A packet's findings, one of a kind, are listed in that order"
 abbrev pub findings_of : Checker → Result Packet → List Finding
-findings_of st (refused x) = finding.Refused x ∷ []
-findings_of st (accepted k) =
+findings_of st (Err x) = finding.Refused x ∷ []
+findings_of st (Ok k) =
     only_if (is_gap st k) finding.Number
     ++ (only_if (is_change st k) finding.Change
     ++ (only_if (is_reserved k) finding.Reserved ++ only_if (descends st.place k.records) finding.Raster))
@@ -110,8 +110,8 @@ place_within marked q = cond marked no_place q
 
 -- what is carried on: a refused packet changes nothing
 abbrev pub carried : Checker → Result Packet → Checker
-carried st (refused x) = st
-carried st (accepted k) =
+carried st (Err x) = st
+carried st (Ok k) =
     record {
       known = true;
       source = k.source;

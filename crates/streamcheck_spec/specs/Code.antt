@@ -1,7 +1,8 @@
 -- The checker as the code has it: a packet's records one by one, and then the packet.
+use Rattle.streamcheck_spec.specs.declared.checker.Findings.{Findings}
 use Rattle.std.specs.Prelude.{Bool, true, false, cond, not, ◌&&◌, ◌||◌, List, [], ◌∷◌, ◌++◌, ℕ, eqb}
 use Rattle.wire_spec.specs.Layout.{Layout}
-use Rattle.wire_spec.specs.Result.{Result, refused, accepted}
+use Rattle.wire_spec.specs.Result.{Result, Err, Ok}
 use Rattle.wire_spec.specs.Anc.{Record}
 use Rattle.wire_spec.specs.Packet.{Packet, content, read_packet}
 use Rattle.anc_record.specs.declared.location.Line.{Line}
@@ -13,8 +14,6 @@ use Rattle.anc_record.specs.Header.{header_of}
 use Rattle.rtp_strict_reader.specs.declared.packet.Head.{Head}
 use Rattle.rtp_strict_reader.specs.Answers.{head_of}
 use Rattle.streamcheck_spec.specs.declared.checker.Checker.{Checker}
-use Rattle.streamcheck_spec.specs.declared.checker.Outcome.{Outcome}
-use Rattle.streamcheck_spec.specs.declared.checker.Outcome.TheVariants as outcome
 use Rattle.streamcheck_spec.specs.declared.checker.Step.{Step}
 use Rattle.streamcheck_spec.specs.declared.place.Place.{Place}
 use Rattle.streamcheck_spec.specs.declared.place.Scan.{Scan}
@@ -56,8 +55,8 @@ past_all s (r ∷ rs) = past_all (past s (header_of r).location) rs
 
 -- past the records of a list of cells; none where it is refused
 abbrev pub past_list : Scan → Result (List Record) → Scan
-past_list s (refused x) = s
-past_list s (accepted rs) = past_all s rs
+past_list s (Err x) = s
+past_list s (Ok rs) = past_all s rs
 
 -- "number not the next"
 abbrev pub gap_in : Checker → (number : ℕ) → Bool
@@ -75,7 +74,7 @@ abbrev pub type_in : Checker → (type : ℕ) → Bool
 type_in st type = not st.known || eqb type st.payload_type
 
 abbrev pub refused_step : Checker → ℕ → Step
-refused_step st number = record { checker = st; outcome = outcome.Refused (record { number = number; index = 0 }) }
+refused_step st number = record { checker = st; outcome = Err (record { number = number; index = 0 }) }
 
 -- a packet that is not refused
 unfoldable pub sound_step : Checker → Head → (reserved : Bool) → Scan → Step
@@ -93,7 +92,7 @@ sound_step st h reserved s =
             place = place_within h.marker s.place;
           };
       outcome =
-          outcome.Sound
+          Ok
           (record {
             number = gap_in st h.number.0;
             change = change_in st h.timestamp.0 h.f;
@@ -108,16 +107,16 @@ step_of st h reserved s =
     cond (source_in st h.source) (cond (type_in st h.payload_type) (sound_step st h reserved s) (refused_step st 31)) (refused_step st 30)
 
 -- the findings that an outcome stands for
-abbrev pub findings_in : Outcome → List Finding
-findings_in (outcome.Refused x) = finding.Refused x ∷ []
-findings_in (outcome.Sound f) =
+abbrev pub findings_in : Result Findings → List Finding
+findings_in (Err x) = finding.Refused x ∷ []
+findings_in (Ok f) =
     only_if f.number finding.Number
     ++ (only_if f.change finding.Change ++ (only_if f.reserved finding.Reserved ++ only_if f.raster finding.Raster))
 
 -- one packet of the stream, by its strict reading
 abbrev pub turn_by : Checker → Result Packet → Step
-turn_by st (refused x) = record { checker = st; outcome = outcome.Refused x }
-turn_by st (accepted k) = step_of st (head_of (content k)) (is_reserved k) (past_all (scan_of st.place) k.records)
+turn_by st (Err x) = record { checker = st; outcome = Err x }
+turn_by st (Ok k) = step_of st (head_of (content k)) (is_reserved k) (past_all (scan_of st.place) k.records)
 
 unfoldable pub turn : Layout → Checker → List ℕ → Step
 turn L st octets = turn_by st (read_packet L octets)

@@ -5,7 +5,7 @@ use Rattle.anc_record.specs.declared.location.Line.TheVariants as line
 use Rattle.anc_record.specs.declared.location.Offset.TheVariants as offset
 use Rattle.wire_spec.specs.Layout.{Layout}
 use Rattle.anc_record.specs.Location.{line_of, offset_of}
-use Rattle.wire_spec.specs.Result.{Result, refused, accepted}
+use Rattle.wire_spec.specs.Result.{Result, Err, Ok}
 use Rattle.wire_spec.specs.Anc.{Record}
 use Rattle.wire_spec.specs.Packet.{Packet, content, read_packet}
 use Rattle.streamcheck_spec.specs.declared.finding.Finding.{Finding}
@@ -48,12 +48,12 @@ module _ (L : Layout) (ps : List (List ℕ)) where
 
   -- "the first accepted"
   pub record First (j : ℕ) (k : Packet) : Type 0 where
-    pub accepts : Reads j (accepted k)
-    pub least : (h : ℕ) → h < j → (l : Packet) → Reads h (accepted l) → ⊥
+    pub accepts : Reads j (Ok k)
+    pub least : (h : ℕ) → h < j → (l : Packet) → Reads h (Ok l) → ⊥
 
   -- packet `i` is accepted, `o` being what the first accepted says
   pub record Compared (i : ℕ) (k o : Packet) : Type 0 where
-    pub accepts : Reads i (accepted k)
+    pub accepts : Reads i (Ok k)
     pub origin : ℕ
     pub first : First origin o
 
@@ -74,7 +74,7 @@ module _ (L : Layout) (ps : List (List ℕ)) where
   -- "refused (1 to 13, 15 or 16, strictly; 30 or 31 against the first accepted; ..)"
   abbrev pub Refuses : ℕ → Refusal → Type 0
   Refuses i x =
-      Reads i (refused x)
+      Reads i (Err x)
       ⊎ (OtherSource i × (x ≡ record { number = 30; index = 0 }))
       ⊎ (OtherType i × (x ≡ record { number = 31; index = 0 }))
 

@@ -25,15 +25,9 @@ pub struct Findings {
     pub raster: bool,
 }
 
-#[derive(Clone, Copy)]
-pub enum Outcome {
-    Refused(Refusal),
-    Sound(Findings),
-}
-
 // The next state, and what the packet showed.
 #[derive(Clone, Copy)]
 pub struct Step {
     pub checker: Checker,
-    pub outcome: Outcome,
+    pub outcome: Result<Findings, Refusal>,
 }

@@ -1,6 +1,7 @@
 // What a packet of the stream breaks.
 use wire_spec::refusal::Refusal;
 
+// Kept whole: a refusal is one of the things that a line of the report can tell, and `entries` lists them together.
 #[derive(Clone, Copy)]
 pub enum Finding {
     Refused(Refusal),

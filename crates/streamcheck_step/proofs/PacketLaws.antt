@@ -1,11 +1,11 @@
 -- What a packet that was checked shows: its records as the list that they are read to, which is never too short, and what stands beside them.
 -- A record needs no more cells than it has octets (`cells-octets`), so 14 cannot be given.
-use Rattle.std.proofs.Common.{◌≡◌, ℕ, ◌+◌, ◌^◌, ◌<◌, ◌≤◌, Bool, not, eqb, List, [], ◌∷◌, ◌++◌, length, take, drop, sym, refl, ap, ◌∙◌, subst, arith, length-append, length-drop, length-take, take_at}
+use Rattle.std.proofs.Common.{◌≡◌, ℕ, ◌^◌, ◌<◌, ◌≤◌, Bool, not, eqb, List, [], ◌∷◌, length, take, drop, sym, refl, ap, ◌∙◌, subst, arith, length-append, length-drop, length-take, take_at}
 use Rattle.wire_spec.specs.declared.layout.Layout.TheVariants as layout
 use Rattle.wire_spec.specs.declared.refusal.Refusal.{Refusal}
 use Rattle.wire_spec.specs.Bits.{Below, overwrite}
 use Rattle.wire_spec.specs.Layout.{Layout, rfc8331, f_bits}
-use Rattle.wire_spec.specs.Result.{Result, refused, accepted, ◌then◌}
+use Rattle.wire_spec.specs.Result.{Result, Err, Ok, ◌then◌}
 use Rattle.wire_spec.specs.Anc.{Record, Each, WellFormed, anc_octets, run_octets}
 use Rattle.wire_spec.specs.Cells.{Lists, cells_of, list_of, read_list}
 use Rattle.wire_spec.specs.Packet.{Packet, Content, content, max_packet, length_field, run_at, reserved_field, packet_read, read_packet, read_content}
@@ -17,15 +17,12 @@ use Rattle.wire_spec.proofs.PacketLaws.{Answer, answer-iff, header-sizes, region
 use Rattle.rtp_strict_reader.specs.declared.packet.Head.{Head}
 use Rattle.rtp_strict_reader.specs.declared.packet.Outline.{Outline}
 use Rattle.rtp_strict_reader.specs.declared.packet.Summary.{Summary}
-use Rattle.rtp_strict_reader.specs.declared.packet.Checked.TheVariants as checked
-use Rattle.rtp_strict_reader.specs.declared.packet.Read.TheVariants as read
-use Rattle.rtp_strict_reader.specs.Answers.{head_of, summary_of, checked_of, cells_after, read_of}
+use Rattle.rtp_strict_reader.specs.Answers.{head_of, checked_of, cells_after, read_of}
 use Rattle.rtp_strict_reader.proofs.ReadLaws.{found, refused-is, summary-is}
 use Rattle.streamcheck_spec.specs.declared.checker.Checker.{Checker}
-use Rattle.streamcheck_spec.specs.declared.checker.Outcome.TheVariants as outcome
 use Rattle.streamcheck_spec.specs.declared.place.Scan.{Scan}
 use Rattle.streamcheck_spec.specs.Check.{is_reserved}
-use Rattle.streamcheck_spec.specs.Code.{scan_of, past_all, past_list, step_of, turn_by, turn}
+use Rattle.streamcheck_spec.specs.Code.{scan_of, past_all, step_of, turn_by, turn}
 
 -- a run has an octet for each cell of its records
 cells-run : (L : Layout) (rs : List Record) → length (list_of rs) ≤ length (run_octets L rs)
@@ -51,23 +48,23 @@ unfolding packet_read
 reserved-read L rs s = refl
 
 -- a packet that was refused
-pub refused-packet : (L : Layout) (s : List ℕ) (st : Checker) (x : Refusal) → checked_of L s (read_content L s) ≡ checked.Refused x
-    → record { checker = st; outcome = outcome.Refused x } ≡ turn L st s
+pub refused-packet : (L : Layout) (s : List ℕ) (st : Checker) (x : Refusal) → checked_of L s (read_content L s) ≡ Err x
+    → record { checker = st; outcome = Err x } ≡ turn L st s
 unfolding turn read_content
 refused-packet L s st x h = go (read_packet L s) (refused-is L s (read_content L s) x h)
   where
-    go : (q : Result Packet) → (q then λ k. accepted (content k)) ≡ refused x → record { checker = st; outcome = outcome.Refused x } ≡ turn_by st q
-    go (refused y) e = let d : y ≡ x = cc in ap (λ (z : Refusal). record { checker = st; outcome = outcome.Refused z }) (sym d)
-    go (accepted k) e = let z : ◌≡◌ {A = ℕ} 0 1 = cc in absurd (omega arith)
+    go : (q : Result Packet) → (q then λ k. Ok (content k)) ≡ Err x → record { checker = st; outcome = Err x } ≡ turn_by st q
+    go (Err y) e = let d : y ≡ x = cc in ap (λ (z : Refusal). record { checker = st; outcome = Err z }) (sym d)
+    go (Ok k) e = let z : ◌≡◌ {A = ℕ} 0 1 = cc in absurd (omega arith)
 
-module _ (L : Layout) (s : List ℕ) (o : Outline) (h : checked_of L s (read_content L s) ≡ checked.Packet o) where
+module _ (L : Layout) (s : List ℕ) (o : Outline) (h : checked_of L s (read_content L s) ≡ Ok o) where
   -- what the packet is, by what was found of it
   pub record Shows : Type 0 where
     pub packet : Packet
-    pub reads : read_packet L s ≡ accepted packet
+    pub reads : read_packet L s ≡ Ok packet
     pub fits : o.cells ≤ max_packet
-    pub listed : (cells : List ℕ) → read_list (take o.cells (cells_after (read_content L s) cells)) ≡ accepted packet.records
-    pub head : (m : Summary) → read_of (read_content L s) ≡ read.Packet m → m.head ≡ head_of (content packet)
+    pub listed : (cells : List ℕ) → read_list (take o.cells (cells_after (read_content L s) cells)) ≡ Ok packet.records
+    pub head : (m : Summary) → read_of (read_content L s) ≡ Ok m → m.head ≡ head_of (content packet)
     pub reserved : not (eqb (reserved_field L s) 0) ≡ is_reserved packet
 
   pub shows : Below 256 s → Shows

@@ -7,9 +7,9 @@ ghost use Rattle.streamcheck_spec.specs.Code.{turn};
 
 use crate::step::{scan_of, step};
 use rtp_strict_reader::check::{check, read_records, summary_at};
-use rtp_strict_reader::packet::{Checked, Outline};
+use rtp_strict_reader::packet::Outline;
 use streamcheck_raster::past_list;
-use streamcheck_spec::checker::{Checker, Outcome, Step};
+use streamcheck_spec::checker::{Checker, Step};
 use wire_spec::count::OctetCount;
 use wire_spec::layout::{ANC_COUNT_AT, Layout};
 use wire_spec::limit::READ_INDEX;
@@ -38,7 +38,7 @@ fn check_accepted(
     outline: Outline,
     cells: &mut [u16],
 ) -> Step
-    requires octets_value { checked_of layout octets.now (read_content layout octets.now) ≡ Checked.Packet outline }
+    requires octets_value { checked_of layout octets.now (read_content layout octets.now) ≡ Ok outline }
     requires max_packet_in_bounds { max_packet ≤ length cells.old }
     ensures value { result ≡ turn layout checker octets.now }
     ensures cells_after { cells.new ≡ cells_after (read_content layout octets.now) cells.old }
@@ -58,12 +58,11 @@ pub fn check_packet(layout: Layout, checker: Checker, octets: &[u8], cells: &mut
     ensures value { result ≡ turn layout checker octets.now }
     ensures cells_after { cells.new ≡ cells_after (read_content layout octets.now) cells.old }
 {
-    let checked = check(layout, octets);
-    let Checked::Packet(outline) = checked else {
-        return Step {
+    match check(layout, octets) {
+        Ok(outline) => check_accepted(layout, checker, octets, outline, cells),
+        Err(refusal) => Step {
             checker,
-            outcome: Outcome::Refused(checked.refusal()),
-        };
-    };
-    check_accepted(layout, checker, octets, outline, cells)
+            outcome: Err(refusal),
+        },
+    }
 }

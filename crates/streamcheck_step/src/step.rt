@@ -4,7 +4,7 @@ ghost use Rattle.streamcheck_spec.specs.Check.{no_place, opened, place_within};
 ghost use Rattle.streamcheck_spec.specs.Code.{change_in, gap_in, scan_of, sound_step, source_in, step_of, type_in};
 
 use rtp_strict_reader::packet::Head;
-use streamcheck_spec::checker::{Checker, Findings, Outcome, Step};
+use streamcheck_spec::checker::{Checker, Findings, Step};
 use streamcheck_spec::place::{Place, Scan};
 use wire_spec::number::{PacketNumber, Timestamp};
 use wire_spec::refusal::Refusal;
@@ -111,7 +111,7 @@ fn sound_step(checker: Checker, head: Head, reserved: bool, scan: Scan) -> Step
     };
     Step {
         checker: next,
-        outcome: Outcome::Sound(findings),
+        outcome: Ok(findings),
     }
 }
 
@@ -122,7 +122,7 @@ pub(crate) fn step(checker: Checker, head: Head, reserved: bool, scan: Scan) -> 
     if !is_source(checker, head.source) {
         return Step {
             checker,
-            outcome: Outcome::Refused(Refusal {
+            outcome: Err(Refusal {
                 number: Refusal::SOURCE_OTHER,
                 index: 0,
             }),
@@ -131,7 +131,7 @@ pub(crate) fn step(checker: Checker, head: Head, reserved: bool, scan: Scan) -> 
     if !is_type(checker, head.payload_type) {
         return Step {
             checker,
-            outcome: Outcome::Refused(Refusal {
+            outcome: Err(Refusal {
                 number: Refusal::TYPE_OTHER,
                 index: 0,
             }),

@@ -1,4 +1,5 @@
 -- `streamcheck` as a program over frames (02, K12): what its buffers must hold, and what its whole run is.
+use Rattle.wire_spec.specs.Result.{Result, Ok, Err}
 use Rattle.std.specs.Prelude.{true, List, ℕ, ◌≤◌}
 use Rattle.wire_spec.specs.Layout.{Layout}
 use Rattle.wire_spec.specs.Packet.{max_packet}
@@ -11,11 +12,9 @@ use Rattle.program_spec.specs.Run.{At}
 use Rattle.program_spec.specs.Walk.{Program}
 use Rattle.streamcheck_spec.specs.Text.{stream_text}
 use Rattle.streamcheck_session.specs.declared.session.Session.{Session}
-use Rattle.streamcheck_session.specs.declared.session.Text.{Text}
-use Rattle.streamcheck_session.specs.declared.session.Text.TheVariants as text
 use Rattle.streamcheck_session.specs.Answers.{begun, streamcheck}
 use Rattle.streamcheck_lines.specs.Lines.{lines_room}
-use Rattle.streamcheck_turns.specs.declared.Run.{Run}
+use Rattle.program.specs.declared.run.Run.{Run}
 
 -- WHAT THE BUFFERS MUST HOLD: a whole frame; the cells of any packet's records; and the lines of one packet
 pub record Enough (input list out : ℕ) : Type 0 where
@@ -24,16 +23,16 @@ pub record Enough (input list out : ℕ) : Type 0 where
   pub text : lines_room ≤ out
 
 -- the octets of a text
-abbrev pub octets_of : Text → ℕ
-octets_of (text.Octets n) = n
-octets_of (text.Refused x) = 0
+abbrev pub octets_of : Result ℕ → ℕ
+octets_of (Ok n) = n
+octets_of (Err x) = 0
 
 -- `streamcheck` takes frames as its items; there are cells for any packet
 abbrev pub program : Program
 program = over_frames (streamcheck true)
 
 -- at the start nothing is read, and nothing is to be written
-abbrev pub started : Layout → Run
+abbrev pub started : Layout → Run Session
 started L = record { session = begun L; buffers = buffers.begun 0 }
 
 -- THE WHOLE RUN: what is written is the report on what is read

@@ -1,27 +1,54 @@
 #![tactic(auto)]
-// What `streamcheck` does between a read and a write (02, K12): it reports a frame, writes the text that waits, or reads more. Each function asks
-// that places lie within the buffers, and that these are large enough (`Enough`).
-ghost use Rattle.std.specs.Prelude.{◌+◌, ◌^◌, ◌<◌, ◌≤◌, ◌≡◌, length};
+// What `streamcheck` does between a read and a write (02, K12): it reports a frame, writes the text that waits, or reads more, as any
+// program over items does (`program::run`); at the end it puts the last line.
+ghost use Rattle.std.specs.Prelude.{◌≤◌, ◌≡◌, length};
+ghost use Rattle.wire_spec.specs.Packet.{max_packet};
+ghost use Rattle.rtp_frames.specs.Frames.{max_frame};
 ghost use Rattle.program_spec.specs.Buffers.{InBounds};
-ghost use Rattle.program_spec.specs.Run.{Closed, Turned, at};
+ghost use Rattle.program_spec.specs.Run.{Closed, at};
 ghost use Rattle.streamcheck_lines.specs.Lines.{lines_room};
-ghost use Rattle.streamcheck_turns.specs.Turns.{Enough, octets_of, program, started};
+ghost use Rattle.streamcheck_turns.specs.Turns.{octets_of, program, started};
 
-use program::buffers::{after_step, flush, is_done};
-use program::streams::{Sink, Source};
+use program::buffers::{flush, is_done};
+use program::run::{Reply, Run, TakesItems};
+use program::streams::Sink;
 use program_spec::buffers::Buffers;
-use streamcheck_session::session::{Session, Text, begin, check_frame, finish};
+use streamcheck_session::session::{Session, begin, check_frame, finish};
 use wire_spec::layout::Layout;
+use wire_spec::refusal::Refusal;
 
-// The session, and what it left in the buffers.
+// `streamcheck`, which takes frames; the store has the cells of one packet's records.
 #[derive(Clone, Copy)]
-pub struct Run {
-    pub session: Session,
-    pub buffers: Buffers,
+pub struct Check;
+
+impl TakesItems for Check {
+    type Session = Session;
+
+    ghost program = { λ it. program };
+
+    ghost most = { λ it. max_frame };
+
+    ghost carried = { λ it session cells. session };
+
+    ghost can_take = { λ it session cells. max_packet ≤ length cells };
+
+    fn take(
+        self,
+        session: Session,
+        octets: &[u8],
+        store: &mut [u16],
+        out: &mut [u8],
+    ) -> Reply<Session> {
+        let reported = check_frame(session, octets, store, out);
+        Reply {
+            session: reported.session,
+            step: reported.step,
+        }
+    }
 }
 
 // Nothing is read, and nothing waits to be written; packets are told this layout.
-pub fn start(layout: Layout) -> Run
+pub fn start(layout: Layout) -> Run<Session>
     ensures { result ≡ started layout }
 {
     Run {
@@ -30,45 +57,14 @@ pub fn start(layout: Layout) -> Run
     }
 }
 
-// One frame, or what must be done before the next.
-pub fn turn(
-    from: &mut Source,
-    to: &mut Sink,
-    run: Run,
-    input: &mut [u8],
-    cells: &mut [u16],
-    out: &mut [u8],
-) -> Run
-    requires in_bounds { InBounds run.buffers (length input.old) (length out.old) }
-    requires enough { Enough (length input.old) (length cells.old) (length out.old) }
-    requires index_bound { run.session.index + 1 < 2 ^ 64 }
-    ensures { Turned program (at run.session run.buffers input.old out.old) (at result.session result.buffers input.new out.new) }
-{
-    let session = run.session;
-    let buffers = run.buffers;
-    let at = buffers.at;
-    let end = buffers.end;
-    let filled = buffers.filled;
-    let reported = check_frame(session, &input[at..end], cells, &mut out[filled..]);
-    let next = reported.session;
-    let step = reported.step;
-    Run {
-        session: next,
-        buffers: after_step(from, to, buffers, step, input, out),
-    }
-}
-
-fn octets_of(text: Text) -> usize
+fn octets_of(text: Result<usize, Refusal>) -> usize
     ensures { result ≡ octets_of text }
 {
-    match text {
-        Text::Octets(n) => n,
-        Text::Refused(_) => 0,
-    }
+    text.unwrap_or(0)
 }
 
 // The last line, where the last frame is cut.
-pub fn close(to: &mut Sink, run: Run, input: &[u8], out: &mut [u8]) -> Buffers
+pub fn close(to: &mut Sink, run: Run<Session>, input: &[u8], out: &mut [u8]) -> Buffers
     requires in_bounds { InBounds run.buffers (length input.now) run.buffers.filled }
     requires lines_room_in_bounds { lines_room ≤ length out.old }
     ensures { Closed program (at run.session run.buffers input.now out.old) result out.new }

@@ -11,7 +11,7 @@ use wire_spec::layout::{
     WORD_BITS, WORDS_AT,
 };
 
-pub mod stage;
+// Kept as a match each, here and in what follows: a function that chooses between two numbers would need a definition and a lemma for each.
 
 // Octets of the payload header.
 pub fn payload_header_size(layout: Layout) -> usize

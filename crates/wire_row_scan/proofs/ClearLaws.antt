@@ -1,10 +1,11 @@
 -- Protected words: a number that is under 8 where a word is one, and rows that are tested one behind the other.
 -- By cases on the tests, and by induction on the words.
-use Rattle.std.proofs.Common.{◌≡◌, ℕ, zero, suc, ◌+◌, ◌*◌, ◌%◌, ◌<◌, ◌≤◌, Bool, true, false, ◌&&◌, leb, List, [], ◌∷◌, ◌++◌, length, get_or, set, sym, refl, ap, ◌∙◌, arith, le-leb, leb-false, leb-true}
+use Rattle.std.proofs.Common.{◌≡◌, ℕ, zero, suc, ◌+◌, ◌*◌, ◌%◌, ◌<◌, Bool, true, false, ◌&&◌, leb, List, [], ◌∷◌, ◌++◌, length, get_or, set, sym, refl, ap, ◌∙◌, arith, le-leb, leb-false, leb-true, min}
 use mathlib.Core.Bool.{and_assoc}
 use native.Mathlib.Nat.{mod-mod}
 use borrow.Author.Tests.{lt-leb}
-use Rattle.wire_spec.specs.Bits.{Below, bits_at, row_at}
+use Rattle.std.proofs.lemmas.Bool.Decides.{nat_tests}
+use Rattle.wire_spec.specs.Bits.{Below, row_at}
 use Rattle.wire_spec.specs.Words.{word_bits, sum_low, is_clear, all_clear}
 use Rattle.wire_spec.proofs.BitLaws.{bits_at-lt}
 use Rattle.wire_row_scan.specs.Clear.{all_high, Scanned, Tallied}
@@ -15,7 +16,7 @@ and-false : (a : Bool) → a && false ≡ false
 and-false true = refl
 and-false false = refl
 
-and_comm : (a b : Bool) → a && b ≡ b && a
+pub and_comm : (a b : Bool) → a && b ≡ b && a
 and_comm true true = refl
 and_comm true false = refl
 and_comm false b = sym (and-false b)
@@ -30,15 +31,8 @@ pub turned_clear : (w : ℕ) → w < 1024 → leb 8 ((w + 4) % 1024) ≡ is_clea
 turned_clear w h = turned-cases w h (leb 4 w) (leb w 1019) refl refl
 
 -- the lesser of two numbers
-pub lesser-is : (a b : ℕ) → a ≤ b → leb 8 a ≡ leb 8 a && leb 8 b
-lesser-is a b h = go (leb 8 a) refl
-  where
-    go : (t : Bool) → leb 8 a ≡ t → t ≡ t && leb 8 b
-    go true e = sym (le-leb 8 b (omega (arith, leb-true 8 a e)))
-    go false e = refl
-
-pub lesser-second : (a b : ℕ) → b ≤ a → leb 8 b ≡ leb 8 a && leb 8 b
-lesser-second a b h = lesser-is b a h ∙ and_comm (leb 8 b) (leb 8 a)
+pub high-min : (a b : ℕ) → leb 8 (min a b) ≡ leb 8 a && leb 8 b
+high-min a b = grind (arith, nat_tests)
 
 -- one lane tested
 pub high-set : (l : List ℕ) (j y : ℕ) (t : Bool) → j < length l → leb 8 y ≡ leb 8 (get_or l j 0) && t → all_high (set l j y) ≡ all_high l && t

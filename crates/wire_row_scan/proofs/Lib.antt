@@ -1,3 +1,2 @@
 pub mod SumLaws
 pub mod ClearLaws
-pub mod TotalLaws

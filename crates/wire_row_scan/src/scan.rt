@@ -1,13 +1,11 @@
 // Rows of words in octets, passed over once for their sum (01, "Checksum") and for protected words among them (02, K5). The functions ask that the
 // words lie within the octets.
-ghost use Rattle.std.specs.Prelude.{◌≡◌, ◌+◌, ◌*◌, ◌%◌, ◌^◌, ◌<◌, ◌&&◌, length, nat_le};
+ghost use Rattle.std.specs.Prelude.{◌≡◌, ◌+◌, ◌*◌, ◌%◌, ◌^◌, ◌<◌, ◌&&◌, length, nat_le, sum};
 ghost use Rattle.wire_spec.specs.Bits.{Below, row_at};
 ghost use Rattle.wire_spec.specs.Words.{all_clear, is_clear, word_bits, sum_low};
 ghost use Rattle.wire_words.specs.Word.{WordsFit};
 ghost use Rattle.wire_row_scan.specs.Clear.{Scanned, Tallied, all_high};
-ghost use Rattle.wire_row_scan.specs.Total.{total};
 
-use std::num::wrapping_add_u16;
 use wire_row_reader::lane::{eight_at, lanes, step};
 use wire_words::word::{fetch, words_before_octet};
 
@@ -33,12 +31,6 @@ fn turned(w: u16) -> u16
     (w + 4) % 1024
 }
 
-fn lesser(a: u16, b: u16) -> u16
-    ensures { nat_le 8 result ≡ nat_le 8 a && nat_le 8 b }
-{
-    if a < b { a } else { b }
-}
-
 // Of `count` words from the bit `bit` on, one a turn, as is best for a few.
 fn tally_singly(octets: &[u8], bit: usize, count: usize) -> Tally
     requires { WordsFit octets.now bit count }
@@ -46,12 +38,10 @@ fn tally_singly(octets: &[u8], bit: usize, count: usize) -> Tally
 {
     let mut sum: u16 = 0;
     let mut low: u16 = 1023;
-    let mut k: usize = 0;
-    while k < count {
+    for k in 0..count {
         let w = fetch(octets, bit + 10 * k);
-        sum = wrapping_add_u16(sum, w);
-        low = lesser(low, turned(w));
-        k += 1;
+        sum = sum.wrapping_add(w);
+        low = turned(w).min(low);
     }
     Tally { sum, low }
 }
@@ -59,12 +49,10 @@ fn tally_singly(octets: &[u8], bit: usize, count: usize) -> Tally
 // Adds each word to the sum of its lane.
 fn add_lanes(words: &[u16], sums: &mut [u16])
     requires { length words.now ≡ length sums.old }
-    ensures { total sums.new % 512 ≡ (total sums.old + sum_low words.now) % 512 }
+    ensures { sum sums.new % 512 ≡ (sum sums.old + sum_low words.now) % 512 }
 {
-    let mut j: usize = 0;
-    while j < words.len() {
-        sums[j] = wrapping_add_u16(sums[j], words[j]);
-        j += 1;
+    for (j, w) in words.iter().enumerate() {
+        sums[j] = sums[j].wrapping_add(*w);
     }
 }
 
@@ -73,40 +61,28 @@ fn test_lanes(words: &[u16], lows: &mut [u16])
     requires { (length words.now ≡ length lows.old) × Below (2 ^ word_bits) words.now }
     ensures { all_high lows.new ≡ all_high lows.old && all_clear words.now }
 {
-    let mut j: usize = 0;
-    while j < words.len() {
-        lows[j] = lesser(lows[j], turned(words[j]));
-        j += 1;
+    for (j, w) in words.iter().enumerate() {
+        lows[j] = lows[j].min(turned(*w));
     }
 }
 
 // The sums of all lanes together, modulo 65,536.
 fn total_of(sums: &[u16]) -> u16
-    ensures { result ≡ total sums.now % 2 ^ 16 }
+    ensures { result ≡ sum sums.now % 2 ^ 16 }
 {
-    let mut sum: u16 = 0;
-    let mut j: usize = 0;
-    while j < sums.len() {
-        sum = wrapping_add_u16(sum, sums[j]);
-        j += 1;
-    }
-    sum
+    sums.iter().fold(0, |sum: u16, x| sum.wrapping_add(*x))
 }
 
 // The least of all lanes.
 fn least_of(lows: &[u16]) -> u16
     ensures { nat_le 8 result ≡ all_high lows.now }
 {
-    let mut low: u16 = 1023;
-    let mut j: usize = 0;
-    while j < lows.len() {
-        low = lesser(low, lows[j]);
-        j += 1;
-    }
-    low
+    lows.iter().fold(1023, |low: u16, x| low.min(*x))
 }
 
 // Of eight words a turn, from the octet `from` on.
+// Kept as a counted loop: where the compiler sees its step, as in a `for`, a row of 255 words takes 1,330 instructions
+// in place of 720.
 fn tally_eights(octets: &[u8], from: usize, eights: usize) -> Tally
     requires { WordsFit octets.now (8 * from) (8 * eights) }
     ensures { Tallied (row_at word_bits octets.now (8 * from) (8 * eights)) result.sum result.low }
@@ -133,8 +109,8 @@ fn join(a: Tally, b: Tally) -> Tally
     ensures { (result.sum ≡ (a.sum + b.sum) % 2 ^ 16) × (nat_le 8 result.low ≡ nat_le 8 a.low && nat_le 8 b.low) }
 {
     Tally {
-        sum: wrapping_add_u16(a.sum, b.sum),
-        low: lesser(a.low, b.low),
+        sum: a.sum.wrapping_add(b.sum),
+        low: a.low.min(b.low),
     }
 }
 
@@ -169,7 +145,7 @@ pub fn both(a: Scan, b: Scan) -> Scan
     ensures { (result.sum ≡ (a.sum + b.sum) % 2 ^ 16 % 512) × (result.clear ≡ a.clear && b.clear) }
 {
     Scan {
-        sum: wrapping_add_u16(a.sum, b.sum) % 512,
+        sum: a.sum.wrapping_add(b.sum) % 512,
         clear: a.clear & b.clear,
     }
 }

@@ -2,17 +2,13 @@
 ghost use Rattle.std.specs.Prelude.{◌≡◌, ◌%◌};
 ghost use Rattle.wire_spec.specs.Words.{sum_low};
 
-use std::num::wrapping_add_u16;
-
 // Modulo 512: the checksum word asks no more.
 pub fn sum_cells(words: &[u16]) -> u16
     ensures { result ≡ sum_low words.now % 512 }
 {
     let mut sum: u16 = 0;
-    let mut k: usize = 0;
-    while k < words.len() {
-        sum = wrapping_add_u16(sum, words[k]);
-        k += 1;
+    for w in words {
+        sum = sum.wrapping_add(*w);
     }
     sum % 512
 }

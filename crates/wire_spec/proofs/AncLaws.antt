@@ -13,10 +13,10 @@ use lib.ListN.{length, take, drop, length-append, length-take, take-append-drop}
 use lib.Seq.{take_at, drop_at}
 use lib.Pow.{pow_pos}
 use borrow.Author.Tests.{eq-eqb, eqb-true, leb-true, le-leb}
-use Rattle.wire_spec.specs.Bits.{num, bits_at, row_at, Fields, row, width, Fit, Below}
+use Rattle.wire_spec.specs.Bits.{bits_at, row_at, Fields, row, width, Fit, Below}
 use Rattle.wire_spec.specs.Words.{word_bits, header_numbers, header_word, is_header_word, sum_low, checksum_word, all_clear}
-use Rattle.wire_spec.specs.Layout.{Layout, rfc8331, s_bits, stream_bits, r_bits, alignment, least_size}
-use Rattle.wire_spec.specs.Result.{accepted}
+use Rattle.wire_spec.specs.Layout.{Layout, s_bits, stream_bits, r_bits, alignment, least_size}
+use Rattle.wire_spec.specs.Result.{Ok}
 use Rattle.wire_spec.specs.Anc.{Each, Record, InRange, WellFormed, checksum, header_fields, body_fields_with, padding, anc_fields_with, anc_octets_with, anc_octets, run_octets, body_bits, anc_size, did_at, words_at, data_count, anc_record, headers_ok, r_ok, words_ok, sum_field, checksum_ok, alignment_ok, anc_checks, read_anc, behind, read_run, run_size}
 use Rattle.wire_spec.proofs.BitLaws.{Reads, packed, unpacked, reads-append, width-row, length-row_at, reads-row_at, row_at-reads, below-drop, below-octets, below-append, fit_append}
 use Rattle.wire_spec.proofs.SizeLaws.{width-body, width-with, length-with, length-anc, least_size_lem}
@@ -191,24 +191,24 @@ module _ (L : Layout) (s : List ℕ) where
   sound-count g = sym (sound-reads g).1
 
   module _ (i : ℕ) (r : Record) where
-    answer-is : read_anc L i s ≡ accepted r → Sound × (checksum_ok L s ≡ true) × (anc_record L s ≡ r)
+    answer-is : read_anc L i s ≡ Ok r → Sound × (checksum_ok L s ≡ true) × (anc_record L s ≡ r)
     unfolding read_anc
     answer-is e =
-        let q = judge-accepts i (anc_checks L s) (accepted (anc_record L s)) r e in
+        let q = judge-accepts i (anc_checks L s) (Ok (anc_record L s)) r e in
         let g = sound-passed.0 q.0 in
         (g.0, g.1, accepted-inj q.1)
 
     -- an accepted packet's record is what its fields read as
-    pub record-read : read_anc L i s ≡ accepted r → anc_record L s ≡ r
+    pub record-read : read_anc L i s ≡ Ok r → anc_record L s ≡ r
     record-read e = (answer-is e).2
 
     -- an accepted packet has as many words as its Data_Count says
-    pub count-read : read_anc L i s ≡ accepted r → data_count L s ≡ length r.words
+    pub count-read : read_anc L i s ≡ Ok r → data_count L s ≡ length r.words
     count-read e = let q = answer-is e in sound-count q.0 ∙ ap (λ (x : Record). length x.words) q.2
 
   -- ONE ANC PACKET is accepted exactly when the octets of a well-formed record stand at the front
   pub accepts-iff : Below 256 s → (i : ℕ) (r : Record)
-      → (read_anc L i s ≡ accepted r) ↔ (WellFormed L r × (take (anc_size L (length r.words)) s ≡ anc_octets L r))
+      → (read_anc L i s ≡ Ok r) ↔ (WellFormed L r × (take (anc_size L (length r.words)) s ≡ anc_octets L r))
   unfolding read_anc
   accepts-iff b i r = (
     λ e.
@@ -219,12 +219,12 @@ module _ (L : Layout) (s : List ℕ) where
     λ p.
         let q = (sound-iff b r (checksum r)).1 (p.0, checksum-lt _, p.1) in
         let own = own-word q.0.headers ∙ eq-eqb _ _ (q.2 ∙ ap checksum (sym q.1)) in
-        judge-passes i (anc_checks L s) (accepted (anc_record L s)) (sound-passed.1 (q.0, own)) ∙ ap accepted q.1,
+        judge-passes i (anc_checks L s) (Ok (anc_record L s)) (sound-passed.1 (q.0, own)) ∙ ap Ok q.1,
   )
 
 -- A RUN of n ANC packets is accepted exactly when the octets of n well-formed records stand at the front
 pub run-iff : (L : Layout) (i n : ℕ) (s : List ℕ) → Below 256 s → (rs : List Record) (rest : List ℕ)
-    → (read_run L i n s ≡ accepted (rs, rest)) ↔ ((length rs ≡ n) × Each (WellFormed L) rs × (s ≡ run_octets L rs ++ rest))
+    → (read_run L i n s ≡ Ok (rs, rest)) ↔ ((length rs ≡ n) × Each (WellFormed L) rs × (s ≡ run_octets L rs ++ rest))
 unfolding read_run
 run-iff L i zero s b [] rest = (λ e. (refl, tt, ap (λ q. q.1) (accepted-inj e)), λ p. rw p.2)
 run-iff L i zero s b (r ∷ rs) rest =
@@ -244,10 +244,10 @@ run-iff L i (suc n) s b (r ∷ rs) rest =
           let c = then-accepts (read_run L (i + 1) n (behind L s)) _ _ a.2 in
           let q = accepted-inj c.2 in
           let h = cons-eq-cons.0 (ap (λ q. q.0) q) in
-          let front = a.1 ∙ ap accepted h.0 in
+          let front = a.1 ∙ ap Ok h.0 in
           let one = (accepts-iff L s b i r).0 front in
           let d : behind L s ≡ drop size s = ap (λ (x : ℕ). drop (anc_size L x) s) (count-read L s i r front) in
-          let more = ih.0 (c.1 ∙ ap accepted (λ j. (h.1 j, (q j).1))) in (
+          let more = ih.0 (c.1 ∙ ap Ok (λ j. (h.1 j, (q j).1))) in (
             ap suc more.0,
             (one.0, more.1),
             sym (take-append-drop size s) ∙ ap₂ ◌++◌ one.1 (sym d ∙ more.2) ∙ sym (append_assoc (anc_octets L r) (run_octets L rs) rest),

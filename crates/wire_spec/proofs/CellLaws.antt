@@ -14,7 +14,7 @@ use borrow.Author.Tests.{leb-true, le-leb, ltb-true, lt-ltb}
 use Rattle.wire_spec.specs.Bits.{Below}
 use Rattle.wire_spec.specs.Words.{word_bits, header_numbers, all_clear}
 use Rattle.wire_spec.specs.Layout.{rfc8331, s_bits, stream_bits}
-use Rattle.wire_spec.specs.Result.{accepted, ◌then◌}
+use Rattle.wire_spec.specs.Result.{Ok, ◌then◌}
 use Rattle.wire_spec.specs.Anc.{Record, InRange, WellFormed, Each}
 use Rattle.wire_spec.specs.Cells.{head_cells, cells_in, list_in, list_of, max_index, Lists, cell_count, cell_index, cell_record, all_below, head_in_range, cell_checks, rest, records_from, records_in, clear_from, read_list}
 use Rattle.wire_spec.specs.Writing.{cells_before, StillFits}
@@ -92,7 +92,7 @@ front_reads p r t h hp =
 
 -- with a bound that is large enough, 20 is not given exactly where the cells are those of records in range
 pub records-iff : (bound i : ℕ) (l : List ℕ) → length l ≤ bound → (rs : List Record)
-    → (records_from bound i l ≡ accepted rs) ↔ (Each (InRange rfc8331) rs × Lists rs l)
+    → (records_from bound i l ≡ Ok rs) ↔ (Each (InRange rfc8331) rs × Lists rs l)
 unfolding records_from
 records-iff zero i [] h [] = (λ e. (tt, refl), λ p. refl)
 records-iff zero i [] h (r ∷ rs) = (λ e. absurd (nil≢cons (accepted-inj e)), λ p. absurd (nil≢cons p.1.3))
@@ -114,7 +114,7 @@ records-iff (suc bound) i (x ∷ l) h (r ∷ rs) =
           let b = then-accepts (records_from bound (i + 1) (rest (x ∷ l))) _ (r ∷ rs) a.1 in
           let c = cons-eq-cons.0 (accepted-inj b.2) in
           let f = front-passed (x ∷ l) a.0 in
-          let more = ih.0 (b.1 ∙ ap accepted c.1) in
+          let more = ih.0 (b.1 ∙ ap Ok c.1) in
           let index = cell_index (x ∷ l) in
           let behind = rest (x ∷ l) in (
             (subst (InRange rfc8331) c.0 f.0, more.0),
@@ -130,7 +130,7 @@ records-iff (suc bound) i (x ∷ l) h (r ∷ rs) =
 abbrev pub Clear : Record → Type 0
 Clear r = all_clear r.words ≡ true
 
-pub clear-iff : (i : ℕ) (rs qs : List Record) → (clear_from i rs ≡ accepted qs) ↔ ((rs ≡ qs) × Each Clear qs)
+pub clear-iff : (i : ℕ) (rs qs : List Record) → (clear_from i rs ≡ Ok qs) ↔ ((rs ≡ qs) × Each Clear qs)
 unfolding clear_from
 clear-iff i [] [] = (λ e. (refl, tt), λ p. refl)
 clear-iff i [] (q ∷ qs) = (λ e. absurd (nil≢cons (accepted-inj e)), λ p. absurd (nil≢cons p.0))
@@ -147,13 +147,13 @@ clear-iff i (r ∷ rs) (q ∷ qs) =
           let a = judge-accepts i ((all_clear r.words, 16) ∷ []) _ (q ∷ qs) e in
           let b = then-accepts (clear_from (i + 1) rs) _ (q ∷ qs) a.1 in
           let c = cons-eq-cons.0 (accepted-inj b.2) in
-          let more = ih.0 (b.1 ∙ ap accepted c.1) in
+          let more = ih.0 (b.1 ∙ ap Ok c.1) in
           (ap₂ ◌∷◌ c.0 more.0, (subst Clear c.0 a.0.0, more.1)),
       λ p.
           let c = cons-eq-cons.0 p.0 in
           judge-passes i ((all_clear r.words, 16) ∷ []) _ (subst Clear (sym c.0) p.1.0, tt)
-          ∙ ap (λ z. z then λ ys. accepted (r ∷ ys)) (ih.1 (c.1, p.1.1))
-          ∙ ap (λ (y : Record). accepted (y ∷ qs)) c.0,
+          ∙ ap (λ z. z then λ ys. Ok (r ∷ ys)) (ih.1 (c.1, p.1.1))
+          ∙ ap (λ (y : Record). Ok (y ∷ qs)) c.0,
     )
 
 -- well-formed is in range and without protected words
@@ -166,7 +166,7 @@ formed-iff (r ∷ rs) =
     )
 
 -- A LIST is taken exactly when it is the cells of well-formed records, each with an index that is taken
-pub list-iff : (l : List ℕ) (rs : List Record) → (read_list l ≡ accepted rs) ↔ (Each (WellFormed rfc8331) rs × Lists rs l)
+pub list-iff : (l : List ℕ) (rs : List Record) → (read_list l ≡ Ok rs) ↔ (Each (WellFormed rfc8331) rs × Lists rs l)
 list-iff l rs = (
   λ e.
       let a = then-accepts (records_in l) _ rs e in

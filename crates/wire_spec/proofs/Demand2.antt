@@ -12,10 +12,10 @@ use lib.ListN.{length, length-append}
 use lib.Pow.{pow_pos}
 use borrow.Author.Tests.{ne_eqb, leb-true, le-leb}
 use Rattle.wire_spec.specs.Bits.{pack, Fit, Below, row}
-use Rattle.wire_spec.specs.Layout.{Layout, rfc8331, draft2015, f_bits, reserved_bits, payload_header_size}
-use Rattle.wire_spec.specs.Result.{Result, accepted, judge, ◌then◌}
+use Rattle.wire_spec.specs.Layout.{Layout, rfc8331, draft2015, reserved_bits}
+use Rattle.wire_spec.specs.Result.{Result, Ok, judge, ◌then◌}
 use Rattle.wire_spec.specs.Anc.{Record, WellFormed, Each, anc_octets, run_octets}
-use Rattle.wire_spec.specs.Cells.{list_of, Lists, read_list}
+use Rattle.wire_spec.specs.Cells.{list_of, Lists}
 use Rattle.wire_spec.specs.Packet.{max_packet, Packet, rtp_fields, extension_fields, payload_fields, packet_fields, packet_octets, last_octet, WellFormedPacket, source_count, has_extension, padding_flag, packet_read, read_packet, BareOctets, Content, content, read_content}
 use Rattle.wire_spec.specs.Writing.{layout_ok, max_records, max_cells, max_type, plain, content_octets, HeadFits, with_records, head_checks, limit_checks, packet_records, write_content}
 use Rattle.wire_spec.proofs.BitLaws.{no_bits, length-row_at, below-octets, below-append, fit_append}
@@ -31,14 +31,14 @@ use Rattle.wire_spec.proofs.WritingLaws.{passes, all_pass}
 -- "A packet is accepted exactly when the rules of RFC 8331 and ST 291-1, as document 01 fixes them, hold, and the
 -- records are the ones they define."
 pub acceptance : (L : Layout) (s : List ℕ) → Below 256 s → (k : Content)
-    → (read_content L s ≡ accepted k) ↔ ((p : Packet) × WellFormedPacket L p × (s ≡ packet_octets L p) × (content p ≡ k))
+    → (read_content L s ≡ Ok k) ↔ ((p : Packet) × WellFormedPacket L p × (s ≡ packet_octets L p) × (content p ≡ k))
 unfolding read_content
 acceptance L s b k = (
   λ e.
       let a = then-accepts (read_packet L s) _ k e in
       let f = (packet-iff L s b a.0).0 a.1 in
       (a.0, f.0, f.1, accepted-inj a.2),
-  λ p. ap (λ x. x then λ q. accepted (content q)) ((packet-iff L s b p.0).1 (p.1, p.2)) ∙ ap accepted p.3,
+  λ p. ap (λ x. x then λ q. Ok (content q)) ((packet-iff L s b p.0).1 (p.1, p.2)) ∙ ap Ok p.3,
 )
 
 -- the octets of a packet are octets
@@ -55,7 +55,7 @@ content-plain k =
     λ i. record { source = k.source; type = k.type; marker = k.marker; number = n i; timestamp = k.timestamp; f = k.f; records = k.records }
 
 -- the octets of a content whose plain packet is well-formed read as that content
-pub plain-read : (L : Layout) (k : Content) → WellFormedPacket L (plain k) → read_content L (content_octets L k) ≡ accepted k
+pub plain-read : (L : Layout) (k : Content) → WellFormedPacket L (plain k) → read_content L (content_octets L k) ≡ Ok k
 plain-read L k h = (acceptance L (content_octets L k) (below-packet L (plain k) tt) k).1 (plain k, h, refl, content-plain k)
 
 -- what passes the writer's checks is a well-formed packet
@@ -92,15 +92,15 @@ unfolding write_content
 only-checked L k rs l m room h a b =
     ap₂
     (λ (q : Result (List Record)) (n : ℕ).
-    judge 0 (head_checks k) (q then λ rs. judge 0 (limit_checks L (with_records k rs) n room) (accepted rs)) then
-    λ rs. accepted (content_octets L (with_records k rs)))
+    judge 0 (head_checks k) (q then λ rs. judge 0 (limit_checks L (with_records k rs) n room) (Ok rs)) then
+    λ rs. Ok (content_octets L (with_records k rs)))
     ((list-iff l rs).1 (h, a) ∙ sym ((list-iff m rs).1 (h, b)))
     (lists_length rs l a ∙ sym (lists_length rs m b))
 
 -- "Writing records and reading them gives the same records.", "apart from this cell" (02, K13)
-pub written_read : (L : Layout) (k : Content) (cells : List ℕ) (room : ℕ) (o : List ℕ) → HeadFits k → write_content L k cells room ≡ accepted o
+pub written_read : (L : Layout) (k : Content) (cells : List ℕ) (room : ℕ) (o : List ℕ) → HeadFits k → write_content L k cells room ≡ Ok o
     → (rs : List Record) × Lists rs cells × Each (WellFormed rfc8331) rs × (o ≡ content_octets L (with_records k rs)) × (length o ≤ room)
-    × (read_content L o ≡ accepted (with_records k rs))
+    × (read_content L o ≡ Ok (with_records k rs))
 unfolding write_content
 written_read L k cells room o h e =
     let b = then-accepts (packet_records L k cells room) _ o e in
@@ -124,7 +124,7 @@ written_read L k cells room o h e =
 
 -- the writer takes every list within its limits whose packet is well-formed
 pub writes : (L : Layout) (k : Content) (rs : List Record) (room : ℕ) → WellFormedPacket L (plain (with_records k rs)) → length (list_of rs) ≤ max_cells
-    → length (content_octets L (with_records k rs)) ≤ room → write_content L k (list_of rs) room ≡ accepted (content_octets L (with_records k rs))
+    → length (content_octets L (with_records k rs)) ≤ room → write_content L k (list_of rs) room ≡ Ok (content_octets L (with_records k rs))
 unfolding write_content
 writes L k rs room h l m =
     let q = with_records k rs in
@@ -139,12 +139,12 @@ writes L k rs room h l m =
     let held : layout_ok L k.f rs ≡ true = y.2 in
     let enough : leb (length (content_octets L q)) room ≡ true = le-leb (length (content_octets L q)) room m in
     let limits : Passed (limit_checks L q n room) = search in
-    ap (λ x. x then λ rs. accepted (content_octets L (with_records k rs)))
+    ap (λ x. x then λ rs. Ok (content_octets L (with_records k rs)))
     (all_pass (head_checks k) (λ rs. limit_checks L (with_records k rs) n room) (list_of rs) head rs r limits)
 
 -- what is written of a list's records is their packet
 pub written-octets : (L : Layout) (k : Content) (rs : List Record) (room : ℕ) (o : List ℕ) → Each (WellFormed rfc8331) rs
-    → write_content L k (list_of rs) room ≡ accepted o → content_octets L (with_records k rs) ≡ o
+    → write_content L k (list_of rs) room ≡ Ok o → content_octets L (with_records k rs) ≡ o
 unfolding write_content
 written-octets L k rs room o h e =
     let b = then-accepts (packet_records L k (list_of rs) room) _ o e in
@@ -213,7 +213,7 @@ module _ (L : Layout) (k : Packet) (h : WellFormedPacket L k) where
       }
 
 -- an accepted packet is bare exactly where its octets are
-pub bare-iff : (L : Layout) (s : List ℕ) (k : Packet) → read_packet L s ≡ accepted k → Bare k ↔ BareOctets L s
+pub bare-iff : (L : Layout) (s : List ℕ) (k : Packet) → read_packet L s ≡ Ok k → Bare k ↔ BareOctets L s
 unfolding packet_read
 bare-iff L s k e =
     let r : packet_read L k.records s ≡ k = read_is L s k e in
@@ -225,7 +225,7 @@ bare-iff L s k e =
       λ h. record { p = sym p ∙ h.padding; x = sym x ∙ h.extension; sources = no_length k.sources (sym n ∙ h.sources); reserved = sym v ∙ h.reserved },
     )
 
-module _ (L : Layout) (s : List ℕ) (below : Below 256 s) (k : Content) (e : read_content L s ≡ accepted k) where
+module _ (L : Layout) (s : List ℕ) (below : Below 256 s) (k : Content) (e : read_content L s ≡ Ok k) where
   -- the octets of an accepted packet's content are the packet exactly where it is bare
   pub rewritten-octets-iff : (content_octets L k ≡ s) ↔ BareOctets L s
   unfolding read_content
@@ -259,10 +259,10 @@ module _ (L : Layout) (s : List ℕ) (below : Below 256 s) (k : Content) (e : re
   -- extension or contributing sources, and zero reserved bits." The list has at most 255 records, for ANC_Count has
   -- eight bits; the lent room holds what is written.
   pub rewritten-iff : length (list_of k.records) ≤ max_cells → (room : ℕ) → length (content_octets L k) ≤ room
-      → (write_content L k (list_of k.records) room ≡ accepted s) ↔ BareOctets L s
+      → (write_content L k (list_of k.records) room ≡ Ok s) ↔ BareOctets L s
   rewritten-iff l room m =
-      let w : write_content L k (list_of k.records) room ≡ accepted (content_octets L k) = writes L k k.records room rewritten-formed l m in
-      (λ t. rewritten-octets-iff.0 (accepted-inj (sym w ∙ t)), λ o. w ∙ ap accepted (rewritten-octets-iff.1 o))
+      let w : write_content L k (list_of k.records) room ≡ Ok (content_octets L k) = writes L k k.records room rewritten-formed l m in
+      (λ t. rewritten-octets-iff.0 (accepted-inj (sym w ∙ t)), λ o. w ∙ ap Ok (rewritten-octets-iff.1 o))
 
 -- "Demand 2 holds for each by itself, without reserved bits in the old one": there the fourth condition always holds
 pub bare-draft : (s : List ℕ) → BareOctets draft2015 s ↔ ((padding_flag s ≡ 0) × (has_extension s ≡ 0) × (source_count s ≡ 0))

@@ -9,11 +9,11 @@ use lib.ListN.{length, take, set}
 use Rattle.wire_spec.specs.Bits.{to_bits, num, bits, octets, bits_at, row_at, field_bits}
 use Rattle.wire_spec.specs.Words.{header_word, checksum_word}
 use Rattle.wire_spec.specs.Layout.{rfc8331, draft2015}
-use Rattle.wire_spec.specs.Result.{accepted, refuse, ◌then◌}
+use Rattle.wire_spec.specs.Result.{Ok, refuse}
 use Rattle.wire_spec.specs.Anc.{Record, body_bits, padding, anc_octets, anc_size, anc_record, headers_ok, r_ok, words_ok, checksum_ok, alignment_ok, anc_checks, read_anc, read_run}
 use Rattle.wire_spec.specs.Cells.{cells_of, list_of, cell_record, head_in_range, cell_checks, records_from, clear_from, read_list}
 use Rattle.wire_spec.specs.Packet.{packet_octets, packet_read, header_checks, padding_checks, payload_checks, read_records, read_packet, Content, read_content}
-use Rattle.wire_spec.specs.Writing.{max_records, max_cells, content_octets, with_records, head_ok, head_checks, limit_checks, write_content}
+use Rattle.wire_spec.specs.Writing.{max_records, max_cells, with_records, head_ok, head_checks, limit_checks, write_content}
 use Rattle.wire_spec.proofs.WritingLaws.{limit-fails}
 use Rattle.wire_spec.proofs.Examples.{a, b}
 use Rattle.wire_spec.proofs.PacketExamples.{empty_octets}
@@ -41,8 +41,8 @@ unfolding to_bits num octets field_bits header_word checksum_word
 written = (refl, refl)
 
 -- and read, alone and as a run
-pub read : (i : ℕ) → (read_anc draft2015 i a_octets ≡ accepted a) × (read_anc draft2015 i plain_b_octets ≡ accepted plain_b)
-    × (read_run draft2015 0 2 (a_octets ++ (plain_b_octets ++ (7 ∷ []))) ≡ accepted (a ∷ plain_b ∷ [], 7 ∷ []))
+pub read : (i : ℕ) → (read_anc draft2015 i a_octets ≡ Ok a) × (read_anc draft2015 i plain_b_octets ≡ Ok plain_b)
+    × (read_run draft2015 0 2 (a_octets ++ (plain_b_octets ++ (7 ∷ []))) ≡ Ok (a ∷ plain_b ∷ [], 7 ∷ []))
 unfolding to_bits num bits bits_at row_at header_word checksum_word anc_size anc_record headers_ok r_ok words_ok checksum_ok alignment_ok anc_checks read_anc read_run
 read i = (refl, refl, refl)
 
@@ -54,7 +54,7 @@ nine = record { c = 0; line = 9; offset = 0; s = 0; stream = 0; did = 0x61; sdid
 abbrev nine_octets : List ℕ
 nine_octets = 0x00 ∷ 0x90 ∷ 0x00 ∷ 0x58 ∷ 0x60 ∷ 0x58 ∷ 0x00 ∷ 0x59 ∷ 0x80 ∷ []
 
-pub nine-bits : (i : ℕ) → (anc_octets draft2015 nine ≡ nine_octets) × (read_anc draft2015 i nine_octets ≡ accepted nine)
+pub nine-bits : (i : ℕ) → (anc_octets draft2015 nine ≡ nine_octets) × (read_anc draft2015 i nine_octets ≡ Ok nine)
     × (read_anc draft2015 i (set nine_octets 7 0x99) ≡ refuse 11 i)
 unfolding to_bits num bits octets field_bits bits_at row_at header_word checksum_word anc_size anc_record headers_ok r_ok words_ok checksum_ok alignment_ok anc_checks read_anc read_run
 nine-bits i = (refl, refl, refl)
@@ -88,10 +88,10 @@ abbrev pub packet_of : List ℕ
 packet_of = front 20 2 ++ (a_octets ++ plain_b_octets)
 
 -- written and read; an empty list gives 17 octets
-pub packets : (write_content draft2015 (saying 112 0 []) (list_of (a ∷ plain_b ∷ [])) 37 ≡ accepted packet_of)
-    × (read_content draft2015 packet_of ≡ accepted (saying 112 0 (a ∷ plain_b ∷ [])))
-    × (write_content draft2015 (saying 112 0 []) [] 17 ≡ accepted (front 0 0))
-    × (read_content draft2015 (front 0 0) ≡ accepted (saying 112 0 []))
+pub packets : (write_content draft2015 (saying 112 0 []) (list_of (a ∷ plain_b ∷ [])) 37 ≡ Ok packet_of)
+    × (read_content draft2015 packet_of ≡ Ok (saying 112 0 (a ∷ plain_b ∷ [])))
+    × (write_content draft2015 (saying 112 0 []) [] 17 ≡ Ok (front 0 0))
+    × (read_content draft2015 (front 0 0) ≡ Ok (saying 112 0 []))
 unfolding to_bits num bits octets bits_at row_at field_bits header_word checksum_word anc_size anc_record headers_ok r_ok words_ok checksum_ok alignment_ok anc_checks read_anc read_run packet_octets packet_read header_checks padding_checks payload_checks read_records read_packet read_content cell_record head_in_range cell_checks records_from clear_from write_content
 packets = (refl, refl, refl, refl)
 
@@ -102,7 +102,7 @@ pub refused-packets : (read_content draft2015 (take 16 (front 0 0)) ≡ refuse 5
     × (read_content draft2015 (front 9 0 ++ a_octets) ≡ refuse 8 0)
     × (read_content draft2015 (front 20 1 ++ (a_octets ++ plain_b_octets)) ≡ refuse 13 0)
     × (read_content draft2015 (front 20 2 ++ (a_octets ++ set plain_b_octets 6 0x0A)) ≡ refuse 15 1)
-    × (read_content draft2015 (front 9 1 ++ set a_octets 0 0x40) ≡ accepted (saying 112 0 (record { c = 0; line = 0x409; offset = 0; s = 0; stream = 0; did = 0x41; sdid = 0x05; words = [] } ∷ [])))
+    × (read_content draft2015 (front 9 1 ++ set a_octets 0 0x40) ≡ Ok (saying 112 0 (record { c = 0; line = 0x409; offset = 0; s = 0; stream = 0; did = 0x41; sdid = 0x05; words = [] } ∷ [])))
 unfolding to_bits num bits bits_at row_at header_word checksum_word anc_size anc_record headers_ok r_ok words_ok checksum_ok alignment_ok anc_checks read_anc read_run packet_read header_checks padding_checks payload_checks read_records read_packet read_content
 refused-packets = (refl, refl, refl, refl, refl, refl)
 
@@ -123,7 +123,7 @@ unfolding to_bits num octets field_bits header_word checksum_word packet_octets 
 refused-writing = (refl, refl, refl, refl, refl, refl)
 
 -- "25 .. after 21": over 21's limits, 21 is given whatever F, S and StreamNum are
-pub limits-first : (k : Content) (cells : List ℕ) (rs : List Record) (room : ℕ) → head_ok k.type k.f ≡ true → read_list cells ≡ accepted rs
+pub limits-first : (k : Content) (cells : List ℕ) (rs : List Record) (room : ℕ) → head_ok k.type k.f ≡ true → read_list cells ≡ Ok rs
     → leb (length rs) max_records && leb (length cells) max_cells ≡ false → write_content draft2015 k cells room ≡ refuse 21 0
 unfolding write_content
 limits-first k cells rs room ok e over =

@@ -7,7 +7,7 @@ use lib.ListN.{take, set}
 use Rattle.wire_spec.specs.Bits.{to_bits, num, bits, octets, bits_at, row_at, field_bits}
 use Rattle.wire_spec.specs.Words.{header_word, checksum_word}
 use Rattle.wire_spec.specs.Layout.{rfc8331}
-use Rattle.wire_spec.specs.Result.{accepted, refuse}
+use Rattle.wire_spec.specs.Result.{Ok, refuse}
 use Rattle.wire_spec.specs.Anc.{Record, checksum, body_bits, padding, anc_octets, anc_size, anc_record, headers_ok, r_ok, words_ok, checksum_ok, alignment_ok, anc_checks, read_anc, read_run}
 use Rattle.wire_spec.specs.Cells.{cells_in, cells_of, list_of, cell_record, head_in_range, cell_checks, records_from, clear_from, read_list}
 
@@ -40,15 +40,15 @@ unfolding to_bits num octets field_bits header_word checksum_word
 written = (refl, refl, refl)
 
 -- A and B read, alone and as a run
-pub read : (i : ℕ) → (read_anc rfc8331 i a_octets ≡ accepted a) × (read_anc rfc8331 i b_octets ≡ accepted b)
-    × (read_run rfc8331 0 2 (a_octets ++ (b_octets ++ (7 ∷ []))) ≡ accepted (a ∷ b ∷ [], 7 ∷ []))
+pub read : (i : ℕ) → (read_anc rfc8331 i a_octets ≡ Ok a) × (read_anc rfc8331 i b_octets ≡ Ok b)
+    × (read_run rfc8331 0 2 (a_octets ++ (b_octets ++ (7 ∷ []))) ≡ Ok (a ∷ b ∷ [], 7 ∷ []))
 unfolding to_bits num bits bits_at row_at header_word checksum_word anc_size anc_record headers_ok r_ok words_ok checksum_ok alignment_ok anc_checks read_anc read_run
 read i = (refl, refl, refl)
 
 -- A and B as cells
 pub cells : (list_of (a ∷ b ∷ [])
     ≡ 0 ∷ 9 ∷ 0 ∷ 0 ∷ 0 ∷ 0x41 ∷ 0x05 ∷ 0 ∷ 0 ∷ 1 ∷ 0x7FF ∷ 0xFFF ∷ 1 ∷ 3 ∷ 0x61 ∷ 0x02 ∷ 2 ∷ 0 ∷ 0x2AA ∷ 0x155 ∷ [])
-    × (read_list (list_of (a ∷ b ∷ [])) ≡ accepted (a ∷ b ∷ []))
+    × (read_list (list_of (a ∷ b ∷ [])) ≡ Ok (a ∷ b ∷ []))
 unfolding cell_record head_in_range cell_checks records_from clear_from
 cells = (refl, refl)
 
@@ -76,8 +76,8 @@ refusals i = (refl, refl, refl, refl, refl, refl, refl, refl)
 
 -- The ninth cell: B as it came in packet 7, with the largest index and with one more, and without the cell (02, K13).
 pub index : (cells_in 7 b ≡ 1 ∷ 0x7FF ∷ 0xFFF ∷ 1 ∷ 3 ∷ 0x61 ∷ 0x02 ∷ 2 ∷ 7 ∷ 0x2AA ∷ 0x155 ∷ [])
-    × (read_list (cells_in 7 b) ≡ accepted (b ∷ []))
-    × (read_list (cells_of a ++ cells_in 4095 b) ≡ accepted (a ∷ b ∷ []))
+    × (read_list (cells_in 7 b) ≡ Ok (b ∷ []))
+    × (read_list (cells_of a ++ cells_in 4095 b) ≡ Ok (a ∷ b ∷ []))
     × (read_list (cells_of a ++ cells_in 4096 b) ≡ refuse 20 1)
     × (read_list (1 ∷ 0x7FF ∷ 0xFFF ∷ 1 ∷ 3 ∷ 0x61 ∷ 0x02 ∷ 2 ∷ 0x2AA ∷ 0x155 ∷ []) ≡ refuse 20 0)
 unfolding cell_record head_in_range cell_checks records_from clear_from

@@ -9,7 +9,7 @@ use lib.Dec.{leb}
 use lib.ListN.{length}
 use borrow.Author.Tests.{leb-true, le-leb}
 use Rattle.wire_spec.specs.Layout.{Layout}
-use Rattle.wire_spec.specs.Result.{Result, refused, accepted, judge, ◌then◌}
+use Rattle.wire_spec.specs.Result.{Result, Err, Ok, judge, ◌then◌}
 use Rattle.wire_spec.specs.Anc.{Record}
 use Rattle.wire_spec.specs.Cells.{Lists, read_list}
 use Rattle.wire_spec.specs.Packet.{max_packet, Content}
@@ -21,10 +21,10 @@ use Rattle.wire_spec.proofs.Demand2.{fits-packet}
 module _ (L : Layout) (k : Content) (cells : List ℕ) (room : ℕ) where
   -- the limits of the list's records, with the test of 22 and without it
   with-22 : List Record → Result (List Record)
-  with-22 rs = judge 0 (limit_checks22 L (with_records k rs) (length cells) room) (accepted rs)
+  with-22 rs = judge 0 (limit_checks22 L (with_records k rs) (length cells) room) (Ok rs)
 
   without : List Record → Result (List Record)
-  without rs = judge 0 (limit_checks L (with_records k rs) (length cells) room) (accepted rs)
+  without rs = judge 0 (limit_checks L (with_records k rs) (length cells) room) (Ok rs)
 
   alike : (rs : List Record) → Lists rs cells → with-22 rs ≡ without rs
   unfolding with-22 without
@@ -40,8 +40,8 @@ module _ (L : Layout) (k : Content) (cells : List ℕ) (room : ℕ) where
 
   pub never-22 : write_content22 L k cells room ≡ write_content L k cells room
   unfolding write_content with-22 without
-  never-22 = ap (λ r. judge 0 (head_checks k) r then λ rs. accepted (content_octets L (with_records k rs))) (go (read_list cells) refl)
+  never-22 = ap (λ r. judge 0 (head_checks k) r then λ rs. Ok (content_octets L (with_records k rs))) (go (read_list cells) refl)
     where
       go : (r : Result (List Record)) → read_list cells ≡ r → (r then with-22) ≡ (r then without)
-      go (refused x) e = refl
-      go (accepted rs) e = alike rs ((list-iff cells rs).0 e).1
+      go (Err x) e = refl
+      go (Ok rs) e = alike rs ((list-iff cells rs).0 e).1

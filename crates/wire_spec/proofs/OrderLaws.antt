@@ -5,9 +5,8 @@ use mathlib.Core.Bool.{Bool, true, false, ◌&&◌, true≢false}
 use mathlib.Core.Logic.{◌↔◌, ◌⊎◌, inl, inr}
 use mathlib.Core.List.{List, [], ◌∷◌, ◌++◌}
 use Prim.Native.Nat.{ℕ}
-use native.Mathlib.Omega.{arith}
 use Rattle.wire_spec.specs.declared.refusal.Refusal.{Refusal}
-use Rattle.wire_spec.specs.Result.{Result, refused, accepted, refuse, Checks, judge, ◌then◌}
+use Rattle.wire_spec.specs.Result.{Result, Err, Ok, refuse, Checks, judge, ◌then◌}
 use Rattle.wire_spec.specs.Order.{Faults, None, First, Some}
 use Rattle.wire_spec.proofs.ResultLaws.{Passed, not-refused}
 
@@ -82,12 +81,12 @@ judge-first {A = A} i [] (_ ∷ ts) a r n k = elim a [ ]
 judge-first {A = A} i (f ∷ fs) [] a r n k = elim a [ ]
 
 -- a refusal before a step that answers is the refusal of both
-pub then-first : {A B : Type 0} (x : Result A) (f : A → B) (n k : ℕ) → ((x then λ a. accepted (f a)) ≡ refuse n k) ↔ (x ≡ refuse n k)
-then-first {A} {B} (refused y) f n k = (
+pub then-first : {A B : Type 0} (x : Result A) (f : A → B) (n k : ℕ) → ((x then λ a. Ok (f a)) ≡ refuse n k) ↔ (x ≡ refuse n k)
+then-first {A} {B} (Err y) f n k = (
   λ e. let q = refuse-inj {A = B} e in ap₂ (λ (u v : ℕ). refuse u v) q.0 q.1,
   λ e. let q = refuse-inj {A = A} e in ap₂ (λ (u v : ℕ). refuse u v) q.0 q.1,
 )
-then-first (accepted a) f n k = (λ e. absurd (not-refused e), λ e. absurd (not-refused e))
+then-first (Ok a) f n k = (λ e. absurd (not-refused e), λ e. absurd (not-refused e))
 
 -- of two tests that do not hold together one fails
 pub and-false : (a b : Bool) → (a && b ≡ false) ↔ ((a ≡ false) ⊎ (b ≡ false))

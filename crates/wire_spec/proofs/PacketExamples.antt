@@ -7,7 +7,7 @@ use lib.ListN.{take, set}
 use Rattle.wire_spec.specs.Bits.{to_bits, num, bits, octets, bits_at, row_at, field_bits}
 use Rattle.wire_spec.specs.Words.{header_word, checksum_word}
 use Rattle.wire_spec.specs.Layout.{rfc8331}
-use Rattle.wire_spec.specs.Result.{accepted, refuse}
+use Rattle.wire_spec.specs.Result.{Ok, refuse}
 use Rattle.wire_spec.specs.Anc.{anc_size, anc_record, headers_ok, r_ok, words_ok, checksum_ok, alignment_ok, anc_checks, read_anc, read_run}
 use Rattle.wire_spec.specs.Cells.{cells_in, cells_of, list_of, cell_record, head_in_range, cell_checks, records_from, clear_from}
 use Rattle.wire_spec.specs.Packet.{Packet, packet_octets, packet_read, header_checks, padding_checks, payload_checks, read_records, read_packet, Content, read_content, read_into}
@@ -24,7 +24,7 @@ empty_octets =
     ∷ 0x00 ∷ 0x01 ∷ 0x00 ∷ 0x00 ∷ 0x00 ∷ 0x80 ∷ 0x00 ∷ 0x00 ∷ []
 
 -- the empty packet written and read
-pub empty-packet : (write_content rfc8331 empty [] 20 ≡ accepted empty_octets) × (read_content rfc8331 empty_octets ≡ accepted empty)
+pub empty-packet : (write_content rfc8331 empty [] 20 ≡ Ok empty_octets) × (read_content rfc8331 empty_octets ≡ Ok empty)
 unfolding to_bits num bits octets bits_at row_at field_bits read_run packet_octets packet_read header_checks padding_checks payload_checks read_records read_packet read_content records_from clear_from write_content
 empty-packet = (refl, refl)
 
@@ -69,10 +69,10 @@ abbrev pub full_octets : List ℕ
 full_octets = full_front ++ (a_octets ++ (b_octets ++ (7 ∷ 2 ∷ [])))
 
 -- the full packet's octets, what stands in them, what they say, and what the writer makes of that
-pub full-packet : (packet_octets rfc8331 full ≡ full_octets) × (read_packet rfc8331 full_octets ≡ accepted full)
-    × (read_content rfc8331 full_octets ≡ accepted both)
-    × (write_content rfc8331 both (list_of (a ∷ b ∷ [])) 44 ≡ accepted both_octets)
-    × (write_content rfc8331 both (cells_in 3 a ++ cells_in 4095 b) 44 ≡ accepted both_octets) × (read_content rfc8331 both_octets ≡ accepted both)
+pub full-packet : (packet_octets rfc8331 full ≡ full_octets) × (read_packet rfc8331 full_octets ≡ Ok full)
+    × (read_content rfc8331 full_octets ≡ Ok both)
+    × (write_content rfc8331 both (list_of (a ∷ b ∷ [])) 44 ≡ Ok both_octets)
+    × (write_content rfc8331 both (cells_in 3 a ++ cells_in 4095 b) 44 ≡ Ok both_octets) × (read_content rfc8331 both_octets ≡ Ok both)
 unfolding to_bits num bits octets bits_at row_at field_bits header_word checksum_word anc_size anc_record headers_ok r_ok words_ok checksum_ok alignment_ok anc_checks read_anc read_run packet_octets packet_read header_checks padding_checks payload_checks read_records read_packet read_content cell_record head_in_range cell_checks records_from clear_from write_content
 full-packet = (refl, refl, refl, refl, refl, refl)
 
@@ -118,7 +118,7 @@ unfolding to_bits num bits bits_at row_at header_word checksum_word anc_size anc
 refused-anc = (refl, refl)
 
 -- 14: A and B take 20 cells; refused octets are not asked for their cells
-pub refused-14 : (read_into rfc8331 full_octets 20 ≡ accepted both) × (read_into rfc8331 full_octets 19 ≡ refuse 14 0)
+pub refused-14 : (read_into rfc8331 full_octets 20 ≡ Ok both) × (read_into rfc8331 full_octets 19 ≡ refuse 14 0)
     × (read_into rfc8331 (set empty_octets 17 0x40) 0 ≡ refuse 6 0)
 unfolding to_bits num bits bits_at row_at header_word checksum_word anc_size anc_record headers_ok r_ok words_ok checksum_ok alignment_ok anc_checks read_anc read_run packet_read header_checks padding_checks payload_checks read_records read_packet read_content read_into
 refused-14 = (refl, refl, refl)
@@ -174,11 +174,11 @@ abbrev pub frames_octets : List (List ℕ)
 frames_octets = frame7_octets ∷ frame8_octets ∷ frame8_octets ∷ frame10_octets ∷ []
 
 -- the frames written
-pub frames-written : map (λ (k : Content). write_content rfc8331 k (list_of k.records) 32) frames ≡ map accepted frames_octets
+pub frames-written : map (λ (k : Content). write_content rfc8331 k (list_of k.records) 32) frames ≡ map Ok frames_octets
 unfolding to_bits num octets field_bits header_word checksum_word packet_octets cell_record head_in_range cell_checks records_from clear_from write_content
 frames-written = refl
 
 -- the frames read
-pub frames-read : map (read_content rfc8331) frames_octets ≡ map accepted frames
+pub frames-read : map (read_content rfc8331) frames_octets ≡ map Ok frames
 unfolding to_bits num bits bits_at row_at header_word checksum_word anc_size anc_record headers_ok r_ok words_ok checksum_ok alignment_ok anc_checks read_anc read_run packet_read header_checks padding_checks payload_checks read_records read_packet read_content
 frames-read = refl

@@ -4,7 +4,7 @@ use mathlib.Core.Path.{◌≡◌, refl, ap, ap₂, sym, ◌∙◌, subst}
 use mathlib.Core.Bool.{true, not, ◌||◌}
 use mathlib.Core.Logic.{◌↔◌}
 use mathlib.Core.List.{List, [], ◌∷◌, ◌++◌, append_assoc}
-use Prim.Native.Nat.{ℕ, ◌+◌, ◌-◌, ◌*◌, ◌≤◌}
+use Prim.Native.Nat.{ℕ, ◌+◌, ◌-◌, ◌*◌}
 use native.Mathlib.Omega.{arith}
 use lib.Dec.{eqb}
 use lib.ListN.{length, take, drop, length-append}
@@ -12,9 +12,9 @@ use lib.Seq.{take_at, drop_at, take-append_seam, drop-append_seam, drop-drop}
 use borrow.Author.Tests.{eq-eqb, ne_eqb, le-leb}
 use Rattle.wire_spec.specs.Bits.{bits_at, pack, Below, row_at}
 use Rattle.wire_spec.specs.Layout.{Layout, f_bits, reserved_bits, payload_header_size}
-use Rattle.wire_spec.specs.Result.{accepted}
+use Rattle.wire_spec.specs.Result.{Ok}
 use Rattle.wire_spec.specs.Anc.{Record, run_octets}
-use Rattle.wire_spec.specs.Packet.{max_packet, Packet, packet_fields, packet_around, packet_octets, last_octet, WellFormedPacket, header_least, source_count, has_extension, extension_at, extension_words, header_size, padding_count, payload_size, payload_at, length_field, anc_count, f_field, run_at, packet_read, header_checks, padding_checks, payload_checks, read_records, read_packet}
+use Rattle.wire_spec.specs.Packet.{max_packet, Packet, packet_fields, packet_around, packet_octets, last_octet, WellFormedPacket, header_least, source_count, has_extension, extension_at, extension_words, header_size, padding_count, payload_size, payload_at, length_field, anc_count, f_field, run_at, packet_read, header_checks, padding_checks, payload_checks, read_packet}
 use Rattle.wire_spec.proofs.BitLaws.{unpacked, length-pack, row_at-reads}
 use Rattle.wire_spec.proofs.ResultLaws.{Passed, and_both}
 use Rattle.wire_spec.proofs.PacketLaws.{rtp_size, front_size, Parts, parts-iff, length-packet, width-packet, answer-iff, region-iff, pad-written, around-stands}
@@ -138,7 +138,7 @@ module _ (L : Layout) (s : List ℕ) (k : Packet) (run : List ℕ) (wf : WellFor
 
 -- A PACKET is accepted exactly where the octets of a well-formed packet stand
 pub packet-iff : (L : Layout) (s : List ℕ) → Below 256 s → (k : Packet)
-    → (read_packet L s ≡ accepted k) ↔ (WellFormedPacket L k × (s ≡ packet_octets L k))
+    → (read_packet L s ≡ Ok k) ↔ (WellFormedPacket L k × (s ≡ packet_octets L k))
 unfolding packet_octets
 packet-iff L s below k =
     let run = run_octets L k.records in (
@@ -159,5 +159,5 @@ packet-iff L s below k =
     )
 
 -- an accepted packet is what stands at its places
-pub read_is : (L : Layout) (s : List ℕ) (k : Packet) → read_packet L s ≡ accepted k → packet_read L k.records s ≡ k
+pub read_is : (L : Layout) (s : List ℕ) (k : Packet) → read_packet L s ≡ Ok k → packet_read L k.records s ≡ k
 read_is L s k e = ((answer-iff L s k).0 e).read

@@ -1,6 +1,6 @@
 -- Octets that pass the checks of a packet are the octets of what is read from them.
 -- They read as its fields, part by part; `packed` takes fields read to octets.
-use mathlib.Core.Path.{◌≡◌, refl, ap, ap₂, sym, ◌∙◌, subst}
+use mathlib.Core.Path.{◌≡◌, refl, ap, ap₂, sym, ◌∙◌}
 use mathlib.Core.Bool.{true, not}
 use mathlib.Core.Logic.{◌↔◌}
 use mathlib.Core.List.{List, [], ◌∷◌, ◌++◌, append-nil}
@@ -13,8 +13,8 @@ use lib.Seq.{length-take-le, get_or-append-add, drop-drop}
 use borrow.Author.Tests.{eqb-true, eqb-false, leb-true, not-true}
 use Rattle.wire_spec.specs.declared.layout.Layout.TheVariants as layout
 use Rattle.wire_spec.specs.Bits.{bits_at, width, pack, Below, row}
-use Rattle.wire_spec.specs.Layout.{Layout, rfc8331, f_bits, reserved_bits, payload_header_size}
-use Rattle.wire_spec.specs.Result.{Result, accepted, judge, ◌then◌}
+use Rattle.wire_spec.specs.Layout.{Layout, f_bits, reserved_bits, payload_header_size}
+use Rattle.wire_spec.specs.Result.{Result, Ok, judge, ◌then◌}
 use Rattle.wire_spec.specs.Anc.{Record, WellFormed, Each, run_octets, read_run}
 use Rattle.wire_spec.specs.Packet.{max_packet, Packet, rtp_fields, extension_fields, payload_fields, packet_fields, packet_around, packet_octets, last_octet, WellFormedPacket, header_least, source_count, has_extension, extension_at, extension_words, header_size, padding_count, payload_size, length_field, anc_count, f_field, run_at, packet_read, header_checks, padding_checks, payload_checks, read_records, read_packet}
 use Rattle.wire_spec.proofs.BitLaws.{Reads, packed, length-pack, width-append, reads-append, below-drop, below-take, width-row, length-row_at, reads-row_at}
@@ -133,7 +133,7 @@ pub record Answer (L : Layout) (s : List ℕ) (k : Packet) : Type 0 where
   pub header : Passed (header_checks s)
   pub padding : Passed (padding_checks L s)
   pub payload : Passed (payload_checks L s)
-  pub records : read_records L s ≡ accepted k.records
+  pub records : read_records L s ≡ Ok k.records
   pub read : packet_read L k.records s ≡ k
 
 -- octets that pass the header's checks hold the header
@@ -188,24 +188,24 @@ module _ (L : Layout) (s : List ℕ) where
 
   -- the records are read exactly when their octets fill the region that Length says
   pub region-iff : Below 256 s → (rs : List Record)
-      → (read_records L s ≡ accepted rs) ↔ ((length rs ≡ anc_count s) × Each (WellFormed L) rs × (take (length_field s) (drop (run_at L s) s) ≡ run_octets L rs))
+      → (read_records L s ≡ Ok rs) ↔ ((length rs ≡ anc_count s) × Each (WellFormed L) rs × (take (length_field s) (drop (run_at L s) s) ≡ run_octets L rs))
   unfolding read_records
   region-iff b rs =
       let run = run-iff L 0 (anc_count s) region (below-take 256 (length_field s) (drop (run_at L s) s) (below-drop 256 (run_at L s) s b)) in (
         λ e.
             let a = then-accepts (read_run L 0 (anc_count s) region) _ rs e in
-            let c = judge-accepts 0 ((eqb (length a.0.1) 0, 13) ∷ []) (accepted a.0.0) rs a.2 in
+            let c = judge-accepts 0 ((eqb (length a.0.1) 0, 13) ∷ []) (Ok a.0.0) rs a.2 in
             let none = no_length a.0.1 (eqb-true _ _ c.0.0) in
-            let r = (run rs []).0 (a.1 ∙ ap accepted (λ i. (accepted-inj c.1 i, none i))) in
+            let r = (run rs []).0 (a.1 ∙ ap Ok (λ i. (accepted-inj c.1 i, none i))) in
             (r.0, r.1, r.2 ∙ append-nil (run_octets L rs)),
         λ p. rw ((run rs []).1 (p.0, p.1, p.2 ∙ sym (append-nil (run_octets L rs)))),
       )
 
   -- a packet is accepted exactly when every check passes, its records are read, and it is what stands at the places
-  pub answer-iff : (k : Packet) → (read_packet L s ≡ accepted k) ↔ Answer L s k
+  pub answer-iff : (k : Packet) → (read_packet L s ≡ Ok k) ↔ Answer L s k
   unfolding read_packet packet_read
   answer-iff k =
-      let tail : Result Packet = read_records L s then λ rs. accepted (packet_read L rs s) in (
+      let tail : Result Packet = read_records L s then λ rs. Ok (packet_read L rs s) in (
         λ e.
             let h = judge-accepts 0 (header_checks s) (judge 0 (padding_checks L s) (judge 0 (payload_checks L s) tail)) k e in
             let p = judge-accepts 0 (padding_checks L s) (judge 0 (payload_checks L s) tail) k h.1 in
@@ -213,13 +213,13 @@ module _ (L : Layout) (s : List ℕ) where
             let r = then-accepts (read_records L s) _ k q.1 in
             let same : packet_read L r.0 s ≡ k = accepted-inj r.2 in
             let rs : r.0 ≡ k.records = ap (λ (x : Packet). x.records) same in
-            record { header = h.0; padding = p.0; payload = q.0; records = r.1 ∙ ap accepted rs; read = ap (λ (x : List Record). packet_read L x s) (sym rs) ∙ same },
+            record { header = h.0; padding = p.0; payload = q.0; records = r.1 ∙ ap Ok rs; read = ap (λ (x : List Record). packet_read L x s) (sym rs) ∙ same },
         λ a.
             judge-passes 0 (header_checks s) _ a.header
             ∙ judge-passes 0 (padding_checks L s) _ a.padding
             ∙ judge-passes 0 (payload_checks L s) _ a.payload
-            ∙ ap (λ x. x then λ rs. accepted (packet_read L rs s)) a.records
-            ∙ ap accepted a.read,
+            ∙ ap (λ x. x then λ rs. Ok (packet_read L rs s)) a.records
+            ∙ ap Ok a.read,
       )
 
   -- octets that pass read as the fields of what is read from them

@@ -3,16 +3,16 @@
 use mathlib.Core.Path.{◌≡◌, refl}
 use mathlib.Core.Bool.{Bool, true, false, ◌&&◌, true≢false}
 use mathlib.Core.Logic.{◌↔◌, ◌⊎◌, inl, inr}
-use mathlib.Core.List.{List, [], ◌∷◌, ◌++◌}
+use mathlib.Core.List.{[], ◌∷◌, ◌++◌}
 use Prim.Native.Nat.{ℕ, ◌/◌, ◌<◌, ◌≤◌}
 use native.Mathlib.Omega.{arith}
 use lib.Dec.{leb}
 use lib.ListN.{set, take}
-use borrow.Author.Tests.{leb-true, leb-false, le-leb, lt-leb}
+use borrow.Author.Tests.{leb-true, leb-false}
 use Rattle.wire_spec.specs.Bits.{to_bits, num, bits, octets, bits_at, row_at, field_bits}
 use Rattle.wire_spec.specs.Words.{header_word, checksum_word, least_clear, most_clear, is_clear}
 use Rattle.wire_spec.specs.Layout.{rfc8331, draft2015}
-use Rattle.wire_spec.specs.Result.{accepted, refuse, ◌then◌}
+use Rattle.wire_spec.specs.Result.{Ok, refuse}
 use Rattle.wire_spec.specs.Anc.{Record, anc_octets, anc_size, anc_record, headers_ok, r_ok, words_ok, checksum_ok, alignment_ok, anc_checks, read_anc, read_run}
 use Rattle.wire_spec.specs.Cells.{cells_of, cell_record, head_in_range, cell_checks, records_from, clear_from, read_list}
 use Rattle.wire_spec.specs.Packet.{packet_octets, Content}
@@ -40,11 +40,11 @@ abbrev pub with : (x y : ℕ) → Record
 with x y = record { c = 0; line = 9; offset = 0; s = 0; stream = 0; did = 0x41; sdid = 0x05; words = x ∷ y ∷ [] }
 
 -- the borders in a packet of either layout: 0x004 and 0x3FB pass, 0x003 and 0x3FC, 0x000 and 0x3FF do not
-pub borders : (i : ℕ) → (read_anc rfc8331 i (anc_octets rfc8331 (with 0x004 0x3FB)) ≡ accepted (with 0x004 0x3FB))
+pub borders : (i : ℕ) → (read_anc rfc8331 i (anc_octets rfc8331 (with 0x004 0x3FB)) ≡ Ok (with 0x004 0x3FB))
     × (read_anc rfc8331 i (anc_octets rfc8331 (with 0x003 0x3FB)) ≡ refuse 16 i)
     × (read_anc rfc8331 i (anc_octets rfc8331 (with 0x004 0x3FC)) ≡ refuse 16 i)
     × (read_anc rfc8331 i (anc_octets rfc8331 (with 0x000 0x100)) ≡ refuse 16 i)
-    × (read_anc draft2015 i (anc_octets draft2015 (with 0x004 0x3FB)) ≡ accepted (with 0x004 0x3FB))
+    × (read_anc draft2015 i (anc_octets draft2015 (with 0x004 0x3FB)) ≡ Ok (with 0x004 0x3FB))
     × (read_anc draft2015 i (anc_octets draft2015 (with 0x003 0x100)) ≡ refuse 16 i)
     × (read_anc draft2015 i (anc_octets draft2015 (with 0x100 0x3FC)) ≡ refuse 16 i)
     × (read_anc draft2015 i (anc_octets draft2015 (with 0x100 0x3FF)) ≡ refuse 16 i)
@@ -62,7 +62,7 @@ unfolding to_bits num bits octets field_bits bits_at row_at header_word checksum
 order i = (refl, refl, refl, refl, refl)
 
 -- in a list 20 is looked for first, over all of it, and then 16, with the record's index
-pub lists : (read_list (cells_of (with 0x004 0x3FB)) ≡ accepted (with 0x004 0x3FB ∷ []))
+pub lists : (read_list (cells_of (with 0x004 0x3FB)) ≡ Ok (with 0x004 0x3FB ∷ []))
     × (read_list (cells_of a ++ cells_of (with 0x100 0x3FC)) ≡ refuse 16 1)
     × (read_list (cells_of (with 0x003 0x100)) ≡ refuse 16 0)
     × (read_list (cells_of (with 0x003 0x100) ++ (9 ∷ [])) ≡ refuse 20 1)

@@ -14,7 +14,7 @@ use Rattle.wire_spec.specs.declared.layout.Layout.TheVariants as layout
 use Rattle.wire_spec.specs.Bits.{bits_at, row_at}
 use Rattle.wire_spec.specs.Words.{header_numbers, header_word, is_header_word, least_clear, most_clear, is_clear, all_clear}
 use Rattle.wire_spec.specs.Layout.{Layout, r_bits, alignment, least_size, payload_header_size}
-use Rattle.wire_spec.specs.Result.{Result, refused, accepted, refuse, Checks, judge, ◌then◌}
+use Rattle.wire_spec.specs.Result.{Result, Err, Ok, refuse, Checks, judge, ◌then◌}
 use Rattle.wire_spec.specs.Anc.{checksum, padding, body_bits, anc_size, did_at, words_at, data_count, anc_record, headers_ok, r_ok, words_ok, sum_field, checksum_ok, alignment_ok, anc_checks, read_anc, behind, read_run}
 use Rattle.wire_spec.specs.Cells.{list_of}
 use Rattle.wire_spec.specs.Packet.{last_octet, header_size, padding_flag, padding_count, payload_size, length_field, anc_count, f_field, packet_read, header_checks, padding_checks, payload_checks, read_records, read_packet, content, read_content, read_into}
@@ -253,8 +253,8 @@ later-turn faults next s m j = (
 -- A run of packets, looked through for these faults by these checks, in whatever way its answer is put together.
 module _ {A : Type 0} (faults : List ℕ → Faults) (checks : List ℕ → Checks) (agree : (s : List ℕ) → Agree (faults s) (checks s)) (next : List ℕ → List ℕ)
     (run : ℕ → ℕ → List ℕ → Result A) (none : List ℕ → A) (more : List ℕ → A → A) (left : A → List ℕ)
-    (ends : (i : ℕ) (s : List ℕ) → run i zero s ≡ accepted (none s))
-    (steps : (i n : ℕ) (s : List ℕ) → run i (suc n) s ≡ judge i (checks s) (run (i + 1) n (next s) then λ q. accepted (more s q)))
+    (ends : (i : ℕ) (s : List ℕ) → run i zero s ≡ Ok (none s))
+    (steps : (i n : ℕ) (s : List ℕ) → run i (suc n) s ≡ judge i (checks s) (run (i + 1) n (next s) then λ q. Ok (more s q)))
     (left-none : (s : List ℕ) → left (none s) ≡ s) (left-more : (s : List ℕ) (q : A) → left (more s q) ≡ left q) where
   -- the first packet with a fault, of those from index `i` on
   abbrev pub Turns : (i n : ℕ) (s : List ℕ) (m k : ℕ) → Type 0
@@ -264,7 +264,7 @@ module _ {A : Type 0} (faults : List ℕ → Faults) (checks : List ℕ → Chec
   pub run-first : (i n : ℕ) (s : List ℕ) (m k : ℕ) → (run i n s ≡ refuse m k) ↔ Turns i n s m k
   run-first i zero s m k = (λ e. absurd (not-refused (sym (ends i s) ∙ e)), λ x. absurd (omega (arith, x.2)))
   run-first i (suc n) s m k =
-      let f = judge-first i (faults s) (checks s) (agree s) (run (i + 1) n (next s) then λ q. accepted (more s q)) m k in
+      let f = judge-first i (faults s) (checks s) (agree s) (run (i + 1) n (next s) then λ q. Ok (more s q)) m k in
       let t = then-first (run (i + 1) n (next s)) (more s) m k in
       let ih = run-first (i + 1) n (next s) m k in
       (λ e. to (λ x. ih.0 (t.0 x)) (f.0 (sym (steps i n s) ∙ e)), λ x. steps i n s ∙ f.1 (from (λ y. t.1 (ih.1 y)) x.0 x.1 x.2 x.3))
@@ -281,19 +281,19 @@ module _ {A : Type 0} (faults : List ℕ → Faults) (checks : List ℕ → Chec
       from g (suc j) e l x = let y = (later-turn faults next s m j).0 x in inr (y.0, g (j, omega arith, omega (arith, l), y.1))
 
   -- without a fault it is taken, ..
-  pub run_ends : (i n : ℕ) (s : List ℕ) → ((j : ℕ) → j < n → None (faults (after next j s))) → (q : A) × (run i n s ≡ accepted q)
+  pub run_ends : (i n : ℕ) (s : List ℕ) → ((j : ℕ) → j < n → None (faults (after next j s))) → (q : A) × (run i n s ≡ Ok q)
   run_ends i zero s h = (none s, ends i s)
   run_ends i (suc n) s h =
       let q = run_ends (i + 1) n (next s) (λ j l. h (suc j) (omega (arith, l))) in
-      let e = judge-passes i (checks s) (run (i + 1) n (next s) then λ q. accepted (more s q)) ((passed_none (faults s) (checks s) (agree s)).1 (h 0 (omega arith))) in
-      (more s q.0, steps i n s ∙ e ∙ ap (λ r. r then λ q. accepted (more s q)) q.1)
+      let e = judge-passes i (checks s) (run (i + 1) n (next s) then λ q. Ok (more s q)) ((passed_none (faults s) (checks s) (agree s)).1 (h 0 (omega arith))) in
+      (more s q.0, steps i n s ∙ e ∙ ap (λ r. r then λ q. Ok (more s q)) q.1)
 
   -- .. and what is taken has none, and leaves what is behind its packets
-  pub run-taken : (i n : ℕ) (s : List ℕ) (q : A) → run i n s ≡ accepted q → ((j : ℕ) → j < n → None (faults (after next j s))) × (left q ≡ after next n s)
+  pub run-taken : (i n : ℕ) (s : List ℕ) (q : A) → run i n s ≡ Ok q → ((j : ℕ) → j < n → None (faults (after next j s))) × (left q ≡ after next n s)
   run-taken i zero s q e = (λ j h. absurd (omega (arith, h)), ap left (accepted-inj (sym e ∙ ends i s)) ∙ left-none s)
   run-taken i (suc n) s q e =
-      let a = judge-accepts i (checks s) (run (i + 1) n (next s) then λ q. accepted (more s q)) q (sym (steps i n s) ∙ e) in
-      let b = then-accepts (run (i + 1) n (next s)) (λ q. accepted (more s q)) q a.1 in
+      let a = judge-accepts i (checks s) (run (i + 1) n (next s) then λ q. Ok (more s q)) q (sym (steps i n s) ∙ e) in
+      let b = then-accepts (run (i + 1) n (next s)) (λ q. Ok (more s q)) q a.1 in
       let ih = run-taken (i + 1) n (next s) b.0 b.1 in
       (earlier ((passed_none (faults s) (checks s) (agree s)).0 a.0) ih.0, ap left (sym (accepted-inj b.2)) ∙ left-more s b.0 ∙ ih.1)
     where
@@ -308,25 +308,25 @@ module _ {A : Type 0} (faults : List ℕ → Faults) (checks : List ℕ → Chec
         ((k < n) × InTurn faults next s m k)
         ⊎ (((j : ℕ) → j < n → None (faults (after next j s))) × (0 < length (after next n s)) × (m ≡ 13) × (k ≡ 0))
 
-    pub run-13 : ((run 0 n s then λ q. judge 0 ((eqb (length (left q)) 0, 13) ∷ []) (accepted (says q))) ≡ refuse m k) ↔ Behind
+    pub run-13 : ((run 0 n s then λ q. judge 0 ((eqb (length (left q)) 0, 13) ∷ []) (Ok (says q))) ≡ refuse m k) ↔ Behind
     run-13 = go (run 0 n s) refl
       where
-        go : (r : Result A) → run 0 n s ≡ r → ((r then λ q. judge 0 ((eqb (length (left q)) 0, 13) ∷ []) (accepted (says q))) ≡ refuse m k) ↔ Behind
-        go (refused y) e = (λ h. inl (first ((run-first 0 n s m k).0 (e ∙ same h))), back)
+        go : (r : Result A) → run 0 n s ≡ r → ((r then λ q. judge 0 ((eqb (length (left q)) 0, 13) ∷ []) (Ok (says q))) ≡ refuse m k) ↔ Behind
+        go (Err y) e = (λ h. inl (first ((run-first 0 n s m k).0 (e ∙ same h))), back)
           where
-            same : ◌≡◌ {A = Result B} (refused y) (refuse m k) → ◌≡◌ {A = Result A} (refused y) (refuse m k)
+            same : ◌≡◌ {A = Result B} (Err y) (refuse m k) → ◌≡◌ {A = Result A} (Err y) (refuse m k)
             same h = let q = refuse-inj {A = B} {n = y.number} {i = y.index} h in ap₂ (λ (u v : ℕ). refuse u v) q.0 q.1
 
             first : Turns 0 n s m k → (k < n) × InTurn faults next s m k
             first x = let z : x.0 ≡ k = omega (arith, x.1) in subst (λ (j : ℕ). (j < n) × InTurn faults next s m j) z (x.2, x.3)
 
-            back : Behind → ◌≡◌ {A = Result B} (refused y) (refuse m k)
+            back : Behind → ◌≡◌ {A = Result B} (Err y) (refuse m k)
             back (inl x) =
                 let q = refuse-inj {A = A} {n = y.number} {i = y.index} (sym e ∙ (run-first 0 n s m k).1 (k, omega arith, x.0, x.1)) in
                 ap₂ (λ (u v : ℕ). refuse u v) q.0 q.1
             back (inr x) = absurd (not-refused (sym (run_ends 0 n s x.0).1 ∙ e))
-        go (accepted q) e =
-            let f = judge-first 0 ((13, 0 < length (left q)) ∷ []) ((eqb (length (left q)) 0, 13) ∷ []) (refl, some, λ h. tt) (accepted (says q)) m k in
+        go (Ok q) e =
+            let f = judge-first 0 ((13, 0 < length (left q)) ∷ []) ((eqb (length (left q)) 0, 13) ∷ []) (refl, some, λ h. tt) (Ok (says q)) m k in
             (λ h. inr (to (f.0 h)), λ x. f.1 (from x))
           where
             some : (eqb (length (left q)) 0 ≡ false) ↔ (0 < length (left q))
@@ -336,7 +336,7 @@ module _ {A : Type 0} (faults : List ℕ → Faults) (checks : List ℕ → Chec
                 positive zero h = absurd (h refl)
                 positive (suc x) h = omega arith
 
-            to : (First m ((13, 0 < length (left q)) ∷ []) × (k ≡ 0)) ⊎ (None ((13, 0 < length (left q)) ∷ []) × (accepted (says q) ≡ refuse m k))
+            to : (First m ((13, 0 < length (left q)) ∷ []) × (k ≡ 0)) ⊎ (None ((13, 0 < length (left q)) ∷ []) × (Ok (says q) ≡ refuse m k))
                 → ((j : ℕ) → j < n → None (faults (after next j s))) × (0 < length (after next n s)) × (m ≡ 13) × (k ≡ 0)
             to (inl (inl x, z)) =
                 let w = run-taken 0 n s q e in
@@ -344,31 +344,31 @@ module _ {A : Type 0} (faults : List ℕ → Faults) (checks : List ℕ → Chec
             to (inl (inr x, z)) = absurd x.1
             to (inr x) = absurd (not-refused x.1)
 
-            from : Behind → (First m ((13, 0 < length (left q)) ∷ []) × (k ≡ 0)) ⊎ (None ((13, 0 < length (left q)) ∷ []) × (accepted (says q) ≡ refuse m k))
+            from : Behind → (First m ((13, 0 < length (left q)) ∷ []) × (k ≡ 0)) ⊎ (None ((13, 0 < length (left q)) ∷ []) × (Ok (says q) ≡ refuse m k))
             from (inl x) = absurd (not-refused (sym e ∙ (run-first 0 n s m k).1 (k, omega arith, x.0, x.1)))
             from (inr x) = inl (inl (subst (λ (l : List ℕ). 0 < length l) (sym (run-taken 0 n s q e).1) x.1, sym x.2), x.3)
 
 -- 14 behind an answer that needs so many cells
 pub room-14 : {A T : Type 0} (x : Result A) (cells : A → ℕ) (room n i : ℕ) → (x ≡ refuse n i) ↔ T
-    → ((x then λ k. judge 0 ((leb (cells k) room, 14) ∷ []) (accepted k)) ≡ refuse n i)
-    ↔ (T ⊎ ((k : A) × (x ≡ accepted k) × (room < cells k) × (n ≡ 14) × (i ≡ 0)))
-room-14 {A} {T} (refused y) cells room n i h = (λ e. inl (h.0 e), back)
+    → ((x then λ k. judge 0 ((leb (cells k) room, 14) ∷ []) (Ok k)) ≡ refuse n i)
+    ↔ (T ⊎ ((k : A) × (x ≡ Ok k) × (room < cells k) × (n ≡ 14) × (i ≡ 0)))
+room-14 {A} {T} (Err y) cells room n i h = (λ e. inl (h.0 e), back)
   where
-    back : T ⊎ ((k : A) × (refused y ≡ accepted k) × (room < cells k) × (n ≡ 14) × (i ≡ 0)) → ◌≡◌ {A = Result A} (refused y) (refuse n i)
+    back : T ⊎ ((k : A) × (Err y ≡ Ok k) × (room < cells k) × (n ≡ 14) × (i ≡ 0)) → ◌≡◌ {A = Result A} (Err y) (refuse n i)
     back (inl x) = h.1 x
     back (inr x) = absurd (not-refused (sym x.1))
-room-14 {A} {T} (accepted a) cells room n i h =
-    let f = judge-first 0 ((14, room < cells a) ∷ []) ((leb (cells a) room, 14) ∷ []) (refl, leb-fails (cells a) room, λ p. tt) (accepted a) n i in
+room-14 {A} {T} (Ok a) cells room n i h =
+    let f = judge-first 0 ((14, room < cells a) ∷ []) ((leb (cells a) room, 14) ∷ []) (refl, leb-fails (cells a) room, λ p. tt) (Ok a) n i in
     (λ e. inr (to (f.0 e)), λ x. f.1 (from x))
   where
-    to : (First n ((14, room < cells a) ∷ []) × (i ≡ 0)) ⊎ (None ((14, room < cells a) ∷ []) × (accepted a ≡ refuse n i))
-        → (k : A) × (accepted a ≡ accepted k) × (room < cells k) × (n ≡ 14) × (i ≡ 0)
+    to : (First n ((14, room < cells a) ∷ []) × (i ≡ 0)) ⊎ (None ((14, room < cells a) ∷ []) × (Ok a ≡ refuse n i))
+        → (k : A) × (◌≡◌ {A = Result A} (Ok a) (Ok k)) × (room < cells k) × (n ≡ 14) × (i ≡ 0)
     to (inl (inl x, e)) = (a, refl, x.0, sym x.1, e)
     to (inl (inr x, e)) = absurd x.1
     to (inr x) = absurd (not-refused x.1)
 
-    from : T ⊎ ((k : A) × (accepted a ≡ accepted k) × (room < cells k) × (n ≡ 14) × (i ≡ 0))
-        → (First n ((14, room < cells a) ∷ []) × (i ≡ 0)) ⊎ (None ((14, room < cells a) ∷ []) × (accepted a ≡ refuse n i))
+    from : T ⊎ ((k : A) × (◌≡◌ {A = Result A} (Ok a) (Ok k)) × (room < cells k) × (n ≡ 14) × (i ≡ 0))
+        → (First n ((14, room < cells a) ∷ []) × (i ≡ 0)) ⊎ (None ((14, room < cells a) ∷ []) × (Ok a ≡ refuse n i))
     from (inl x) = absurd (not-refused (h.1 x))
     from (inr x) = inl (inl (subst (λ (k : A). room < cells k) (sym (accepted-inj x.1)) x.2, sym x.3), x.4)
 
@@ -396,11 +396,11 @@ unfolding read_content read_packet read_records read_run read_anc
 refused-iff L s n i =
     let run =
     run-13 (anc_faults L) (anc_checks L) (anc-agree L) (behind L) (read_run L) (λ s. ([], s)) (λ s q. (anc_record L s ∷ q.0, q.1)) (λ q. q.1) (λ i s. refl)
-    (λ i n s. judge-behind i (anc_checks L s) (accepted (anc_record L s)) _) (λ s. refl) (λ s q. refl) (λ q. q.0) (anc_count s) (anc_region L s) n i in
+    (λ i n s. judge-behind i (anc_checks L s) (Ok (anc_record L s)) _) (λ s. refl) (λ s q. refl) (λ q. q.0) (anc_count s) (anc_region L s) n i in
     let whole = then-first (read_packet L s) content n i in
     let records = then-first (read_records L s) (λ rs. packet_read L rs s) n i in
     let staged =
-    staged-first L s (read_records L s then λ rs. accepted (packet_read L rs s)) n i (λ e. run.0 (records.0 e), λ x. records.1 (run.1 x)) in
+    staged-first L s (read_records L s then λ rs. Ok (packet_read L rs s)) n i (λ e. run.0 (records.0 e), λ x. records.1 (run.1 x)) in
     (λ e. staged.0 (whole.0 e), λ x. whole.1 (staged.1 x))
 
 -- 14 comes last, with index 0: "lent list shorter than the records need"

@@ -13,7 +13,7 @@ use borrow.Author.Tests.{eqb-true, eq-eqb, ltb-false, le-ltb, not-false}
 use Rattle.wire_spec.specs.declared.layout.Layout.TheVariants as layout
 use Rattle.wire_spec.specs.Words.{word_bits, all_clear}
 use Rattle.wire_spec.specs.Layout.{Layout, rfc8331}
-use Rattle.wire_spec.specs.Result.{Result, refused, accepted, refuse, judge, ◌then◌}
+use Rattle.wire_spec.specs.Result.{Result, Err, Ok, refuse, judge, ◌then◌}
 use Rattle.wire_spec.specs.Anc.{Record, InRange, Each}
 use Rattle.wire_spec.specs.Cells.{head_cells, Lists, cell_count, cell_record, all_below, head_in_range, cell_checks, rest, records_from, records_in, clear_from, read_list}
 use Rattle.wire_spec.specs.Packet.{Content}
@@ -87,7 +87,7 @@ records-first (suc bound) i [] h n k = (λ e. absurd (not-refused e), λ x. absu
 records-first (suc bound) i (x ∷ l) h n k =
     let d : length (rest (x ∷ l)) ≤ bound = rw (length-drop (head_cells + cell_count (x ∷ l)) (x ∷ l)) (omega arith) in
     let ih = records-first bound (i + 1) (rest (x ∷ l)) d n k in
-    let f = judge-first i (cell_faults (x ∷ l)) (cell_checks (x ∷ l)) (cell_agree (x ∷ l)) (records_from bound (i + 1) (rest (x ∷ l)) then λ rs. accepted (cell_record (x ∷ l) ∷ rs)) n k in
+    let f = judge-first i (cell_faults (x ∷ l)) (cell_checks (x ∷ l)) (cell_agree (x ∷ l)) (records_from bound (i + 1) (rest (x ∷ l)) then λ rs. Ok (cell_record (x ∷ l) ∷ rs)) n k in
     let t = then-first (records_from bound (i + 1) (rest (x ∷ l))) (λ rs. cell_record (x ∷ l) ∷ rs) n k in
     (λ e. to (λ y. ih.0 (t.0 y)) (f.0 e), λ y. f.1 (from (λ z. t.1 (ih.1 z)) y.0 y.1 y.2 y.3))
   where
@@ -113,7 +113,7 @@ unfolding clear_from
 clear_first i [] n k = (λ e. absurd (not-refused e), λ x. absurd (no-clear n x.0 x.2))
 clear_first i (r ∷ rs) n k =
     let ih = clear_first (i + 1) rs n k in
-    let f = judge-first i (clear_faults (r ∷ rs)) ((all_clear r.words, 16) ∷ []) (refl, clear-fails r.words, λ h. tt) (clear_from (i + 1) rs then λ qs. accepted (r ∷ qs)) n k in
+    let f = judge-first i (clear_faults (r ∷ rs)) ((all_clear r.words, 16) ∷ []) (refl, clear-fails r.words, λ h. tt) (clear_from (i + 1) rs then λ qs. Ok (r ∷ qs)) n k in
     let t = then-first (clear_from (i + 1) rs) (λ qs. r ∷ qs) n k in
     (λ e. to (λ y. ih.0 (t.0 y)) (f.0 e), λ y. f.1 (from (λ z. t.1 (ih.1 z)) y.0 y.1 y.2))
   where
@@ -199,7 +199,7 @@ module _ (L : Layout) (k : Content) (cells : List ℕ) (room n i : ℕ) where
       ⊎ ((rs : List Record) × Each (InRange rfc8331) rs × Lists rs cells × (InTurn clear_faults (drop 1) rs n i ⊎ Limit rs))
 
   abbrev behind-list : Result (List Record) → Result (List Record)
-  behind-list r = r then λ rs. judge 0 (limit_checks L (with_records k rs) (length cells) room) (accepted rs)
+  behind-list r = r then λ rs. judge 0 (limit_checks L (with_records k rs) (length cells) room) (Ok rs)
 
   limits : (rs : List Record) → (behind-list (clear_from 0 rs) ≡ refuse n i) ↔ (InTurn clear_faults (drop 1) rs n i ⊎ Limit rs)
   limits rs = go (clear_from 0 rs) refl
@@ -208,25 +208,25 @@ module _ (L : Layout) (k : Content) (cells : List ℕ) (room n i : ℕ) where
       shift x = let z : x.0 ≡ i = omega (arith, x.1) in subst (λ (j : ℕ). InTurn clear_faults (drop 1) rs n j) z x.2
 
       go : (r : Result (List Record)) → clear_from 0 rs ≡ r → (behind-list r ≡ refuse n i) ↔ (InTurn clear_faults (drop 1) rs n i ⊎ Limit rs)
-      go (refused y) e = (λ h. inl (shift ((clear_first 0 rs n i).0 (e ∙ h))), back)
+      go (Err y) e = (λ h. inl (shift ((clear_first 0 rs n i).0 (e ∙ h))), back)
         where
-          back : InTurn clear_faults (drop 1) rs n i ⊎ Limit rs → ◌≡◌ {A = Result (List Record)} (refused y) (refuse n i)
+          back : InTurn clear_faults (drop 1) rs n i ⊎ Limit rs → ◌≡◌ {A = Result (List Record)} (Err y) (refuse n i)
           back (inl x) = sym e ∙ (clear_first 0 rs n i).1 (i, omega arith, x)
           back (inr x) = absurd (not-refused (sym ((clear-iff 0 rs rs).1 (refl, (unprotected rs).1 x.0)) ∙ e))
-      go (accepted qs) e =
+      go (Ok qs) e =
           let c = (clear-iff 0 rs qs).0 e in
           let same : rs ≡ qs = c.0 in
           let clear : Each Unprotected rs = (unprotected rs).0 (subst (Each Clear) (sym same) c.1) in
-          let f = judge-first 0 (limit_faults L (with_records k rs) (length cells) room) (limit_checks L (with_records k rs) (length cells) room) (limit-agree L (with_records k rs) (length cells) room) (accepted rs) n i in
-          let one = ap (λ (x : List Record). judge 0 (limit_checks L (with_records k x) (length cells) room) (accepted x)) same in
+          let f = judge-first 0 (limit_faults L (with_records k rs) (length cells) room) (limit_checks L (with_records k rs) (length cells) room) (limit-agree L (with_records k rs) (length cells) room) (Ok rs) n i in
+          let one = ap (λ (x : List Record). judge 0 (limit_checks L (with_records k x) (length cells) room) (Ok x)) same in
           (λ h. inr (to clear (f.0 (one ∙ h))), λ x. sym one ∙ f.1 (from clear x))
         where
-          to : Each Unprotected rs → (First n (limit_faults L (with_records k rs) (length cells) room) × (i ≡ 0)) ⊎ (None (limit_faults L (with_records k rs) (length cells) room) × (accepted rs ≡ refuse n i)) → Limit rs
+          to : Each Unprotected rs → (First n (limit_faults L (with_records k rs) (length cells) room) × (i ≡ 0)) ⊎ (None (limit_faults L (with_records k rs) (length cells) room) × (Ok rs ≡ refuse n i)) → Limit rs
           to clear (inl x) = (clear, x.0, x.1)
           to clear (inr x) = absurd (not-refused x.1)
 
           from : Each Unprotected rs → InTurn clear_faults (drop 1) rs n i ⊎ Limit rs
-              → (First n (limit_faults L (with_records k rs) (length cells) room) × (i ≡ 0)) ⊎ (None (limit_faults L (with_records k rs) (length cells) room) × (accepted rs ≡ refuse n i))
+              → (First n (limit_faults L (with_records k rs) (length cells) room) × (i ≡ 0)) ⊎ (None (limit_faults L (with_records k rs) (length cells) room) × (Ok rs ≡ refuse n i))
           from clear (inl x) = absurd (no-first n i rs clear x)
           from clear (inr x) = inl (x.1, x.2)
 
@@ -237,12 +237,12 @@ module _ (L : Layout) (k : Content) (cells : List ℕ) (room n i : ℕ) where
       shift x = let z : x.0 ≡ i = omega (arith, x.1) in subst (λ (j : ℕ). (0 < length (after rest j cells)) × InTurn cell_faults rest cells n j) z (x.2, x.3)
 
       go : (r : Result (List Record)) → records_in cells ≡ r → (behind-list (r then λ rs. clear_from 0 rs) ≡ refuse n i) ↔ Tail
-      go (refused y) e = (λ h. inl (shift ((records-first (length cells) 0 cells (le_refl (length cells)) n i).0 (e ∙ h))), back)
+      go (Err y) e = (λ h. inl (shift ((records-first (length cells) 0 cells (le_refl (length cells)) n i).0 (e ∙ h))), back)
         where
-          back : Tail → ◌≡◌ {A = Result (List Record)} (refused y) (refuse n i)
+          back : Tail → ◌≡◌ {A = Result (List Record)} (Err y) (refuse n i)
           back (inl x) = sym e ∙ (records-first (length cells) 0 cells (le_refl (length cells)) n i).1 (i, omega arith, x.0, x.1)
           back (inr x) = absurd (not-refused (sym ((records-iff (length cells) 0 cells (le_refl (length cells)) x.0).1 (x.1, x.2)) ∙ e))
-      go (accepted rs) e =
+      go (Ok rs) e =
           let l = limits rs in
           (λ h. let p = (records-iff (length cells) 0 cells (le_refl (length cells)) rs).0 e in inr (rs, p.0, p.1, l.0 h), λ x. l.1 (from x))
         where

@@ -4,7 +4,7 @@ use Rattle.std.specs.Prelude.{◌≡◌, Bool, true, ◌&&◌, List, [], ◌∷�
 use Rattle.wire_spec.specs.Bits.{Fields, width, pack, bits_at, row, row_at, Below}
 use Rattle.wire_spec.specs.Layout.{Layout, s_at, s_bits, stream_bits, r_bits, alignment, least_size}
 use Rattle.wire_spec.specs.Words.{word_bits, header_numbers, header_word, is_header_word, sum_low, checksum_word, all_clear}
-use Rattle.wire_spec.specs.Result.{Result, accepted, Checks, judge, ◌then◌}
+use Rattle.wire_spec.specs.Result.{Result, Ok, Checks, judge, ◌then◌}
 
 -- What an ANC data packet says: 01's record. `line` and `offset` are the fields' numbers; `anc_record`'s specs/Location.antt tells
 -- the special ones from the plain.
@@ -194,7 +194,7 @@ anc_checks L s =
 
 -- the packet with index `i`, at the front of the octets `s`
 unfoldable pub read_anc : Layout → ℕ → List ℕ → Result Record
-read_anc L i s = judge i (anc_checks L s) (accepted (anc_record L s))
+read_anc L i s = judge i (anc_checks L s) (Ok (anc_record L s))
 
 -- the octets behind the packet at the front
 abbrev pub behind : Layout → List ℕ → List ℕ
@@ -202,9 +202,9 @@ behind L s = drop (anc_size L (data_count L s)) s
 
 -- `n` packets at the front of the octets `s`, the first with index `i`: their records, and the octets behind them
 unfoldable pub read_run : Layout → ℕ → ℕ → List ℕ → Result (List Record × List ℕ)
-read_run L i zero s = accepted ([], s)
+read_run L i zero s = Ok ([], s)
 read_run L i (suc n) s =
-    read_anc L i s then λ r. read_run L (i + 1) n (behind L s) then λ q. accepted (r ∷ q.0, q.1)
+    read_anc L i s then λ r. read_run L (i + 1) n (behind L s) then λ q. Ok (r ∷ q.0, q.1)
 
 -- octets of a run
 abbrev pub run_size : Layout → List Record → ℕ

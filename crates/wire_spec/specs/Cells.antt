@@ -3,7 +3,7 @@ use Rattle.std.specs.Prelude.{◌≡◌, Bool, true, ◌&&◌, List, [], ◌∷�
 use Rattle.wire_spec.specs.Words.{word_bits, header_numbers, all_clear}
 use Rattle.wire_spec.specs.Layout.{rfc8331, s_bits, stream_bits}
 use Rattle.wire_spec.specs.Anc.{Record}
-use Rattle.wire_spec.specs.Result.{Result, accepted, refuse, Checks, judge, ◌then◌}
+use Rattle.wire_spec.specs.Result.{Result, Ok, refuse, Checks, judge, ◌then◌}
 
 -- "A record is 9 + n cells" (02, K13): those before its words
 abbrev pub head_cells : ℕ
@@ -88,12 +88,12 @@ rest l = drop (head_cells + cell_count l) l
 
 -- the records of the cells `l`, the first with index `i`; the first argument bounds how many there can be
 unfoldable pub records_from : ℕ → ℕ → List ℕ → Result (List Record)
-records_from zero i [] = accepted []
+records_from zero i [] = Ok []
 records_from zero i (x ∷ l) = refuse 20 i
-records_from (suc bound) i [] = accepted []
+records_from (suc bound) i [] = Ok []
 records_from (suc bound) i (x ∷ l) =
     judge i (cell_checks (x ∷ l))
-    (records_from bound (i + 1) (rest (x ∷ l)) then λ rs. accepted (cell_record (x ∷ l) ∷ rs))
+    (records_from bound (i + 1) (rest (x ∷ l)) then λ rs. Ok (cell_record (x ∷ l) ∷ rs))
 
 -- a list has at most as many records as cells
 abbrev pub records_in : List ℕ → Result (List Record)
@@ -101,9 +101,9 @@ records_in l = records_from (length l) 0 l
 
 -- 16, of the records of a list, the first with index `i`
 unfoldable pub clear_from : ℕ → List Record → Result (List Record)
-clear_from i [] = accepted []
+clear_from i [] = Ok []
 clear_from i (r ∷ rs) =
-    judge i ((all_clear r.words, 16) ∷ []) (clear_from (i + 1) rs then λ qs. accepted (r ∷ qs))
+    judge i ((all_clear r.words, 16) ∷ []) (clear_from (i + 1) rs then λ qs. Ok (r ∷ qs))
 
 -- "in writing 16 with the record's index, after 20" (02, K5)
 abbrev pub read_list : List ℕ → Result (List Record)

@@ -6,7 +6,7 @@ use Rattle.wire_spec.specs.declared.layout.Layout.TheVariants as layout
 use Rattle.wire_spec.specs.Bits.{bits_at}
 use Rattle.wire_spec.specs.Words.{header_word}
 use Rattle.wire_spec.specs.Layout.{Layout, rfc8331, r_bits}
-use Rattle.wire_spec.specs.Result.{accepted}
+use Rattle.wire_spec.specs.Result.{Ok}
 use Rattle.wire_spec.specs.Anc.{Record, InRange, Each, checksum, did_at, data_count, anc_record, sum_field, behind}
 use Rattle.wire_spec.specs.Cells.{Lists, list_of, cell_count, rest}
 use Rattle.wire_spec.specs.Packet.{last_octet, header_size, padding_flag, padding_count, length_field, anc_count, f_field, run_at, Content, read_content}
@@ -149,7 +149,7 @@ ReadRefused L s n i = RefusedBy anc_faults L s n i
 -- and 14 last, "lent list shorter than the records need", for a list of `room` cells
 abbrev pub RefusedInto : Layout → List ℕ → (room n i : ℕ) → Type 0
 RefusedInto L s room n i =
-    ReadRefused L s n i ⊎ ((k : Content) × (read_content L s ≡ accepted k) × (room < length (list_of k.records)) × (n ≡ 14) × (i ≡ 0))
+    ReadRefused L s n i ⊎ ((k : Content) × (read_content L s ≡ Ok k) × (room < length (list_of k.records)) × (n ≡ 14) × (i ≡ 0))
 
 -- "Writing: 24, 20, 21, 22, 23."; "16 .. after 20" (02, K5), "25 .. after 21" (K3), without 22 (K7)
 -- "payload type over 127, or F is 1 or over 3"

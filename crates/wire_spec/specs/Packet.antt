@@ -3,7 +3,7 @@
 use Rattle.std.specs.Prelude.{◌≡◌, not, ◌&&◌, ◌||◌, List, [], ◌∷◌, ◌++◌, ℕ, ◌+◌, ◌-◌, ◌*◌, ◌≤◌, eqb, leb, length, take, drop, get_or}
 use Rattle.wire_spec.specs.Bits.{Fields, pack, bits_at, Fit, row, row_at}
 use Rattle.wire_spec.specs.Layout.{Layout, f_bits, reserved_bits, payload_header_size}
-use Rattle.wire_spec.specs.Result.{Result, accepted, Checks, judge, ◌then◌}
+use Rattle.wire_spec.specs.Result.{Result, Ok, Checks, judge, ◌then◌}
 use Rattle.wire_spec.specs.Anc.{Record, WellFormed, Each, run_octets, read_run}
 use Rattle.wire_spec.specs.Cells.{list_of}
 
@@ -207,7 +207,7 @@ payload_checks L s =
 unfoldable pub read_records : Layout → List ℕ → Result (List Record)
 read_records L s =
     read_run L 0 (anc_count s) (take (length_field s) (drop (run_at L s) s)) then
-    λ q. judge 0 ((eqb (length q.1) 0, 13) ∷ []) (accepted q.0)
+    λ q. judge 0 ((eqb (length q.1) 0, 13) ∷ []) (Ok q.0)
 
 -- 01, "Order of reading", up to 13: "accepted means that none of 1 to 13 is given"; 02, K3: 15 is "counted with 1 to 13"
 unfoldable pub read_packet : Layout → List ℕ → Result Packet
@@ -215,7 +215,7 @@ read_packet L s =
     judge 0 (header_checks s)
     (judge 0 (padding_checks L s)
     (judge 0 (payload_checks L s)
-    (read_records L s then λ rs. accepted (packet_read L rs s))))
+    (read_records L s then λ rs. Ok (packet_read L rs s))))
 
 -- Demand 2: "no padding, extension or contributing sources, and zero reserved bits"
 pub record BareOctets (L : Layout) (s : List ℕ) : Type 0 where
@@ -249,9 +249,9 @@ content k =
 
 -- what an accepted packet says
 unfoldable pub read_content : Layout → List ℕ → Result Content
-read_content L s = read_packet L s then λ k. accepted (content k)
+read_content L s = read_packet L s then λ k. Ok (content k)
 
 -- 14 comes last: the lent list of `room` cells is shorter than the records need
 unfoldable pub read_into : Layout → List ℕ → ℕ → Result Content
 read_into L s room =
-    read_content L s then λ k. judge 0 ((leb (length (list_of k.records)) room, 14) ∷ []) (accepted k)
+    read_content L s then λ k. judge 0 ((leb (length (list_of k.records)) room, 14) ∷ []) (Ok k)

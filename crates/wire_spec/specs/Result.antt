@@ -1,14 +1,16 @@
 -- An answer, or the numbered refusal that takes its place (01, "Numbers of refusal").
 use Rattle.std.specs.Prelude.{◌≡◌, Bool, true, cond, List, [], ◌∷◌, ℕ}
+use Rattle.std.specs.Prelude as std
+pub use Rattle.std.specs.Prelude.{Ok, Err}
 use Rattle.wire_spec.specs.declared.refusal.Refusal.{Refusal}
 
-pub data Result (A : Type 0) : Type 0 where
-  refused : Refusal → Result A
-  accepted : A → Result A
+-- what was asked for, or the refusal
+abbrev pub Result : Type 0 → Type 0
+Result A = std.Result A Refusal
 
 -- "A refusal returns its number and an index from 0"
 abbrev pub refuse : {A : Type 0} → ℕ → ℕ → Result A
-refuse n i = refused (record { number = n; index = i })
+refuse n i = Err (record { number = n; index = i })
 
 -- where there is no refusal: 01 has no number 0
 abbrev pub no_refusal : Refusal
@@ -31,15 +33,15 @@ Passed (t ∷ ts) = (t.0 ≡ true) × Passed ts
 infixl 20 ◌then◌
 -- what follows an answer; a refusal goes straight out
 abbrev pub ◌then◌ : {A B : Type 0} → Result A → (A → Result B) → Result B
-refused x then f = refused x
-accepted a then f = f a
+Err x then f = Err x
+Ok a then f = f a
 
 -- none of the refusals was given
 abbrev pub IsAccepted : {A : Type 0} → Result A → Type 0
-IsAccepted (refused x) = ⊥
-IsAccepted (accepted a) = Unit {0}
+IsAccepted (Err x) = ⊥
+IsAccepted (Ok a) = Unit {0}
 
 -- a refusal's number has the property `P`
 abbrev pub Numbered : {A : Type 0} → (ℕ → Bool) → Result A → Type 0
-Numbered P (refused x) = P x.number ≡ true
-Numbered P (accepted a) = Unit {0}
+Numbered P (Err x) = P x.number ≡ true
+Numbered P (Ok a) = Unit {0}

@@ -2,7 +2,7 @@
 use Rattle.std.specs.Prelude.{Bool, true, not, ◌&&◌, List, [], ◌∷◌, ℕ, ◌+◌, ◌*◌, ◌/◌, ◌%◌, ◌^◌, ◌<◌, ◌≤◌, eqb, leb, length}
 use Rattle.wire_spec.specs.declared.layout.Layout.TheVariants as layout
 use Rattle.wire_spec.specs.Layout.{Layout}
-use Rattle.wire_spec.specs.Result.{Result, accepted, Checks, judge, ◌then◌}
+use Rattle.wire_spec.specs.Result.{Result, Ok, Checks, judge, ◌then◌}
 use Rattle.wire_spec.specs.Anc.{Record, anc_size}
 use Rattle.wire_spec.specs.Cells.{list_of, read_list}
 use Rattle.wire_spec.specs.Packet.{max_packet, Packet, packet_octets, Content}
@@ -119,7 +119,7 @@ limit_checks L k cells room = list_limits L k cells ((leb (length (content_octet
 -- What a writer takes of a list: its checks of what is given beside the list, then 20, then its limits for the list's records.
 abbrev pub records_to_write : Checks → (List Record → Checks) → List ℕ → Result (List Record)
 records_to_write head limits cells =
-    judge 0 head (read_list cells then λ rs. judge 0 (limits rs) (accepted rs))
+    judge 0 head (read_list cells then λ rs. judge 0 (limits rs) (Ok rs))
 
 -- "Writing: 24, 20, 21, 22, 23.", 25 "after 21", 16 "after 20", and without 22 (02, K7): the records of a packet that is written
 abbrev pub packet_records : Layout → Content → (cells : List ℕ) (room : ℕ) → Result (List Record)
@@ -128,7 +128,7 @@ packet_records L k cells room =
 
 -- its octets
 unfoldable pub write_content : Layout → Content → List ℕ → ℕ → Result (List ℕ)
-write_content L k cells room = packet_records L k cells room then λ rs. accepted (content_octets L (with_records k rs))
+write_content L k cells room = packet_records L k cells room then λ rs. Ok (content_octets L (with_records k rs))
 
 -- "In the RFC layout a record of n words takes .. never more than 12 + 1.5n octets, the old layout no more" (02, K7), twice as many
 abbrev pub OctetBound : Type 0
@@ -142,4 +142,4 @@ limit_checks22 L k cells room =
 abbrev pub write_content22 : Layout → Content → List ℕ → ℕ → Result (List ℕ)
 write_content22 L k cells room =
     records_to_write (head_checks k) (λ rs. limit_checks22 L (with_records k rs) (length cells) room) cells then
-    λ rs. accepted (content_octets L (with_records k rs))
+    λ rs. Ok (content_octets L (with_records k rs))

@@ -1,5 +1,8 @@
 // The header words (01, "A header word carries an 8-bit number in b7..b0").
-ghost use Rattle.wire_spec.specs.Words.{HeaderTable};
+ghost use Rattle.std.specs.Prelude.{◌≡◌};
+ghost use Rattle.wire_spec.specs.Words.{HeaderTable, header_word, is_header_word};
+
+use wire_spec::layout::HEADER_NUMBERS;
 
 // The words for all 256 numbers.
 const HEADER_WORDS: [u16; 256] = [
@@ -26,8 +29,33 @@ const HEADER_WORDS: [u16; 256] = [
 ];
 
 // The table, for a caller to lend down: each function that reads a constant array copies it.
-pub fn header_words() -> [u16; 256]
-    ensures { HeaderTable result }
+#[derive(Drop)]
+pub struct HeaderWords {
+    words: [u16; 256],
+    ghost rule: { HeaderTable words },
+}
+
+pub fn header_words() -> HeaderWords
+    ensures { HeaderTable result.words }
 {
-    HEADER_WORDS
+    HeaderWords {
+        words: HEADER_WORDS,
+    }
+}
+
+impl HeaderWords {
+    // The word that carries a number.
+    pub fn of(&self, x: u8) -> u16
+        ensures { result ≡ header_word x }
+    {
+        self.words[x as usize]
+    }
+
+    // The table's word for the number that a word carries is the word.
+    pub fn has(&self, w: u16) -> bool
+        ensures { result ≡ is_header_word w }
+    {
+        let x = (w % HEADER_NUMBERS) as usize;
+        w == self.words[x]
+    }
 }

@@ -1,7 +1,7 @@
 use mathlib.Core.Path.{◌≡◌, sym, ◌∙◌, ap}
 use mathlib.Core.Bool.{Bool, true, false, ◌||◌, or-true, or-false}
 use mathlib.Core.List.{List}
-use Prim.Native.Nat.{ℕ, ◌+◌, ◌-◌, ◌<◌}
+use Prim.Native.Nat.{ℕ, ◌+◌, ◌<◌}
 use native.Mathlib.Numerals.{add-one}
 use native.Mathlib.Omega.{arith}
 use lib.Dec.{eqb}
@@ -23,17 +23,19 @@ on-hit d s ys i z l e h =
 on-miss : (d s : ℕ) (ys : List DidSdid) (i : ℕ) (z : DidSdid) → i < length ys → any_of d s (drop i ys) ≡ any_of d s ys → matching_pair d s (get_or ys i z) ≡ false → any_of d s (drop (i + 1) ys) ≡ any_of d s ys
 on-miss d s ys i z l e h = sym (next_of d s ys i z l ∙ ap (λ (t : Bool). t || any_of d s (drop (i + 1) ys)) h) ∙ e
 
-on-end : (d s : ℕ) (ys : List DidSdid) (i : ℕ) → i ≡ length ys → any_of d s (drop i ys) ≡ any_of d s ys → eqb i 0 ≡ wanted_of d s ys
+on-end : (d s : ℕ) (ys : List DidSdid) (i : ℕ) → i ≡ length ys → any_of d s (drop i ys) ≡ any_of d s ys → eqb (length ys) 0 ≡ wanted_of d s ys
 unfolding any_of
 on-end d s ys i n e =
-    ap (λ (k : ℕ). eqb k 0) n ∙ sym (or-false (eqb (length ys) 0)) ∙ ap (λ (t : Bool). eqb (length ys) 0 || t) (ap (any_of d s) (sym (ap (λ (k : ℕ). drop k ys) n ∙ drop-length ys)) ∙ e)
+    sym (or-false (eqb (length ys) 0))
+    ∙ ap (λ (t : Bool). eqb (length ys) 0 || t) (ap (any_of d s) (sym (ap (λ (k : ℕ). drop k ys) n ∙ drop-length ys)) ∙ e)
 
 pub returns-then-matches_pair : goal.returns-then-matches_pair
-returns-then-matches_pair c = let l = c.loop-i in on-hit _ _ _ l.i (record { did = 0; sdid = 0 }) c.loop-i-test.true l.invariant.1 (sym c.matches_pair.ensures ∙ c.if-matches_pair.true)
+returns-then-matches_pair c = let l = c.loop-entry in
+    on-hit _ _ c.args.pairs.now l.entry-index (record { did = 0; sdid = 0 }) c.loop-entry-test.true l.invariant (sym c.matches_pair.ensures ∙ c.if-matches_pair.true)
 
-pub loop-i-preserved : goal.loop-i-preserved
-loop-i-preserved c = let l = c.loop-i in
-    (omega arith, on-miss _ _ _ l.i (record { did = 0; sdid = 0 }) c.loop-i-test.true l.invariant.1 (sym c.matches_pair.ensures ∙ c.if-matches_pair.false))
+pub loop-entry-preserved : goal.loop-entry-preserved
+loop-entry-preserved c = let l = c.loop-entry in
+    on-miss _ _ c.args.pairs.now l.entry-index (record { did = 0; sdid = 0 }) c.loop-entry-test.true l.invariant (sym c.matches_pair.ensures ∙ c.if-matches_pair.false)
 
 pub returns : goal.returns
-returns c = let l = c.loop-i in on-end _ _ _ _ (omega arith) l.invariant.1
+returns c = let l = c.loop-entry in c.is_empty.ensures ∙ on-end _ _ c.args.pairs.now l.entry-index (omega arith) l.invariant

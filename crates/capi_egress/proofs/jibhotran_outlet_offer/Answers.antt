@@ -40,8 +40,8 @@ state_in-kept-requires c = let fits : rows_fit (length c.args.state.now) (length
     let is : is_state c.args.state.now ≡ true = sym c.is_state.ensures ∙ c.if-not-is_state.false in
     ((long).0, is)
 
-pub refuse-requires-in-Refused : goal.refuse-requires-in-Refused
-refuse-requires-in-Refused c = let fits : rows_fit (length c.args.state.now) (length c.args.answer.now) ≡ true = sym c.rows_fit.ensures ∙ c.if-not-rows_fit.false in
+pub refuse-requires-in-Err : goal.refuse-requires-in-Err
+refuse-requires-in-Err c = let fits : rows_fit (length c.args.state.now) (length c.args.answer.now) ≡ true = sym c.rows_fit.ensures ∙ c.if-not-rows_fit.false in
     let long : (row_size ≤ length c.args.state.now) × (answer_size ≤ length c.args.answer.now) = rows_long _ _ (fits) in
     (long).1
 
@@ -54,20 +54,20 @@ put_channel-requires c = let fits : rows_fit (length c.args.state.now) (length c
     let e = c.offer-offered.ensures.value
     ∙ ap (λ (s : State). offered_of s (offer_of s a.channel size room)) c.state_in-kept.ensures in
     let row = a.state.now in
-    copied-changed row (long).0 a.channel a.packet.now a.memory.now _ e c.in-Copied.is
+    copied-changed row (long).0 a.channel a.packet.now a.memory.now _ e c.in-Ok.is
 
-pub returns-in-Refused : goal.returns-in-Refused
-returns-in-Refused c = let fits : rows_fit (length c.args.state.now) (length c.args.answer.now) ≡ true = sym c.rows_fit.ensures ∙ c.if-not-rows_fit.false in
+pub returns-in-Err : goal.returns-in-Err
+returns-in-Err c = let fits : rows_fit (length c.args.state.now) (length c.args.answer.now) ≡ true = sym c.rows_fit.ensures ∙ c.if-not-rows_fit.false in
     let is : is_state c.args.state.now ≡ true = sym c.is_state.ensures ∙ c.if-not-is_state.false in
     let a = c.args in
     let o = c.offer-offered in
-    let g = offered-at (state_at a.state.now) _ c.state_in-kept.ensures a.channel a.packet.now a.memory.now _ c.offer-offered.new.memory c.offer-offered.ensures.value c.offer-offered.ensures.memory_after _ c.in-Refused.is
-    ∙ at-state a.state.now a.answer.now a.memory.now (offered_at (state_at a.state.now) a.channel a.packet.now a.memory.now) (fits) (is) in record { value = c.refuse-in-Refused.ensures.value ∙ ap (λ (z : Given). z.reply.number) g; state_after = ap (λ (z : Given). overwrite z.numbers a.state.now) g; memory_after = ap (λ (z : Given). z.lent) g; answer_after = c.refuse-in-Refused.ensures.answer_after ∙ ap (λ (z : Given). overwrite z.reply.row a.answer.now) g }
+    let g = offered-at (state_at a.state.now) _ c.state_in-kept.ensures a.channel a.packet.now a.memory.now _ c.offer-offered.new.memory c.offer-offered.ensures.value c.offer-offered.ensures.memory_after _ c.in-Err.is
+    ∙ at-state a.state.now a.answer.now a.memory.now (offered_at (state_at a.state.now) a.channel a.packet.now a.memory.now) (fits) (is) in record { value = c.refuse-in-Err.ensures.value ∙ ap (λ (z : Given). z.reply.number) g; state_after = ap (λ (z : Given). overwrite z.numbers a.state.now) g; memory_after = ap (λ (z : Given). z.lent) g; answer_after = c.refuse-in-Err.ensures.answer_after ∙ ap (λ (z : Given). overwrite z.reply.row a.answer.now) g }
 
-pub returns-in-Copied : goal.returns-in-Copied
-returns-in-Copied c = let fits : rows_fit (length c.args.state.now) (length c.args.answer.now) ≡ true = sym c.rows_fit.ensures ∙ c.if-not-rows_fit.false in
+pub returns-in-Ok : goal.returns-in-Ok
+returns-in-Ok c = let fits : rows_fit (length c.args.state.now) (length c.args.answer.now) ≡ true = sym c.rows_fit.ensures ∙ c.if-not-rows_fit.false in
     let is : is_state c.args.state.now ≡ true = sym c.is_state.ensures ∙ c.if-not-is_state.false in
     let a = c.args in
     let o = c.offer-offered in
-    let g = offered-at (state_at a.state.now) _ c.state_in-kept.ensures a.channel a.packet.now a.memory.now _ c.offer-offered.new.memory c.offer-offered.ensures.value c.offer-offered.ensures.memory_after _ c.in-Copied.is
+    let g = offered-at (state_at a.state.now) _ c.state_in-kept.ensures a.channel a.packet.now a.memory.now _ c.offer-offered.new.memory c.offer-offered.ensures.value c.offer-offered.ensures.memory_after _ c.in-Ok.is
     ∙ at-state a.state.now a.answer.now a.memory.now (offered_at (state_at a.state.now) a.channel a.packet.now a.memory.now) (fits) (is) in record { value = ap (λ (z : Given). z.reply.number) g; state_after = c.put_channel.ensures ∙ ap (λ (z : Given). overwrite z.numbers a.state.now) g; memory_after = ap (λ (z : Given). z.lent) g; answer_after = ap (λ (z : Given). overwrite z.reply.row a.answer.now) g }

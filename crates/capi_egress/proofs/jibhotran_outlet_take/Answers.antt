@@ -40,8 +40,8 @@ state_in-kept-requires c = let fits : rows_fit (length c.args.state.now) (length
     let is : is_state c.args.state.now ≡ true = sym c.is_state.ensures ∙ c.if-not-is_state.false in
     ((long).0, is)
 
-pub refuse-requires-in-Refused : goal.refuse-requires-in-Refused
-refuse-requires-in-Refused c = let fits : rows_fit (length c.args.state.now) (length c.args.answer.now) ≡ true = sym c.rows_fit.ensures ∙ c.if-not-rows_fit.false in
+pub refuse-requires-in-Err : goal.refuse-requires-in-Err
+refuse-requires-in-Err c = let fits : rows_fit (length c.args.state.now) (length c.args.answer.now) ≡ true = sym c.rows_fit.ensures ∙ c.if-not-rows_fit.false in
     let long : (row_size ≤ length c.args.state.now) × (answer_size ≤ length c.args.answer.now) = rows_long _ _ (fits) in
     (long).1
 
@@ -53,25 +53,25 @@ put_channel-requires c = let fits : rows_fit (length c.args.state.now) (length c
     let room = length a.out.now in
     let e = c.take-taken.ensures.value
     ∙ ap (λ (s : State). taken_of s (take_of s held room)) c.state_in-kept.ensures in
-    handed-changed a.state.now (long).0 a.memory.now a.out.now _ e _ _ c.in-HandedOut.is
+    handed-changed a.state.now (long).0 a.memory.now a.out.now _ e _ _ c.in-Ok.is
 
 pub accept_taken-requires : goal.accept_taken-requires
 accept_taken-requires c = let fits : rows_fit (length c.args.state.now) (length c.args.answer.now) ≡ true = sym c.rows_fit.ensures ∙ c.if-not-rows_fit.false in
     let long : (row_size ≤ length c.args.state.now) × (answer_size ≤ length c.args.answer.now) = rows_long _ _ (fits) in
     (long).1
 
-pub returns-in-Refused : goal.returns-in-Refused
-returns-in-Refused c = let fits : rows_fit (length c.args.state.now) (length c.args.answer.now) ≡ true = sym c.rows_fit.ensures ∙ c.if-not-rows_fit.false in
+pub returns-in-Err : goal.returns-in-Err
+returns-in-Err c = let fits : rows_fit (length c.args.state.now) (length c.args.answer.now) ≡ true = sym c.rows_fit.ensures ∙ c.if-not-rows_fit.false in
     let is : is_state c.args.state.now ≡ true = sym c.is_state.ensures ∙ c.if-not-is_state.false in
     let a = c.args in
     let o = c.take-taken in
-    let g = taken_at_lem (state_at a.state.now) _ c.state_in-kept.ensures a.memory.now a.out.now _ c.take-taken.new.out c.take-taken.ensures.value c.take-taken.ensures.out_after _ c.in-Refused.is
-    ∙ at-state a.state.now a.answer.now a.out.now (taken_at (state_at a.state.now) a.memory.now a.out.now) (fits) (is) in record { value = c.refuse-in-Refused.ensures.value ∙ ap (λ (z : Given). z.reply.number) g; state_after = ap (λ (z : Given). overwrite z.numbers a.state.now) g; out_after = ap (λ (z : Given). z.lent) g; answer_after = c.refuse-in-Refused.ensures.answer_after ∙ ap (λ (z : Given). overwrite z.reply.row a.answer.now) g }
+    let g = taken_at_lem (state_at a.state.now) _ c.state_in-kept.ensures a.memory.now a.out.now _ c.take-taken.new.out c.take-taken.ensures.value c.take-taken.ensures.out_after _ c.in-Err.is
+    ∙ at-state a.state.now a.answer.now a.out.now (taken_at (state_at a.state.now) a.memory.now a.out.now) (fits) (is) in record { value = c.refuse-in-Err.ensures.value ∙ ap (λ (z : Given). z.reply.number) g; state_after = ap (λ (z : Given). overwrite z.numbers a.state.now) g; out_after = ap (λ (z : Given). z.lent) g; answer_after = c.refuse-in-Err.ensures.answer_after ∙ ap (λ (z : Given). overwrite z.reply.row a.answer.now) g }
 
-pub returns-in-HandedOut : goal.returns-in-HandedOut
-returns-in-HandedOut c = let fits : rows_fit (length c.args.state.now) (length c.args.answer.now) ≡ true = sym c.rows_fit.ensures ∙ c.if-not-rows_fit.false in
+pub returns-in-Ok : goal.returns-in-Ok
+returns-in-Ok c = let fits : rows_fit (length c.args.state.now) (length c.args.answer.now) ≡ true = sym c.rows_fit.ensures ∙ c.if-not-rows_fit.false in
     let is : is_state c.args.state.now ≡ true = sym c.is_state.ensures ∙ c.if-not-is_state.false in
     let a = c.args in
     let o = c.take-taken in
-    let g = taken_at_lem (state_at a.state.now) _ c.state_in-kept.ensures a.memory.now a.out.now _ c.take-taken.new.out c.take-taken.ensures.value c.take-taken.ensures.out_after _ c.in-HandedOut.is
+    let g = taken_at_lem (state_at a.state.now) _ c.state_in-kept.ensures a.memory.now a.out.now _ c.take-taken.new.out c.take-taken.ensures.value c.take-taken.ensures.out_after _ c.in-Ok.is
     ∙ at-state a.state.now a.answer.now a.out.now (taken_at (state_at a.state.now) a.memory.now a.out.now) (fits) (is) in record { value = c.accept_taken.ensures.value ∙ ap (λ (z : Given). z.reply.number) g; state_after = c.put_channel.ensures ∙ ap (λ (z : Given). overwrite z.numbers a.state.now) g; out_after = ap (λ (z : Given). z.lent) g; answer_after = c.accept_taken.ensures.answer_after ∙ ap (λ (z : Given). overwrite z.reply.row a.answer.now) g }

@@ -1,6 +1,5 @@
 -- `reload` is safe and ends.
 -- Invariant: the packets offered are within what is asked, and the memory keeps its length.
-use borrow.Author.Rules.{rules}
 use mathlib.Core.Path.{◌≡◌}
 use Prim.Native.Nat.{◌≤◌, ◌-◌}
 use lib.ListN.{length}

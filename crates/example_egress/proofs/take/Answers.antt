@@ -1,6 +1,5 @@
 -- `take` is safe and ends.
 -- The array keeps its length over the call that fills it.
-use borrow.Author.Rules.{rules}
 use mathlib.Core.Path.{sym}
 use native.Mathlib.Omega.{arith}
 use lib.Seq.{length-take-le}

@@ -1,6 +1,5 @@
 -- `trickle` is safe and ends.
 -- Invariant: the channels passed are at most eight, and the memory keeps its length.
-use borrow.Author.Rules.{rules}
 use mathlib.Core.Path.{◌≡◌}
 use Prim.Native.Nat.{◌≤◌, ◌-◌}
 use lib.ListN.{length}

@@ -9,8 +9,6 @@ use Rattle.fielddiff_lines.proofs.put_cells.Goals as goal
 pub loop-k-init : goal.loop-k-init
 unfolding up_to
 loop-k-init c = record {
-  both = c.least-n.ensures;
-  within = omega arith;
   room = omega arith;
   put = nothing c.args.out.now c.args.at (omega (arith, c.requires));
 }
@@ -21,8 +19,6 @@ loop-k-preserved c =
     let l = c.loop-k in
     let p = c.put_cell-to.ensures in
     record {
-      both = l.invariant.both;
-      within = omega arith;
       room = omega (arith, p.upper_bound, l.invariant.room);
       put = same (cells-next a.i a.j a.left.now a.right.now l.k) (both l.invariant.put p.put);
     }
@@ -32,5 +28,5 @@ unfolding cell_lines
 returns-clause-put c =
     let a = c.args in
     let l = c.loop-k in
-    let e : l.k ≡ min (length a.left.now) (length a.right.now) = omega (arith, l.invariant.both, l.invariant.within, c.loop-k-test.false) in
+    let e : l.k ≡ min (length a.left.now) (length a.right.now) = omega arith in
     same (ap (λ (k : ℕ). diff_text (cells_to a.i a.j a.left.now a.right.now k)) e) l.invariant.put

@@ -19,31 +19,31 @@ returns-in_default c =
     absurd (header-there l.rest.now _ (next _ _ _ l.out l.rest.now l.to l.invariant.left c.loop-rest-test.true).passed (sym c.in_default.ensures))
 
 pub slice_bounds-put_record-end : goal.slice_bounds-put_record-end
-slice_bounds-put_record-end c = omega (arith, (found-starts c.loop-rest.rest.now 0 c.in-Header.h (sym c.in-Header.ensures)).inside)
+slice_bounds-put_record-end c = omega (arith, (found-starts c.loop-rest.rest.now 0 c.in-Ok.h (sym c.in-Ok.ensures)).inside)
 
 pub put_record-to-requires-clause-words_value : goal.put_record-to-requires-clause-words_value
 put_record-to-requires-clause-words_value c =
-    let w = words_of _ _ (found-starts c.loop-rest.rest.now 0 c.in-Header.h (sym c.in-Header.ensures)) in
+    let w = words_of _ _ (found-starts c.loop-rest.rest.now 0 c.in-Ok.h (sym c.in-Ok.ensures)) in
     (w.count, w.below)
 
 pub put_record-to-requires-clause-words_in_bounds : goal.put_record-to-requires-clause-words_in_bounds
 put_record-to-requires-clause-words_in_bounds c =
-    let s = found-starts c.loop-rest.rest.now 0 c.in-Header.h (sym c.in-Header.ensures) in
+    let s = found-starts c.loop-rest.rest.now 0 c.in-Ok.h (sym c.in-Ok.ensures) in
     let w = words_of _ _ s in
     omega (arith, w.count, s.inside, c.loop-rest.invariant.room)
 
 pub slice_bounds-rest-count : goal.slice_bounds-rest-count
-slice_bounds-rest-count c = (found-starts c.loop-rest.rest.now 0 c.in-Header.h (sym c.in-Header.ensures)).inside
+slice_bounds-rest-count c = (found-starts c.loop-rest.rest.now 0 c.in-Ok.h (sym c.in-Ok.ensures)).inside
 
 pub slice_bounds-rest-start : goal.slice_bounds-rest-start
-slice_bounds-rest-start c = (found-starts c.loop-rest.rest.now 0 c.in-Header.h (sym c.in-Header.ensures)).inside
+slice_bounds-rest-start c = (found-starts c.loop-rest.rest.now 0 c.in-Ok.h (sym c.in-Ok.ensures)).inside
 
 pub loop-rest-preserved : goal.loop-rest-preserved
 loop-rest-preserved c =
     let l = c.loop-rest in
     let r = l.rest.now in
-    let h = c.in-Header.h in
-    let s = found-starts r 0 h (sym c.in-Header.ensures) in
+    let h = c.in-Ok.h in
+    let s = found-starts r 0 h (sym c.in-Ok.ensures) in
     let w = words_of _ _ s in
     let p = c.put_record-to.ensures in
     let n = h.words.0 in

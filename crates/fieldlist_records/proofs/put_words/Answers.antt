@@ -9,21 +9,20 @@ use Rattle.fieldlist_records.proofs.put_words.Goals as goal
 
 pub put_word-to-requires : goal.put_word-to-requires
 put_word-to-requires c =
-    (below_at 1024 c.args.words.now c.loop-k.k c.requires.0 c.loop-k-test.true, omega (arith, c.requires.1, c.loop-k.invariant.place, c.loop-k-test.true))
+    (below_at 1024 c.args.words.now c.loop-word.word-index c.requires.0 c.loop-word-test.true, omega (arith, c.requires.1, c.loop-word.invariant.place, c.loop-word-test.true))
 
-pub loop-k-preserved : goal.loop-k-preserved
-loop-k-preserved c =
-    let l = c.loop-k in
+pub loop-word-preserved : goal.loop-word-preserved
+loop-word-preserved c =
+    let l = c.loop-word in
     let w = c.put_word-to.ensures in
     record {
-      within = omega arith;
       place = omega (arith, w.value, l.invariant.place);
-      put = same (words-next l.k c.args.words.now c.loop-k-test.true) (both l.invariant.put w.put);
+      put = same (words-next l.word-index c.args.words.now c.loop-word-test.true) (both l.invariant.put w.put);
     }
 
 pub returns-clause-put : goal.returns-clause-put
 returns-clause-put c =
-    let l = c.loop-k in
+    let l = c.loop-word in
     let w = c.args.words.now in
-    let e : l.k ≡ length w = omega (arith, l.invariant.within, c.loop-k-test.false) in
+    let e : l.word-index ≡ length w = omega arith in
     same (ap words_text (ap (λ (k : ℕ). take k w) e ∙ take-length w)) l.invariant.put

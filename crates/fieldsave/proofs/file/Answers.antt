@@ -1,23 +1,26 @@
 -- By the laws of a run in turns.
 use Rattle.std.proofs.Common.{refl, []}
 use Rattle.program_spec.specs.Run.{at}
-use Rattle.program_spec.proofs.RunLaws.{bounds}
-use Rattle.program_spec.proofs.TurnLaws.{first-turn, next-turn}
+use Rattle.program_spec.proofs.RunLaws.{start-bounds, still-enough}
+use Rattle.fieldsave_turns.specs.Turns.{Enough}
 use Rattle.fieldsave_turns.proofs.RunLaws.{ended}
+use Rattle.fieldsave_turns.proofs.TurnLaws.{ready}
 use Rattle.fieldsave.proofs.file.Goals as goal
 
-pub loop-turns-init : goal.loop-turns-init
-loop-turns-init c = first-turn (c.start-run.ensures.waits [] []).goes_on
+pub run_on-run-requires-clause-in_bounds : goal.run_on-run-requires-clause-in_bounds
+run_on-run-requires-clause-in_bounds c = start-bounds (c.start-started.ensures.waits [] _)
 
-pub turn-run-requires-clause-in_bounds : goal.turn-run-requires-clause-in_bounds
-turn-run-requires-clause-in_bounds c = bounds (c.start-run.ensures.waits _ _) c.loop-turns.invariant
+pub run_on-run-requires-clause-goes_on : goal.run_on-run-requires-clause-goes_on
+run_on-run-requires-clause-goes_on c = (c.start-started.ensures.waits [] []).goes_on
 
-pub loop-turns-preserved : goal.loop-turns-preserved
-loop-turns-preserved c = next-turn c.loop-turns.invariant c.loop-turns-test.true c.turn-run.ensures c.turns_left-turns.ensures
+pub run_on-run-requires-clause-lasts : goal.run_on-run-requires-clause-lasts
+run_on-run-requires-clause-lasts c =
+    let enough = still-enough Enough refl refl c.start-started.auto.out c.requires in
+    λ read written here p left. ready enough here
 
 pub returns : goal.returns
 returns c =
-    let l = c.loop-turns in
+    let r = c.run_on-run in
     let a = c.args in
-    let t = c.start-run.ensures.waits a.store.now a.input.now in
-    (at (l.run.session, l.store) l.run.buffers l.input l.out, refl, ended a.layout a.store.now t l.invariant c.loop-turns-test.false)
+    let t = c.start-started.ensures.waits a.store.now a.input.now in
+    (at (r.result.session, r.new.store) r.result.buffers r.new.input r.new.out, refl, ended a.layout a.store.now t r.ensures)

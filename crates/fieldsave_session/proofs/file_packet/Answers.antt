@@ -16,8 +16,8 @@ use Rattle.fieldsave_session.proofs.FieldLaws.{handed-refused, handed-arrived}
 use Rattle.fieldsave_session.proofs.file_packet.Goals as goal
 
 pub returns-in_default : goal.returns-in_default
-returns-in_default c = let entry : let a = c.args in c.enter-opened.result ≡ entered a.session (read_content (layout_in a.session) a.octets.now) = let a = c.args in
-    c.enter-opened.ensures ∙ entry_found a.session a.octets.now _ _ c.layout_of-layout.ensures c.inspect-inspected.ensures in
+returns-in_default c = let entry : let a = c.args in c.enter.result ≡ entered a.session (read_content (layout_in a.session) a.octets.now) = let a = c.args in
+    c.enter.ensures ∙ entry_found a.session a.octets.now _ _ c.layout_of-layout.ensures c.inspect-inspected.ensures in
     let a = c.args in
     let k = entry in
     let t = turn-refused a.session a.octets.now a.store.now _ k _ c.in_default.is in
@@ -27,12 +27,12 @@ pub arrive_checked-arrival-requires : goal.arrive_checked-arrival-requires
 arrive_checked-arrival-requires c = c.inspect-inspected.ensures
 
 pub returns : goal.returns
-returns c = let entry : let a = c.args in c.enter-opened.result ≡ entered a.session (read_content (layout_in a.session) a.octets.now) = let a = c.args in
-    c.enter-opened.ensures ∙ entry_found a.session a.octets.now _ _ c.layout_of-layout.ensures c.inspect-inspected.ensures in
+returns c = let entry : let a = c.args in c.enter.result ≡ entered a.session (read_content (layout_in a.session) a.octets.now) = let a = c.args in
+    c.enter.ensures ∙ entry_found a.session a.octets.now _ _ c.layout_of-layout.ensures c.inspect-inspected.ensures in
     let a = c.args in
     let k = entry in
-    let t = turn-arrived a.session a.octets.now a.store.now _ k c.in-Open.depacketizer c.in-Open.is in
-    let h = handed-arrived a.session a.octets.now a.store.now _ k c.in-Open.depacketizer c.in-Open.is in
-    let s = c.in-Open.depacketizer.state in
+    let t = turn-arrived a.session a.octets.now a.store.now _ k c.in-Ok.depacketizer c.in-Ok.is in
+    let h = handed-arrived a.session a.octets.now a.store.now _ k c.in-Ok.depacketizer c.in-Ok.is in
+    let s = c.in-Ok.depacketizer.state in
     let r0 = c.arrive_checked-arrival.ensures.value ∙ ap (λ (L : Layout). arrival_of (step s L a.octets.now a.store.now)) c.layout_of-layout.ensures in
     let r1 = c.arrive_checked-arrival.ensures.store_after ∙ ap (λ (L : Layout). (step s L a.octets.now a.store.now).store) c.layout_of-layout.ensures in record { session_value = (λ i. session.Open (c.layout_of-layout.ensures i) (r0 i).state) ∙ sym (ap (λ (x : Turn). x.session) t); store_after = r1 ∙ sym (ap (λ (x : Turn). x.store) t); put = same ((λ i. fields_octets written_version (handed_by (r0 i).answer (r1 i))) ∙ sym (ap (fields_octets written_version) h)) c.put_answer-length.ensures }

@@ -17,13 +17,13 @@ returns-then-out-lt-MAX_FRAME c = no_room (frame_walk c.args.port) (lt-leb max_f
 pub take_open-requires : goal.take_open-requires
 take_open-requires c = (c.requires, c.if-out-lt-MAX_FRAME.false)
 
-pub returns-in-Refused : goal.returns-in-Refused
-returns-in-Refused c = let a = c.args in
-    let q = sym (front-refused a.port a.session a.octets.now _ c.in-Refused.is) in
+pub returns-in-Some : goal.returns-in-Some
+returns-in-Some c = let a = c.args in
+    let q = sym (front-refused a.port a.session a.octets.now _ c.in-Some.is) in
     answers a.port a.session a.octets.now a.out.now c.if-out-lt-MAX_FRAME.false _ (ap (reply_of a.session) q) a.out.now (ap (λ (f : Front Session). out_after f a.out.now) q) refl
 
-pub returns-in-Open : goal.returns-in-Open
-returns-in-Open c = let a = c.args in
-    let q = sym (front-open a.port a.session a.octets.now c.in-Open.is) in
+pub returns-in-None : goal.returns-in-None
+returns-in-None c = let a = c.args in
+    let q = sym (front-open a.port a.session a.octets.now c.in-None.is) in
     let y = c.take_open in
     answers a.port a.session a.octets.now a.out.now c.if-out-lt-MAX_FRAME.false y.result (c.take_open.ensures.value ∙ ap (reply_of a.session) q) c.take_open.new.out (c.take_open.ensures.out_after ∙ ap (λ (f : Front Session). out_after f a.out.now) q) c.take_open.auto.out

@@ -4,7 +4,7 @@ use mathlib.Core.Path.{sym, ◌∙◌}
 use Rattle.rtp_reader.proofs.read.Goals as goal
 
 pub read_outlined-requires : goal.read_outlined-requires
-read_outlined-requires c = sym c.check.ensures ∙ c.in-Packet.is
+read_outlined-requires c = sym c.check.ensures ∙ c.in-Ok.is
 
 pub read_refused-requires : goal.read_refused-requires
-read_refused-requires c = sym c.check.ensures ∙ c.in-Refused.is
+read_refused-requires c = sym c.check.ensures ∙ c.in-Err.is

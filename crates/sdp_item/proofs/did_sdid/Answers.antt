@@ -13,7 +13,7 @@ use Rattle.sdp_spec.specs.declared.item.Item.TheVariants.{DidSdid, Malformed}
 use Rattle.sdp_item.specs.Answers.{digits_of}
 use Rattle.sdp_spec.specs.Text.{open_word, comma_word, close_word, number, hex_base}
 use Rattle.sdp_spec.specs.Reading.{starts_with, hex_behind, behind, did_sdid_of}
-use Rattle.sdp_spec.proofs.ItemLaws.{hex-behind, behind-octet}
+use Rattle.sdp_spec.proofs.ItemLaws.{started, hex-behind, behind-octet}
 use Rattle.sdp_item.proofs.did_sdid.Goals as goal
 
 module _ (s : List ℕ) where
@@ -106,10 +106,10 @@ pub slice_bounds-last-start : goal.slice_bounds-last-start
 slice_bounds-last-start c = inside comma_word _ _ c.hex_behind-sdid.ensures c.if-sdid-eq0.false
 
 pub returns-then-not-starts_with : goal.returns-then-not-starts_with
-returns-then-not-starts_with c = not-closed _ (some open_word _ _ c.hex_behind-did.ensures c.if-did-eq0.false) (some comma_word _ _ (sdid-is _ _ _ c.hex_behind-did.ensures c.hex_behind-sdid.ensures) c.if-sdid-eq0.false) (ap (starts_with close_word) (sym (last-is _ _ _ c.hex_behind-did.ensures c.hex_behind-sdid.ensures)) ∙ sym c.starts_with.ensures ∙ c.if-not-starts_with.true)
+returns-then-not-starts_with c = not-closed _ (some open_word _ _ c.hex_behind-did.ensures c.if-did-eq0.false) (some comma_word _ _ (sdid-is _ _ _ c.hex_behind-did.ensures c.hex_behind-sdid.ensures) c.if-sdid-eq0.false) (ap (starts_with close_word) (sym (last-is _ _ _ c.hex_behind-did.ensures c.hex_behind-sdid.ensures)) ∙ sym (started close_word _) ∙ sym c.starts_with.ensures.value ∙ c.if-not-starts_with.true)
 
 pub returns-then-last-ne1 : goal.returns-then-last-ne1
-returns-then-last-ne1 c = more-behind _ (some open_word _ _ c.hex_behind-did.ensures c.if-did-eq0.false) (some comma_word _ _ (sdid-is _ _ _ c.hex_behind-did.ensures c.hex_behind-sdid.ensures) c.if-sdid-eq0.false) (ap (starts_with close_word) (sym (last-is _ _ _ c.hex_behind-did.ensures c.hex_behind-sdid.ensures)) ∙ sym c.starts_with.ensures ∙ c.if-not-starts_with.false) (λ e. c.if-last-ne1.true (ap length (last-is _ _ _ c.hex_behind-did.ensures c.hex_behind-sdid.ensures) ∙ e))
+returns-then-last-ne1 c = more-behind _ (some open_word _ _ c.hex_behind-did.ensures c.if-did-eq0.false) (some comma_word _ _ (sdid-is _ _ _ c.hex_behind-did.ensures c.hex_behind-sdid.ensures) c.if-sdid-eq0.false) (ap (starts_with close_word) (sym (last-is _ _ _ c.hex_behind-did.ensures c.hex_behind-sdid.ensures)) ∙ sym (started close_word _) ∙ sym c.starts_with.ensures.value ∙ c.if-not-starts_with.false) (λ e. c.if-last-ne1.true (ap length (last-is _ _ _ c.hex_behind-did.ensures c.hex_behind-sdid.ensures) ∙ e))
 
 pub overflow_cast-result : goal.overflow_cast-result
 overflow_cast-result c = let v = value open_word c.args.value.now _ c.hex_behind-did.ensures in omega (arith, behind-octet open_word c.args.value.now)
@@ -119,4 +119,4 @@ overflow_cast-result-2 c = let v = value comma_word _ _ (sdid-is c.args.value.no
 
 pub returns : goal.returns
 returns c = ap₂ DidSdid (value open_word _ _ c.hex_behind-did.ensures) (value comma_word _ _ (sdid-is _ _ _ c.hex_behind-did.ensures c.hex_behind-sdid.ensures))
-    ∙ pair _ (some open_word _ _ c.hex_behind-did.ensures c.if-did-eq0.false) (some comma_word _ _ (sdid-is _ _ _ c.hex_behind-did.ensures c.hex_behind-sdid.ensures) c.if-sdid-eq0.false) (ap (starts_with close_word) (sym (last-is _ _ _ c.hex_behind-did.ensures c.hex_behind-sdid.ensures)) ∙ sym c.starts_with.ensures ∙ c.if-not-starts_with.false) (ap length (sym (last-is _ _ _ c.hex_behind-did.ensures c.hex_behind-sdid.ensures)) ∙ c.if-last-ne1.false)
+    ∙ pair _ (some open_word _ _ c.hex_behind-did.ensures c.if-did-eq0.false) (some comma_word _ _ (sdid-is _ _ _ c.hex_behind-did.ensures c.hex_behind-sdid.ensures) c.if-sdid-eq0.false) (ap (starts_with close_word) (sym (last-is _ _ _ c.hex_behind-did.ensures c.hex_behind-sdid.ensures)) ∙ sym (started close_word _) ∙ sym c.starts_with.ensures.value ∙ c.if-not-starts_with.false) (ap length (sym (last-is _ _ _ c.hex_behind-did.ensures c.hex_behind-sdid.ensures)) ∙ c.if-last-ne1.false)

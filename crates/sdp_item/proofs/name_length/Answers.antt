@@ -1,21 +1,14 @@
-use borrow.Author.Rules.{rules}
-use mathlib.Core.Path.{sym, ◌∙◌}
-use Prim.Native.Nat.{◌-◌}
-use native.Mathlib.Nat.{zero-add}
-use native.Mathlib.Omega.{arith}
-use Rattle.sdp_spec.proofs.ItemLaws.{name-next, name-stops, name-ends}
+use Rattle.std.proofs.Common.{◌∙◌, rules, tests}
+use Rattle.std.proofs.lemmas.Iterator.{YieldsList-from_slice}
+use Rattle.std.proofs.lemmas.Iterator.Consumers.{count_from_yields_List}
+use Rattle.std.proofs.lemmas.Iterator.Search.{YieldsList-from_take_while}
+use Rattle.std.proofs.lemmas.List.Folds.{length-prefix_len}
+use Rattle.sdp_spec.specs.Text.{is_name}
+use Rattle.sdp_spec.proofs.ItemLaws.{name-is}
 use Rattle.sdp_item.proofs.name_length.Goals as goal
 
-pub loop-i-init : goal.loop-i-init
-loop-i-init c = (search rules, zero-add _)
-
-pub returns-then-not-is_name : goal.returns-then-not-is_name
-returns-then-not-is_name c = let s = c.args.text.now in let l = c.loop-i in
-    let e = sym c.is_name.ensures ∙ c.if-not-is_name.true in omega (arith, name-stops s l.i c.loop-i-test.true e, l.invariant.1)
-
-pub loop-i-preserved : goal.loop-i-preserved
-loop-i-preserved c = let s = c.args.text.now in let l = c.loop-i in
-    let e = sym c.is_name.ensures ∙ c.if-not-is_name.false in (search rules, omega (arith, name-next s l.i c.loop-i-test.true e, l.invariant.1))
-
 pub returns : goal.returns
-returns c = let l = c.loop-i in omega (arith, name-ends c.args.text.now l.i c.loop-i-test.false, l.invariant.1)
+returns c = let s = c.args.text.now in
+    count_from_yields_List c.take_while.result _ c.count.ensures.ran
+    (YieldsList-from_take_while _ is_name (YieldsList-from_slice s cc) c.take_while.ensures.closure c.take_while.ensures.done (λ x b q k. search (rules, tests)))
+    ∙ length-prefix_len is_name s ∙ name-is s

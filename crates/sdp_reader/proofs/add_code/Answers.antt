@@ -2,8 +2,8 @@
 -- By whether one was.
 use Rattle.sdp_reader.proofs.add_code.Goals as goal
 
-pub returns-in-Code : goal.returns-in-Code
-returns-in-Code c = rw (c.refuse.ensures, c.in-Code.is)
+pub returns-in-Some : goal.returns-in-Some
+returns-in-Some c = rw (c.refuse_at.ensures, c.in-Some.is)
 
-pub returns-in-Absent : goal.returns-in-Absent
-returns-in-Absent c = rw c.in-Absent.is
+pub returns-in-None : goal.returns-in-None
+returns-in-None c = rw c.in-None.is

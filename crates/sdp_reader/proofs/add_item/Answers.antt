@@ -3,7 +3,7 @@
 use Rattle.sdp_reader.proofs.add_item.Goals as goal
 
 pub returns-in-Malformed : goal.returns-in-Malformed
-returns-in-Malformed c = rw (c.refuse.ensures, c.in-Malformed.is)
+returns-in-Malformed c = rw (c.refuse_at.ensures, c.in-Malformed.is)
 
 pub returns-in-Other : goal.returns-in-Other
 returns-in-Other c = rw c.in-Other.is

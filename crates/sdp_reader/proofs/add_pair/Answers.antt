@@ -5,7 +5,7 @@ use Rattle.sdp_spec.specs.Text.{max_pairs}
 use Rattle.sdp_reader.proofs.add_pair.Goals as goal
 
 pub returns-then-found-ge-MAX_PAIRS : goal.returns-then-found-ge-MAX_PAIRS
-returns-then-found-ge-MAX_PAIRS c = rw (c.refuse.ensures, le-ltb c.args.found.pairs max_pairs c.if-found-ge-MAX_PAIRS.true)
+returns-then-found-ge-MAX_PAIRS c = rw (c.refuse_at.ensures, le-ltb c.args.found.pairs max_pairs c.if-found-ge-MAX_PAIRS.true)
 
 pub returns : goal.returns
 returns c = rw (lt-ltb c.args.found.pairs max_pairs c.if-found-ge-MAX_PAIRS.false)

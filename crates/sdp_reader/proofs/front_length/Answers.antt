@@ -1,20 +1,14 @@
-use borrow.Author.Rules.{rules}
-use mathlib.Core.Path.{ap}
-use Prim.Native.Nat.{◌-◌}
-use native.Mathlib.Nat.{zero-add}
-use native.Mathlib.Omega.{arith}
-use lib.ListN.{length}
-use Rattle.sdp_spec.proofs.CutLaws.{front-stops, front_goes, front_ends}
+use Rattle.std.proofs.Common.{◌∙◌, eqb, rules, tests}
+use mathlib.Core.Bool.{not}
+use Rattle.std.proofs.lemmas.Iterator.{YieldsList-from_slice}
+use Rattle.std.proofs.lemmas.Iterator.Consumers.{count_from_yields_List}
+use Rattle.std.proofs.lemmas.Iterator.Search.{YieldsList-from_take_while}
+use Rattle.std.proofs.lemmas.List.Folds.{length-prefix_len}
+use Rattle.sdp_spec.proofs.CutLaws.{front-is}
 use Rattle.sdp_reader.proofs.front_length.Goals as goal
 
-pub loop-i-init : goal.loop-i-init
-loop-i-init c = (search rules, zero-add _)
-
-pub returns-then-text-i-eq59 : goal.returns-then-text-i-eq59
-returns-then-text-i-eq59 c = let l = c.loop-i in omega (arith, ap length (front-stops c.args.text.now l.i c.loop-i-test.true c.if-text-i-eq59.true), l.invariant.1)
-
-pub loop-i-preserved : goal.loop-i-preserved
-loop-i-preserved c = let l = c.loop-i in (search rules, omega (arith, ap length (front_goes c.args.text.now l.i c.loop-i-test.true c.if-text-i-eq59.false), l.invariant.1))
-
 pub returns : goal.returns
-returns c = let l = c.loop-i in omega (arith, ap length (front_ends c.args.text.now l.i c.loop-i-test.false), l.invariant.1)
+returns c = let s = c.args.text.now in
+    count_from_yields_List c.take_while.result _ c.count.ensures.ran
+    (YieldsList-from_take_while _ (λ o. not (eqb o 59)) (YieldsList-from_slice s cc) c.take_while.ensures.closure c.take_while.ensures.done (λ x b q k. search (rules, tests)))
+    ∙ length-prefix_len (λ o. not (eqb o 59)) s ∙ front-is s

@@ -9,11 +9,11 @@ use Rattle.sdp_spec.proofs.WritingLaws.{codes-size}
 use Rattle.sdp_writer.proofs.code_size.Goals as goal
 
 pub overflow_add-result : goal.overflow_add-result
-overflow_add-result c = omega (arith, c.decimal_size.ensures, length-decimal c.in-Code.code)
+overflow_add-result c = omega (arith, c.decimal_size.ensures, length-decimal c.in-Some.code)
 
-pub returns-in-Absent : goal.returns-in-Absent
+pub returns-in-None : goal.returns-in-None
 unfolding separated
-returns-in-Absent c = rw c.in-Absent.is
+returns-in-None c = rw c.in-None.is
 
-pub returns-in-Code : goal.returns-in-Code
-returns-in-Code c = rw c.in-Code.is (ap (λ (n : ℕ). 11 + n) c.decimal_size.ensures ∙ sym (codes-size _))
+pub returns-in-Some : goal.returns-in-Some
+returns-in-Some c = rw c.in-Some.is (ap (λ (n : ℕ). 11 + n) c.decimal_size.ensures ∙ sym (codes-size _))

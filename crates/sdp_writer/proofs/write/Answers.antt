@@ -1,40 +1,39 @@
 -- `write` writes parameters as a text.
 -- Each return knows the tests before it, in the order of the definition; the text is the pairs' items, and the code's behind them.
+use Rattle.std.specs.Prelude.{Option}
+use Rattle.wire_spec.specs.declared.count.OctetCount.{OctetCount}
 use mathlib.Core.Path.{◌≡◌, ap, sym, subst, ◌∙◌}
 use mathlib.Core.List.{List, ◌++◌}
 use Prim.Native.Nat.{ℕ, ◌+◌, ◌*◌, ◌%◌, ◌<◌, ◌≤◌}
 use native.Mathlib.Omega.{arith}
 use lib.ListN.{length, length-append}
 use borrow.Author.Tests.{le-leb, lt-leb, eq-eqb, ne_eqb}
-use Rattle.wire_spec.specs.Result.{Result, accepted, refuse}
+use Rattle.wire_spec.specs.Result.{Result, Ok, refuse}
 use Rattle.wire_spec.specs.Written.{written_of, octets_after}
 use Rattle.text.specs.Put.{Put}
 use Rattle.text.proofs.PutLaws.{both, same}
-use Rattle.sdp_spec.specs.declared.parameters.Vpid.{Vpid}
 use Rattle.sdp_spec.specs.Text.{max_pairs}
 use Rattle.sdp_spec.specs.Grammar.{Content}
 use Rattle.sdp_spec.specs.Writing.{pair_texts, code_texts, joined, text_of, write_text}
-use Rattle.wire_spec.specs.declared.written.Written.TheVariants as written
-use Rattle.wire_spec.specs.declared.written.Written.{Written}
 use Rattle.sdp_writer.specs.Parts.{following}
 use Rattle.sdp_writer.proofs.TextLaws.{room-behind, joined-append}
 use Rattle.sdp_writer.proofs.write.Goals as goal
 
 -- the answer, and the octets of the text
-abbrev Answers : Written → Content → List ℕ → List ℕ → Type 0
+abbrev Answers : Result OctetCount → Content → List ℕ → List ℕ → Type 0
 Answers w k new old = (w ≡ written_of (write_text k (length old))) × (new ≡ octets_after (write_text k (length old)) old)
 
 answers : (k : Content) (old : List ℕ) (v : Result (List ℕ)) → write_text k (length old) ≡ v → Answers (written_of v) k (octets_after v old) old
 answers k old v e = (ap written_of (sym e), ap (λ (w : Result (List ℕ)). octets_after w old) (sym e))
 
-put-answers : (k : Content) (old new : List ℕ) (n : ℕ) → Put old 0 (text_of k) new n → write_text k (length old) ≡ accepted (text_of k)
-    → Answers (written.Octets (record { 0 = n })) k new old
+put-answers : (k : Content) (old new : List ℕ) (n : ℕ) → Put old 0 (text_of k) new n → write_text k (length old) ≡ Ok (text_of k)
+    → Answers (Ok (record { 0 = n })) k new old
 put-answers k old new n p e =
-    let a = answers k old (accepted (text_of k)) e in
+    let a = answers k old (Ok (text_of k)) e in
     let size : n ≡ length (text_of k) = omega (arith, p.behind) in
-    (ap (λ (m : ℕ). written.Octets (record { 0 = m })) size ∙ a.0, p.octets ∙ a.1)
+    (ap (λ (m : ℕ). Ok (record { 0 = m })) size ∙ a.0, p.octets ∙ a.1)
 
-module _ (l : List ℕ) (v : Vpid) (old : List ℕ) where
+module _ (l : List ℕ) (v : Option ℕ) (old : List ℕ) where
   abbrev Text : Content
   Text = record { pairs = l; vpid = v }
 
@@ -52,7 +51,7 @@ module _ (l : List ℕ) (v : Vpid) (old : List ℕ) where
       unfolding write_text
       small h = rw (eq-eqb (length l % 2) 0 even, le-leb (length l) (2 * max_pairs) few, lt-leb (length (text_of Text)) (length old) h)
 
-      fits : length (text_of Text) ≤ length old → write_text Text (length old) ≡ accepted (text_of Text)
+      fits : length (text_of Text) ≤ length old → write_text Text (length old) ≡ Ok (text_of Text)
       unfolding write_text
       fits h = rw (eq-eqb (length l % 2) 0 even, le-leb (length l) (2 * max_pairs) few, le-leb (length (text_of Text)) (length old) h)
 

@@ -20,19 +20,19 @@ pub returns-then-octets-least_size : goal.returns-then-octets-least_size
 unfolding read_anc anc_checks
 returns-then-octets-least_size c = let s = c.args.octets.now in
     let h = lt-leb (least_size c.args.layout) (length s) (subst (λ (k : ℕ). length s < k) c.least_size.ensures c.if-octets-least_size.true) in
-    rw (c.refuse.ensures, h)
+    rw (c.refuse_at.ensures, h)
 
 pub header_words_ok-requires : goal.header_words_ok-requires
 header_words_ok-requires c = let least : least_size c.args.layout ≤ length c.args.octets.now = subst (λ (k : ℕ). k ≤ length c.args.octets.now) c.least_size.ensures c.if-octets-least_size.false in
     let fit : WordsFit c.args.octets.now c.did_at-did.result 3 = subst (λ (k : ℕ). WordsFit c.args.octets.now k 3) (sym c.did_at-did.ensures) (header-there c.args.layout c.args.octets.now (least)) in
-    (c.requires, fit)
+    fit
 
 pub returns-then-not-header_words_ok : goal.returns-then-not-header_words_ok
 unfolding read_anc anc_checks headers_ok
 returns-then-not-header_words_ok c = let least : least_size c.args.layout ≤ length c.args.octets.now = subst (λ (k : ℕ). k ≤ length c.args.octets.now) c.least_size.ensures c.if-octets-least_size.false in
     let long : leb (least_size c.args.layout) (length c.args.octets.now) ≡ true = le-leb _ _ (least) in
     let tested : c.header_words_ok.result ≡ headers_ok c.args.layout c.args.octets.now = c.header_words_ok.ensures ∙ ap (λ (k : ℕ). are_header_words (row_at word_bits c.args.octets.now k 3)) c.did_at-did.ensures in
-    rw (c.refuse-then-not-header_words_ok.ensures, long, failed _ _ (tested) (ap not c.if-not-header_words_ok.true))
+    rw (c.refuse_at-then-not-header_words_ok.ensures, long, failed _ _ (tested) (ap not c.if-not-header_words_ok.true))
 
 pub overflow_add-did : goal.overflow_add-did
 overflow_add-did c = omega (arith, c.did_at-did.ensures, (places c.args.layout).did-near)
@@ -51,7 +51,7 @@ returns-then-octets-size c = let least : least_size c.args.layout ≤ length c.a
     let count-is : c.fetch.result % header_numbers ≡ data_count c.args.layout c.args.octets.now = let e : c.did_at-did.result + 2 * word_bits ≡ did_at c.args.layout + word_bits + word_bits = omega (arith, c.did_at-did.ensures) in
     ap (λ (x : ℕ). x % header_numbers) (c.fetch.ensures ∙ ap (λ (k : ℕ). bits_at c.args.octets.now k word_bits) e) in
     let size_is : anc_size c.args.layout (data_count c.args.layout c.args.octets.now) ≡ c.packet_size-size.result.0 = sym (c.packet_size-size.ensures ∙ ap (anc_size c.args.layout) (count-is)) in
-    rw (c.refuse-then-octets-size.ensures, long, headed, size_is, lt-leb _ _ c.if-octets-size.true)
+    rw (c.refuse_at-then-octets-size.ensures, long, headed, size_is, lt-leb _ _ c.if-octets-size.true)
 
 pub check_content-requires : goal.check_content-requires
 unfolding headers_ok

@@ -9,8 +9,5 @@ use Rattle.anc_reader.proofs.RunLaws.{tally}
 use Rattle.anc_reader.proofs.check.check_run.Given as goal
 
 abbrev pub invariant-loop-i : goal.invariant-loop-i
-invariant-loop-i l = (l.i ≤ l.count) × (l.used.0 + length l.rest ≡ length l.octets) × (l.cells ≤ l.used.0)
+invariant-loop-i l = (l.used.0 + length l.rest ≡ length l.octets) × (l.cells ≤ l.used.0)
     × (tally l.layout l.used.0 l.cells (read_run l.layout l.i (l.count - l.i) l.rest) ≡ run_of l.layout (read_run l.layout 0 l.count l.octets))
-
-abbrev pub decreases-loop-i : goal.decreases-loop-i
-decreases-loop-i l = l.count - l.i

@@ -9,8 +9,5 @@ use Rattle.anc_tolerant_reader.proofs.RunLaws.{joined}
 use Rattle.anc_tolerant_reader.proofs.check.check_run.Given as goal
 
 abbrev pub invariant-loop-i : goal.invariant-loop-i
-invariant-loop-i l = (l.i ≤ l.count) × (l.tally.omitted ≤ l.i) × (l.tally.cells + length l.rest ≤ length l.octets)
+invariant-loop-i l = (l.tally.omitted ≤ l.i) × (l.tally.cells + length l.rest ≤ length l.octets)
     × (joined l.tally (tolerate_run l.layout l.i (l.count - l.i) l.rest) ≡ tolerant_run_of (tolerate_run l.layout 0 l.count l.octets))
-
-abbrev pub decreases-loop-i : goal.decreases-loop-i
-decreases-loop-i l = l.count - l.i

@@ -1,5 +1,6 @@
 -- `left_out` tells of a packet that fails its checksum and nothing before.
 -- The bits behind its words, as the strict check tests them.
+use Rattle.wire_spec.specs.Result.{Ok}
 use mathlib.Core.Path.{◌≡◌, ap, sym, subst, ◌∙◌}
 use mathlib.Core.Bool.{false, not}
 use Prim.Native.Nat.{ℕ, ◌+◌, ◌*◌, ◌<◌, ◌≤◌}
@@ -11,7 +12,6 @@ use Rattle.wire_spec.specs.Words.{word_bits, header_numbers}
 use Rattle.wire_spec.specs.Anc.{anc_size, data_count, alignment_ok}
 use Rattle.anc_reader.specs.Tests.{zero_bits}
 use Rattle.anc_reader.proofs.PacketLaws.{passed, failed, There, there, alignment-test}
-use Rattle.anc_tolerant_reader.specs.declared.packet.Part.TheVariants as part
 use Rattle.anc_tolerant_reader.proofs.PacketLaws.{sized, left-12, left_out}
 use Rattle.anc_tolerant_reader.proofs.packet.left_out.Goals as goal
 
@@ -45,7 +45,7 @@ returns-then-not-zero_end c = let ends : c.zero_end.result ≡ alignment_ok c.ar
     ∙ ap (λ (at : ℕ). zero_bits a.octets.now (at + word_bits * (n + 1)) (8 * z)) c.words_at.ensures
     ∙ alignment-test a.layout a.octets.now n (sym c.data_count-words.ensures) z c.packet_size-size.ensures in
     let a = c.args in
-    rw (left-12 a.layout a.index a.octets.now c.requires.0 (failed _ _ (ends) (ap not c.if-not-zero_end.true)))
+    c.refuse_at.ensures ∙ rw (left-12 a.layout a.index a.octets.now c.requires.0 (failed _ _ (ends) (ap not c.if-not-zero_end.true)))
 
 pub returns : goal.returns
 returns c = let ends : c.zero_end.result ≡ alignment_ok c.args.layout c.args.octets.now = let a = c.args in
@@ -56,4 +56,4 @@ returns c = let ends : c.zero_end.result ≡ alignment_ok c.args.layout c.args.o
     ∙ alignment-test a.layout a.octets.now n (sym c.data_count-words.ensures) z c.packet_size-size.ensures in
     let a = c.args in
     rw (left_out a.layout a.index a.octets.now c.requires.0 (passed _ _ (ends) (ap not c.if-not-zero_end.false)) c.requires.1)
-    (ap (λ (n : ℕ). part.Taken (record { 0 = n }) false) c.data_count-words.ensures)
+    (ap (λ (n : ℕ). Ok (record { words = record { 0 = n }; own = false })) c.data_count-words.ensures)

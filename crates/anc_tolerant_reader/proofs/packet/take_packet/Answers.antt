@@ -6,12 +6,12 @@ use Rattle.anc_tolerant_reader.proofs.packet.take_packet.Goals as goal
 
 pub returns-then-refusal-ne-CHECKSUM_WRONG : goal.returns-then-refusal-ne-CHECKSUM_WRONG
 returns-then-refusal-ne-CHECKSUM_WRONG c = let a = c.args in
-    part-refused a.layout a.index a.octets.now _ (sym c.check_packet-verdict.ensures ∙ c.in-Refused.is) c.if-refusal-ne-CHECKSUM_WRONG.true
+    part-refused a.layout a.index a.octets.now _ (sym c.check_packet-verdict.ensures ∙ c.in-Err.is) c.if-refusal-ne-CHECKSUM_WRONG.true
 
 pub left_out-requires : goal.left_out-requires
 left_out-requires c = let a = c.args in
-    part-11 a.layout a.index a.octets.now _ (sym c.check_packet-verdict.ensures ∙ c.in-Refused.is) c.if-refusal-ne-CHECKSUM_WRONG.false
+    part-11 a.layout a.index a.octets.now _ (sym c.check_packet-verdict.ensures ∙ c.in-Err.is) c.if-refusal-ne-CHECKSUM_WRONG.false
 
-pub returns-in-Accepted : goal.returns-in-Accepted
-returns-in-Accepted c = let a = c.args in
-    part-own a.layout a.index a.octets.now _ (sym c.check_packet-verdict.ensures ∙ c.in-Accepted.is)
+pub returns-in-Ok : goal.returns-in-Ok
+returns-in-Ok c = let a = c.args in
+    part-own a.layout a.index a.octets.now _ (sym c.check_packet-verdict.ensures ∙ c.in-Ok.is)

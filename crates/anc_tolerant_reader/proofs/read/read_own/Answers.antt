@@ -24,19 +24,19 @@ returns-in_default c = let a = c.args in
     rw f (record { octets_value = (c.packet_size.ensures ∙ ap (anc_size a.layout) c.data_count-words.ensures, refl); cells_after = refl })
 
 pub read_run-requires : goal.read_run-requires
-read_run-requires c = let own : let a = c.args in Own a.layout 0 a.octets.now c.in-Accepted.words = let a = c.args in verdict-accepted a.layout 0 a.octets.now _ (sym c.check_packet-verdict.ensures ∙ c.in-Accepted.is) in
+read_run-requires c = let own : let a = c.args in Own a.layout 0 a.octets.now c.in-Ok.words = let a = c.args in verdict-accepted a.layout 0 a.octets.now _ (sym c.check_packet-verdict.ensures ∙ c.in-Ok.is) in
     let run_is : let a = c.args in run_cells (read_run a.layout 0 1 a.octets.now) ≡ own_cells a.layout a.octets.now = let a = c.args in
-    let e = verdict-reads a.layout 0 a.octets.now _ (sym c.check_packet-verdict.ensures ∙ c.in-Accepted.is) in
+    let e = verdict-reads a.layout 0 a.octets.now _ (sym c.check_packet-verdict.ensures ∙ c.in-Ok.is) in
     rw (own).sums (ap run_cells (one-run a.layout a.octets.now _ e) ∙ append-nil (cells_of (anc_record a.layout a.octets.now))) in
     let a = c.args in
-    let e = verdict-reads a.layout 0 a.octets.now _ (sym c.check_packet-verdict.ensures ∙ c.in-Accepted.is) in record { accepted = subst IsAccepted (sym (one-run a.layout a.octets.now _ e)) tt; octets_in_bounds = subst (λ (l : List ℕ). length l ≤ length a.cells.now) (sym (run_is)) c.requires.octets_in_bounds }
+    let e = verdict-reads a.layout 0 a.octets.now _ (sym c.check_packet-verdict.ensures ∙ c.in-Ok.is) in record { accepted = subst IsAccepted (sym (one-run a.layout a.octets.now _ e)) tt; octets_in_bounds = subst (λ (l : List ℕ). length l ≤ length a.cells.now) (sym (run_is)) c.requires.octets_in_bounds }
 
 pub returns : goal.returns
-returns c = let own : let a = c.args in Own a.layout 0 a.octets.now c.in-Accepted.words = let a = c.args in verdict-accepted a.layout 0 a.octets.now _ (sym c.check_packet-verdict.ensures ∙ c.in-Accepted.is) in
+returns c = let own : let a = c.args in Own a.layout 0 a.octets.now c.in-Ok.words = let a = c.args in verdict-accepted a.layout 0 a.octets.now _ (sym c.check_packet-verdict.ensures ∙ c.in-Ok.is) in
     let run_is : let a = c.args in run_cells (read_run a.layout 0 1 a.octets.now) ≡ own_cells a.layout a.octets.now = let a = c.args in
-    let e = verdict-reads a.layout 0 a.octets.now _ (sym c.check_packet-verdict.ensures ∙ c.in-Accepted.is) in
+    let e = verdict-reads a.layout 0 a.octets.now _ (sym c.check_packet-verdict.ensures ∙ c.in-Ok.is) in
     rw (own).sums (ap run_cells (one-run a.layout a.octets.now _ e) ∙ append-nil (cells_of (anc_record a.layout a.octets.now))) in
-    let size_is : let a = c.args in length (own_cells a.layout a.octets.now) ≡ head_cells + c.in-Accepted.words.0 = let a = c.args in
+    let size_is : let a = c.args in length (own_cells a.layout a.octets.now) ≡ head_cells + c.in-Ok.words.0 = let a = c.args in
     let e : own_cells a.layout a.octets.now ≡ cells_of (anc_record a.layout a.octets.now) = rw (own).sums in
     ap length e ∙ omega (arith, length-words a.layout a.octets.now, (own).count) in
     let a = c.args in

@@ -17,13 +17,13 @@ bounds-octets c = let least : (L : Layout) → c.args.layout ≡ L → least_siz
 
 pub write_location-requires : goal.write_location-requires
 write_location-requires c = let least : (L : Layout) → c.args.layout ≡ L → least_size L ≤ length c.args.octets.now = λ L e. subst (λ (N : Layout). least_size N ≤ length c.args.octets.now) e c.requires.cells_in_bounds.1 in
-    (c.requires.header_table.1, omega (arith, c.requires.cells_in_bounds.0), omega (arith, least rfc8331 c.in-Rfc8331.is))
+    (c.requires.well_formed, omega (arith, c.requires.cells_in_bounds.0), omega (arith, least rfc8331 c.in-Rfc8331.is))
 
 pub write_header_words-requires : goal.write_header_words-requires
 write_header_words-requires c = let least : (L : Layout) → c.args.layout ≡ L → least_size L ≤ length c.args.octets.now = λ L e. subst (λ (N : Layout). least_size N ≤ length c.args.octets.now) e c.requires.cells_in_bounds.1 in
     let k = c.write_location.auto.octets in
     let l = least rfc8331 c.in-Rfc8331.is in
-    record { header_table = c.requires.header_table; cells_in_bounds = (c.requires.cells_in_bounds.0, record { even = omega arith; inside = omega (arith, k, l); near = omega arith }) }
+    record { well_formed = c.requires.well_formed; cells_in_bounds = (c.requires.cells_in_bounds.0, record { even = omega arith; inside = omega (arith, k, l); near = omega arith }) }
 
 pub returns-in-Rfc8331 : goal.returns-in-Rfc8331
 returns-in-Rfc8331 c = let a = c.args in
@@ -37,13 +37,13 @@ returns-in-Rfc8331 c = let a = c.args in
 
 pub write_location-requires-in-Draft2015 : goal.write_location-requires-in-Draft2015
 write_location-requires-in-Draft2015 c = let least : (L : Layout) → c.args.layout ≡ L → least_size L ≤ length c.args.octets.now = λ L e. subst (λ (N : Layout). least_size N ≤ length c.args.octets.now) e c.requires.cells_in_bounds.1 in
-    (c.requires.header_table.1, omega (arith, c.requires.cells_in_bounds.0), simp length-set (omega (arith, least draft2015 c.in-Draft2015.is)))
+    (c.requires.well_formed, omega (arith, c.requires.cells_in_bounds.0), simp length-set (omega (arith, least draft2015 c.in-Draft2015.is)))
 
 pub write_header_words-requires-in-Draft2015 : goal.write_header_words-requires-in-Draft2015
 write_header_words-requires-in-Draft2015 c = let least : (L : Layout) → c.args.layout ≡ L → least_size L ≤ length c.args.octets.now = λ L e. subst (λ (N : Layout). least_size N ≤ length c.args.octets.now) e c.requires.cells_in_bounds.1 in
     let k = simp length-set at c.write_location-in-Draft2015.auto.octets in
     let l = least draft2015 c.in-Draft2015.is in
-    record { header_table = c.requires.header_table; cells_in_bounds = (c.requires.cells_in_bounds.0, record { even = omega arith; inside = omega (arith, k, l); near = omega arith }) }
+    record { well_formed = c.requires.well_formed; cells_in_bounds = (c.requires.cells_in_bounds.0, record { even = omega arith; inside = omega (arith, k, l); near = omega arith }) }
 
 pub shape_of-octets-in-Draft2015 : goal.shape_of-octets-in-Draft2015
 shape_of-octets-in-Draft2015 c = c.write_header_words-in-Draft2015.auto.octets ∙ c.write_location-in-Draft2015.auto.octets ∙ length-set c.args.octets.now 6 _

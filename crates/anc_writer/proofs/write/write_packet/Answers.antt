@@ -20,7 +20,7 @@ use Rattle.anc_writer.proofs.write.write_packet.Goals as goal
 pub overflow_cast-words : goal.overflow_cast-words
 overflow_cast-words c = let given : Record = cell_record c.args.cells.now in
     let count-is : cell_count c.args.cells.now ≡ length (given).words = sym (length-words c.args.cells.now c.requires.cells_in_bounds) in
-    omega (arith, count-is, c.requires.header_table.1.fits.count)
+    omega (arith, count-is, c.requires.well_formed.fits.count)
 
 pub clear_end-requires : goal.clear_end-requires
 clear_end-requires c = let given : Record = cell_record c.args.cells.now in
@@ -36,7 +36,7 @@ write_head-sum-requires c = let given : Record = cell_record c.args.cells.now in
     let room : anc_size c.args.layout (length (given).words) ≤ length c.args.octets.now = rw (← count-is) c.requires.cells_in_bounds_2 in
     let L = c.args.layout in
     let kept = c.clear_end.auto.octets in
-    record { header_table = c.requires.header_table; cells_in_bounds = (c.requires.cells_in_bounds, omega (arith, kept, room, least_size_lem L (length (cell_record c.args.cells.now).words))) }
+    record { well_formed = c.requires.well_formed; cells_in_bounds = (c.requires.cells_in_bounds, omega (arith, kept, room, least_size_lem L (length (cell_record c.args.cells.now).words))) }
 
 pub write_user_words-requires : goal.write_user_words-requires
 unfolding cell_record
@@ -51,7 +51,7 @@ write_user_words-requires c = let given : Record = cell_record c.args.cells.now 
     let n = length r.words in
     let o = c.write_head-sum.new.octets in
     let kept : length o ≡ length c.args.octets.now = c.write_head-sum.auto.octets ∙ c.clear_end.auto.octets in
-    let f = c.requires.header_table.1.fits in
+    let f = c.requires.well_formed.fits in
     let e = sym (user-is) in
     let p = places L in
     let fit : WordsFit o (words_at L) (n + 1) = record { even = p.words-even; inside = omega (arith, kept, room, size-bits L n); near = omega (arith, p.did-near, p.r-few, f.count) } in record {

@@ -26,7 +26,7 @@ pub write_packet-words-requires : goal.write_packet-words-requires
 write_packet-words-requires c = let next_here : let a = c.args in let l = c.loop-rest in Next a.layout (overwrite (list_octets a.layout (read_list a.cells.now)) a.octets.now) l.octets l.rest.now l.to = let l = c.loop-rest in next c.args.layout _ l.octets l.rest.now l.to l.invariant.1 c.loop-rest-test.true in
     let n = next_here in
     let l = c.loop-rest in
-    record { header_table = (c.header_words-table.ensures, n.front.formed); cells_in_bounds = n.front.lies.inside; cells_in_bounds_2 = rw (part-all l.to l.octets, length-drop l.to l.octets) (omega (arith, n.room)) }
+    record { well_formed = n.front.formed; cells_in_bounds = n.front.lies.inside; cells_in_bounds_2 = rw (part-all l.to l.octets, length-drop l.to l.octets) (omega (arith, n.room)) }
 
 pub overflow_add-step : goal.overflow_add-step
 overflow_add-step c = let next_here : let a = c.args in let l = c.loop-rest in Next a.layout (overwrite (list_octets a.layout (read_list a.cells.now)) a.octets.now) l.octets l.rest.now l.to = let l = c.loop-rest in next c.args.layout _ l.octets l.rest.now l.to l.invariant.1 c.loop-rest-test.true in

@@ -1,13 +1,8 @@
 -- `put_octets` puts numbers of 8 bits into a row from a place on, and no other number changes.
 -- Invariant: the numbers that are left, written behind those that are, make all of them written.
-use mathlib.Core.Path.{◌≡◌}
-use Prim.Native.Nat.{◌≤◌, ◌-◌, ◌+◌}
-use lib.ListN.{length, drop}
+use Rattle.std.proofs.Common.{◌≡◌, ◌+◌, drop}
 use Rattle.wire_spec.specs.Bits.{splice}
 use Rattle.capi_egress_state.proofs.numbers.put_octets.Given as goal
 
 abbrev pub invariant-loop-k : goal.invariant-loop-k
-invariant-loop-k l = (l.k ≤ length l.octets) × (length l.row ≡ length l.initial.row) × (splice l.row (l.at + l.k) (drop l.k l.octets) ≡ splice l.initial.row l.at l.octets)
-
-abbrev pub decreases-loop-k : goal.decreases-loop-k
-decreases-loop-k l = length l.octets - l.k
+invariant-loop-k l = splice l.row (l.at + l.k) (drop l.k l.octets) ≡ splice l.initial.row l.at l.octets

@@ -1,10 +1,11 @@
 -- `jibhotran_file_read` reads a field, or gives 255.
 -- By what the library gives, where the answer is long enough.
+use Rattle.wire_spec.specs.Result.{Result}
+use Rattle.fieldfile_reader.specs.declared.field.Summary.{Summary}
 use mathlib.Core.Path.{ap, ◌∙◌}
 use borrow.Author.Tests.{le-leb, lt-leb}
 use lib.ListN.{length}
 use Rattle.wire_spec.specs.Bits.{overwrite}
-use Rattle.fieldfile_reader.specs.declared.field.FieldRead.{FieldRead}
 use Rattle.capi_answer.specs.Rows.{answer_size}
 use Rattle.capi_file.specs.Rows.{field_reply}
 use Rattle.capi_file.proofs.file.jibhotran_file_read.Goals as goal
@@ -15,4 +16,4 @@ returns-then-answer-lt-ANSWER_SIZE c = let h = lt-leb answer_size (length c.args
 pub returns : goal.returns
 returns c = let a = c.args in
     let h = le-leb answer_size (length a.answer.now) c.if-answer-lt-ANSWER_SIZE.false in
-    record { value = rw h (c.reply_field.ensures.value ∙ ap (λ (x : FieldRead). (field_reply x).number) c.read_field-read.ensures.value); cells_after = rw h c.read_field-read.ensures.cells_after; answer_after = rw h (c.reply_field.ensures.answer_after ∙ ap (λ (x : FieldRead). overwrite (field_reply x).row a.answer.now) c.read_field-read.ensures.value) }
+    record { value = rw h (c.reply_field.ensures.value ∙ ap (λ (x : Result Summary). (field_reply x).number) c.read_field-read.ensures.value); cells_after = rw h c.read_field-read.ensures.cells_after; answer_after = rw h (c.reply_field.ensures.answer_after ∙ ap (λ (x : Result Summary). overwrite (field_reply x).row a.answer.now) c.read_field-read.ensures.value) }

@@ -1,5 +1,6 @@
 -- `jibhotran_line_read` reads a line, or gives 255.
 -- By what the library gives, where the answer is long enough.
+use Rattle.wire_spec.specs.Result.{Result}
 use mathlib.Core.Path.{ap, ◌∙◌}
 use borrow.Author.Tests.{le-leb, lt-leb}
 use lib.ListN.{length}
@@ -15,4 +16,4 @@ returns-then-answer-lt-ANSWER_SIZE c = let h = lt-leb answer_size (length c.args
 pub returns : goal.returns
 returns c = let a = c.args in
     let h = le-leb answer_size (length a.answer.now) c.if-answer-lt-ANSWER_SIZE.false in
-    record { value = rw h (c.reply_line_read.ensures.value ∙ ap (λ (x : ReadLine). (line_found_reply x).number) c.read-read.ensures.value); cells_after = rw h c.read-read.ensures.cells_after; answer_after = rw h (c.reply_line_read.ensures.answer_after ∙ ap (λ (x : ReadLine). overwrite (line_found_reply x).row a.answer.now) c.read-read.ensures.value) }
+    record { value = rw h (c.reply_line_read.ensures.value ∙ ap (λ (x : Result ReadLine). (line_found_reply x).number) c.read-read.ensures.value); cells_after = rw h c.read-read.ensures.cells_after; answer_after = rw h (c.reply_line_read.ensures.answer_after ∙ ap (λ (x : Result ReadLine). overwrite (line_found_reply x).row a.answer.now) c.read-read.ensures.value) }

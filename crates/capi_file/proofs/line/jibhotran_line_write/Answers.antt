@@ -1,10 +1,11 @@
 -- `jibhotran_line_write` writes into a line, or gives 255.
 -- By what the library gives, where the answer is long enough.
+use Rattle.wire_spec.specs.Result.{Result}
+use Rattle.std.specs.Prelude.{ℕ}
 use mathlib.Core.Path.{ap, ◌∙◌}
 use borrow.Author.Tests.{le-leb, lt-leb}
 use lib.ListN.{length}
 use Rattle.wire_spec.specs.Bits.{overwrite}
-use Rattle.sdi_spec.specs.declared.answer.WrittenLine.{WrittenLine}
 use Rattle.capi_answer.specs.Rows.{answer_size}
 use Rattle.capi_file.specs.Rows.{line_written_reply}
 use Rattle.capi_file.proofs.line.jibhotran_line_write.Goals as goal
@@ -15,4 +16,4 @@ returns-then-answer-lt-ANSWER_SIZE c = let h = lt-leb answer_size (length c.args
 pub returns : goal.returns
 returns c = let a = c.args in
     let h = le-leb answer_size (length a.answer.now) c.if-answer-lt-ANSWER_SIZE.false in
-    record { value = rw h (c.reply_line_written.ensures.value ∙ ap (λ (x : WrittenLine). (line_written_reply x).number) c.write-written.ensures.value); line_after = rw h c.write-written.ensures.line_after; answer_after = rw h (c.reply_line_written.ensures.answer_after ∙ ap (λ (x : WrittenLine). overwrite (line_written_reply x).row a.answer.now) c.write-written.ensures.value) }
+    record { value = rw h (c.reply_line_written.ensures.value ∙ ap (λ (x : Result ℕ). (line_written_reply x).number) c.write-written.ensures.value); line_after = rw h c.write-written.ensures.line_after; answer_after = rw h (c.reply_line_written.ensures.answer_after ∙ ap (λ (x : Result ℕ). overwrite (line_written_reply x).row a.answer.now) c.write-written.ensures.value) }

@@ -1,5 +1,6 @@
 -- `jibhotran_read` reads a packet in the tolerant way, or gives 255 or 254.
 -- By what the library gives in each of its two ways, where the answer is long enough and the layout is one.
+use Rattle.wire_spec.specs.Result.{Result}
 use mathlib.Core.Path.{◌≡◌, ap, sym, ◌∙◌}
 use mathlib.Core.List.{List}
 use Prim.Native.Nat.{ℕ, ◌≤◌}
@@ -24,7 +25,7 @@ returns-then-layout-gt-LAST_LAYOUT c = let h = le-leb answer_size (length c.args
 
 -- the reply to what the library gives, in either way
 module _ (l : ℕ) (s lent row : List ℕ) (h : answer_size ≤ length row) (k : l ≤ last_layout) (L : Layout) (told : L ≡ layout_of l) where
-  replies : (t : TolerantRead) → t ≡ tolerant_returns L s lent
+  replies : (t : Result TolerantRead) → t ≡ tolerant_returns L s lent
       → ((packet_reply t).number ≡ (read_reply l s lent row).number) × (overwrite (packet_reply t).row row ≡ overwrite (read_reply l s lent row).row row)
   replies t e =
       let w = e ∙ ap (λ (y : Layout). tolerant_returns y s lent) told in
@@ -38,21 +39,21 @@ module _ (l : ℕ) (s lent row : List ℕ) (h : answer_size ≤ length row) (k :
       rw (le-leb answer_size (length row) h, le-leb l last_layout k) w
 
 pub read_outlined-read-requires : goal.read_outlined-read-requires
-read_outlined-read-requires c = sym c.check.ensures ∙ c.in-Packet.is
+read_outlined-read-requires c = sym c.check.ensures ∙ c.in-Ok.is
 
 pub read_refused-read-requires : goal.read_refused-read-requires
-read_refused-read-requires c = sym c.check.ensures ∙ c.in-Refused.is
+read_refused-read-requires c = sym c.check.ensures ∙ c.in-Err.is
 
-pub returns-in-Packet : goal.returns-in-Packet
-returns-in-Packet c = let a = c.args in
+pub returns-in-Ok : goal.returns-in-Ok
+returns-in-Ok c = let a = c.args in
     let h = c.if-answer-lt-ANSWER_SIZE.false in
     let k = c.if-layout-gt-LAST_LAYOUT.false in
     let p = replies a.layout a.octets.now a.cells.now a.answer.now h k _ c.layout_of-told.ensures _ c.read_outlined-read.ensures.value in
     record { value = c.reply_read.ensures.value ∙ p.0; cells_after = leaves a.layout a.octets.now a.cells.now a.answer.now h k _ c.layout_of-told.ensures _ c.read_outlined-read.ensures.cells_after; answer_after = c.reply_read.ensures.answer_after ∙ p.1 }
 
-pub returns-in-Refused : goal.returns-in-Refused
-returns-in-Refused c = let a = c.args in
+pub returns-in-Err : goal.returns-in-Err
+returns-in-Err c = let a = c.args in
     let h = c.if-answer-lt-ANSWER_SIZE.false in
     let k = c.if-layout-gt-LAST_LAYOUT.false in
     let p = replies a.layout a.octets.now a.cells.now a.answer.now h k _ c.layout_of-told.ensures _ c.read_refused-read.ensures.value in
-    record { value = c.reply_read-in-Refused.ensures.value ∙ p.0; cells_after = leaves a.layout a.octets.now a.cells.now a.answer.now h k _ c.layout_of-told.ensures _ c.read_refused-read.ensures.cells_after; answer_after = c.reply_read-in-Refused.ensures.answer_after ∙ p.1 }
+    record { value = c.reply_read-in-Err.ensures.value ∙ p.0; cells_after = leaves a.layout a.octets.now a.cells.now a.answer.now h k _ c.layout_of-told.ensures _ c.read_refused-read.ensures.cells_after; answer_after = c.reply_read-in-Err.ensures.answer_after ∙ p.1 }

@@ -4,8 +4,8 @@ use mathlib.Core.Path.{ap, sym}
 use Rattle.capi_parameters.specs.Rows.{has_code}
 use Rattle.capi_parameters.proofs.answer.has_code.Goals as goal
 
-pub returns-in-Code : goal.returns-in-Code
-returns-in-Code c = ap has_code (sym c.in-Code.is)
+pub returns-in-Some : goal.returns-in-Some
+returns-in-Some c = ap has_code (sym c.in-Some.is)
 
-pub returns-in-Absent : goal.returns-in-Absent
-returns-in-Absent c = ap has_code (sym c.in-Absent.is)
+pub returns-in-None : goal.returns-in-None
+returns-in-None c = ap has_code (sym c.in-None.is)

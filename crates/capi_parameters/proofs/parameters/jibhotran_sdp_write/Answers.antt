@@ -1,9 +1,10 @@
 -- `jibhotran_sdp_write` writes format parameters, or gives 255.
 -- By what the library gives, where the answer is long enough.
+use Rattle.wire_spec.specs.Result.{Result}
+use Rattle.wire_spec.specs.declared.count.OctetCount.{OctetCount}
 use mathlib.Core.Path.{◌≡◌, ap, ◌∙◌}
 use borrow.Author.Tests.{le-leb, lt-leb}
 use lib.ListN.{length}
-use Rattle.wire_spec.specs.declared.written.Written.{Written}
 use Rattle.wire_spec.specs.Bits.{overwrite}
 use Rattle.capi_answer.specs.Rows.{answer_size, written_reply}
 use Rattle.capi_parameters.specs.Calls.{vpid_of}
@@ -16,4 +17,4 @@ pub returns : goal.returns
 returns c = let a = c.args in
     let h = le-leb answer_size (length a.answer.now) c.if-answer-lt-ANSWER_SIZE.false in
     let v : c.vpid_of.result ≡ vpid_of a.vpid = c.vpid_of.ensures in
-    record { value = rw (h, ← v) (c.reply_written.ensures.value ∙ ap (λ (x : Written). (written_reply x).number) c.write-written.ensures.value); out_after = rw (h, ← v) c.write-written.ensures.out_after; answer_after = rw (h, ← v) (c.reply_written.ensures.answer_after ∙ ap (λ (x : Written). overwrite (written_reply x).row a.answer.now) c.write-written.ensures.value) }
+    record { value = rw (h, ← v) (c.reply_written.ensures.value ∙ ap (λ (x : Result OctetCount). (written_reply x).number) c.write-written.ensures.value); out_after = rw (h, ← v) c.write-written.ensures.out_after; answer_after = rw (h, ← v) (c.reply_written.ensures.answer_after ∙ ap (λ (x : Result OctetCount). overwrite (written_reply x).row a.answer.now) c.write-written.ensures.value) }

@@ -1,8 +1,4 @@
-use mathlib.Core.Path.{◌≡◌, refl, sym, ◌∙◌, ap}
-use mathlib.Core.List.{List}
-use Prim.Native.Nat.{ℕ, zero, suc, ◌≤◌, ◌-◌, ◌<◌}
-use native.Mathlib.Omega.{arith}
-use lib.ListN.{get_or}
+use Rattle.std.proofs.Common.{◌≡◌, ◌∙◌, sym, ap, List, ℕ, zero, suc, ◌+◌, ◌-◌, ◌≤◌, ◌<◌, get_or, arith}
 use borrow.Author.Tests.{lt-ltb, le-ltb}
 use Rattle.egress_spec.specs.Queues.{behind}
 use Rattle.egress_spec.specs.Step.{turn_of}
@@ -23,19 +19,16 @@ unfolding turn_of
 end l n c e = rw e
 
 pub returns-then-counts-c-gt0 : goal.returns-then-counts-c-gt0
-returns-then-counts-c-gt0 c = let l = c.loop-n in let a = c.args in
-    sym (here _ l.n l.c (omega arith) (omega arith)) ∙ l.invariant.2
+returns-then-counts-c-gt0 c = let l = c.loop in
+    sym (here _ (8 - l.counter) l.c (omega arith) (omega arith)) ∙ l.invariant.1
 
-pub loop-n-preserved : goal.loop-n-preserved
-loop-n-preserved c = let l = c.loop-n in
-    let a = c.args in (
+pub loop-preserved : goal.loop-preserved
+loop-preserved c = let l = c.loop in
+    let a = c.args in
+    let n = 8 - (l.counter + 1) in (
       c.behind-c.ensures.1,
-      omega arith,
-      ap (turn_of (l.n - 1) a.counts) c.behind-c.ensures.0 ∙ sym (on a.counts l.n (l.n - 1) l.c (omega arith) (omega arith)) ∙ l.invariant.2,
+      ap (turn_of n a.counts) c.behind-c.ensures.0 ∙ sym (on a.counts (8 - l.counter) n l.c (omega arith) (omega arith)) ∙ l.invariant.1,
     )
 
 pub returns : goal.returns
-returns c = let l = c.loop-n in sym (end _ l.n l.c (omega arith)) ∙ l.invariant.2
-
-pub loop-n-init : goal.loop-n-init
-loop-n-init c = (omega arith, omega arith, refl)
+returns c = let l = c.loop in sym (end _ (8 - l.counter) l.c (omega arith)) ∙ l.invariant.1

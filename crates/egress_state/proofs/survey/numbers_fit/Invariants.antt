@@ -1,13 +1,8 @@
 -- `numbers_fit` tells whether the heads, the counts, the next channel and the slots are in range.
 -- Invariant: those of the channels passed are.
-use mathlib.Core.Path.{◌≡◌}
-use mathlib.Core.Bool.{true}
-use Prim.Native.Nat.{◌≤◌, ◌-◌}
+use Rattle.std.proofs.Common.{◌≡◌, true}
 use Rattle.egress_spec.specs.Places.{all_upto, channel_ok}
 use Rattle.egress_state.proofs.survey.numbers_fit.Given as goal
 
 abbrev pub invariant-loop-c : goal.invariant-loop-c
-invariant-loop-c l = (l.c ≤ 8) × (all_upto (channel_ok l.state) l.c ≡ true)
-
-abbrev pub decreases-loop-c : goal.decreases-loop-c
-decreases-loop-c l = 8 - l.c
+invariant-loop-c l = all_upto (channel_ok l.state) l.c ≡ true

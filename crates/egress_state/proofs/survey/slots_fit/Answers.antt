@@ -1,6 +1,5 @@
 use mathlib.Core.Path.{◌≡◌, sym, ◌∙◌}
 use mathlib.Core.Bool.{true, false}
-use Prim.Native.Nat.{◌-◌}
 use native.Mathlib.Omega.{arith}
 use Rattle.egress_spec.specs.Places.{slot_ok}
 use Rattle.egress_spec.proofs.Upto.{upto-fails, upto-more, upto-none}
@@ -16,11 +15,11 @@ pub loop-k-preserved : goal.loop-k-preserved
 loop-k-preserved c = let st = c.args.state in
     let l = c.loop-k in
     let f : slot_ok st l.k ≡ true = sym c.slot_fits.ensures ∙ c.if-not-slot_fits.false in
-    (omega arith, upto-more (slot_ok st) l.k l.invariant.1 f)
+    upto-more (slot_ok st) l.k l.invariant f
 
 pub returns : goal.returns
 returns c = let e : c.loop-k.k ≡ 64 = omega arith in
-    sym (rw e at c.loop-k.invariant.1)
+    sym (rw e at c.loop-k.invariant)
 
 pub loop-k-init : goal.loop-k-init
-loop-k-init c = (omega arith, upto-none _)
+loop-k-init c = upto-none _

@@ -1,6 +1,6 @@
 use mathlib.Core.Path.{◌≡◌, refl, sym, ◌∙◌, subst}
-use mathlib.Core.Bool.{true, false}
-use Prim.Native.Nat.{ℕ, ◌-◌, ◌+◌, ◌*◌, ◌<◌}
+use mathlib.Core.Bool.{true}
+use Prim.Native.Nat.{ℕ, ◌+◌, ◌*◌, ◌<◌}
 use native.Mathlib.Omega.{arith}
 use lib.ListN.{set}
 use Rattle.egress_spec.specs.Places.{held, slot_at}
@@ -17,34 +17,32 @@ pub returns-then-not-numbers_fit : goal.returns-then-not-numbers_fit
 returns-then-not-numbers_fit c = refuses-numbers _ _ _ (sym c.numbers_fit.ensures ∙ c.if-not-numbers_fit.true)
 
 pub loop-c-init : goal.loop-c-init
-loop-c-init c = (
-  omega arith,
-  record {
-    size = omega arith;
-    long = refl;
-    numbers = sym c.numbers_fit.ensures ∙ c.if-not-numbers_fit.false;
-    places = upto-none _;
-    marks = no-marks c.args.state;
-  },
-)
+loop-c-init c =
+    record {
+      size = omega arith;
+      long = refl;
+      numbers = sym c.numbers_fit.ensures ∙ c.if-not-numbers_fit.false;
+      places = upto-none _;
+      marks = no-marks c.args.state;
+    }
 
 pub loop-i-init : goal.loop-i-init
 loop-i-init c = let l = c.loop-c in
     let a = c.args in
     let z : 8 * l.c ≡ 8 * l.c + 0 = omega arith in
-    (omega arith, omega arith, subst (λ (k : ℕ). Passed a.state a.memory k l.used) z l.invariant.1)
+    subst (λ (k : ℕ). Passed a.state a.memory k l.used) z l.invariant
 
 pub is_held-requires : goal.is_held-requires
 is_held-requires c = let a = c.args in
     let l = c.loop-i in
     let k = 8 * c.loop-c.c + l.i in
-    (omega (arith, l.invariant.0), head-fits a.state c.loop-c.c l.invariant.2.numbers l.invariant.0)
+    (omega arith, head-fits a.state c.loop-c.c l.invariant.numbers (omega arith))
 
 pub returns-then-not-length_fits : goal.returns-then-not-length_fits
 returns-then-not-length_fits c = let a = c.args in
     let l = c.loop-i in
     let k = 8 * c.loop-c.c + l.i in
-    let low : k < 64 = omega (arith, l.invariant.0) in
+    let low : k < 64 = omega arith in
     let place = sym (held_of a.state c.loop-c.c l.i (omega arith)) in
     let h : held a.state k ≡ true = place ∙ sym c.is_held.ensures ∙ c.if-is_held.true in
     let f = sym c.length_fits.ensures ∙ c.if-not-length_fits.true in
@@ -54,37 +52,37 @@ pub overflow_cast-slot : goal.overflow_cast-slot
 overflow_cast-slot c = let a = c.args in
     let l = c.loop-i in
     let k = 8 * c.loop-c.c + l.i in
-    let h : slot_at a.state k < 64 = slot-fits a.state k l.invariant.2.numbers (omega (arith, l.invariant.0)) in
+    let h : slot_at a.state k < 64 = slot-fits a.state k l.invariant.numbers (omega arith) in
     fits_below h
 
 pub bounds-used-slot : goal.bounds-used-slot
 bounds-used-slot c = let a = c.args in
     let l = c.loop-i in
     let k = 8 * c.loop-c.c + l.i in
-    slot-fits a.state k l.invariant.2.numbers (omega (arith, l.invariant.0))
+    slot-fits a.state k l.invariant.numbers (omega arith)
 
 pub returns-then-used-slot : goal.returns-then-used-slot
 returns-then-used-slot c = let a = c.args in
     let l = c.loop-i in
     let k = 8 * c.loop-c.c + l.i in
-    let low : k < 64 = omega (arith, l.invariant.0) in
+    let low : k < 64 = omega arith in
     let place = sym (held_of a.state c.loop-c.c l.i (omega arith)) in
     let held-here = c.is_held.ensures in
     let h : held a.state k ≡ true = place ∙ sym held-here ∙ c.if-is_held.true in
-    let m = mark-at a.state a.memory k l.used l.invariant.2 low in
+    let m = mark-at a.state a.memory k l.used l.invariant low in
     refuses-place a.state a.memory l.used k low (twice a.state k h (sym m ∙ c.if-used-slot.true))
 
 pub bounds-used-slot-then-is_held : goal.bounds-used-slot-then-is_held
 bounds-used-slot-then-is_held c = let a = c.args in
     let l = c.loop-i in
     let k = 8 * c.loop-c.c + l.i in
-    slot-fits a.state k l.invariant.2.numbers (omega (arith, l.invariant.0))
+    slot-fits a.state k l.invariant.numbers (omega arith)
 
 pub loop-i-preserved : goal.loop-i-preserved
 loop-i-preserved c = let a = c.args in
     let l = c.loop-i in
     let k = 8 * c.loop-c.c + l.i in
-    let low : k < 64 = omega (arith, l.invariant.0) in
+    let low : k < 64 = omega arith in
     let place = sym (held_of a.state c.loop-c.c l.i (omega arith)) in
     let told = place ∙ sym c.is_held.ensures in
     let z : k + 1 ≡ 8 * c.loop-c.c + (l.i + 1) = omega arith in
@@ -92,11 +90,11 @@ loop-i-preserved c = let a = c.args in
       | then-is_held+else-not-length_fits+else-used-slot w ↦
           let e : Fit a.state k = sym w.length_fits.ensures ∙ w.if-not-length_fits.false in
           let marked = set l.used (slot_at a.state k) true in
-          let p = passed-held a.state a.memory k l.used l.invariant.2 low (told ∙ w.if-is_held.true) e w.if-used-slot.false in
-          (l.invariant.0, omega arith, rw w.used-is (subst (λ (j : ℕ). Passed a.state a.memory j marked) z p))
+          let p = passed-held a.state a.memory k l.used l.invariant low (told ∙ w.if-is_held.true) e w.if-used-slot.false in
+          rw w.used-is (subst (λ (j : ℕ). Passed a.state a.memory j marked) z p)
       | else-is_held w ↦
-          let p = passed-free a.state a.memory k l.used l.invariant.2 (told ∙ w.if-is_held.false) in
-          (l.invariant.0, omega arith, rw w.used-is (subst (λ (j : ℕ). Passed a.state a.memory j l.used) z p))
+          let p = passed-free a.state a.memory k l.used l.invariant (told ∙ w.if-is_held.false) in
+          rw w.used-is (subst (λ (j : ℕ). Passed a.state a.memory j l.used) z p)
     ]
 
 pub loop-c-preserved : goal.loop-c-preserved
@@ -104,9 +102,9 @@ loop-c-preserved c = let a = c.args in
     let l = c.loop-i in
     let k = 8 * c.loop-c.c + l.i in
     let z : k ≡ 8 * (c.loop-c.c + 1) = omega arith in
-    (omega (arith, l.invariant.0), subst (λ (j : ℕ). Passed a.state a.memory j l.used) z l.invariant.2)
+    subst (λ (j : ℕ). Passed a.state a.memory j l.used) z l.invariant
 
 pub returns : goal.returns
 returns c = let l = c.loop-c in
     let a = c.args in
-    passes a.state a.memory (8 * l.c) l.used (omega arith) l.invariant.1
+    passes a.state a.memory (8 * l.c) l.used (omega arith) l.invariant

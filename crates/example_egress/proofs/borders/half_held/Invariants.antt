@@ -1,6 +1,5 @@
 -- `half_held` is safe and ends.
 -- Invariant: the places filled are at most 64, and there are 64.
-use borrow.Author.Rules.{rules}
 use mathlib.Core.Path.{◌≡◌}
 use Prim.Native.Nat.{◌≤◌, ◌-◌}
 use lib.ListN.{length}

@@ -1,6 +1,5 @@
 -- `try_number` is safe and ends.
 -- Invariant: the places passed are at most as many as there are.
-use borrow.Author.Rules.{rules}
 use Prim.Native.Nat.{◌≤◌, ◌-◌}
 use Rattle.example_egress.proofs.borders.try_number.Given as goal
 

@@ -1,12 +1,12 @@
 -- `check_header` gives 52 or 53, or passes.
 -- Each return knows the tests before it, in the order of the definition.
+use Rattle.wire_spec.specs.Result.{Ok}
 use mathlib.Core.Path.{ap, sym, subst, ◌∙◌}
 use mathlib.Core.Bool.{true}
 use Prim.Native.Nat.{ℕ, ◌<◌, ◌≤◌}
 use native.Mathlib.Omega.{arith}
 use borrow.Author.Tests.{le-leb, lt-leb}
 use lib.ListN.{length}
-use Rattle.wire_offsets.specs.declared.stage.Stage.TheVariants as stage
 use Rattle.fieldfile_spec.specs.File.{field_header_size, file_f_ok, field_header_checks}
 use Rattle.fieldfile_spec.proofs.FrontLaws.{header-least}
 use Rattle.fieldfile_reader.proofs.HeadFields.{f-at}
@@ -40,4 +40,4 @@ returns c = let there : field_header_size c.args.version ≤ length c.args.octet
     let h1 = le-leb (field_header_size c.args.version) (length s) l in
     let f = f-at s (λ j. (c.shared_slice_known-1.given j).fits) (omega (arith, l, header-least c.args.version)) in
     let h2 = ap file_f_ok (sym f) ∙ sym c.f_ok.ensures ∙ c.if-not-f_ok.false in
-    rw (h1, h2) (ap (λ (k : ℕ). stage.Passed (record { 0 = k })) c.header_size-header.ensures)
+    rw (h1, h2) (ap (λ (k : ℕ). Ok (record { 0 = k })) c.header_size-header.ensures)

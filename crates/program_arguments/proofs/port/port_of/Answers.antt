@@ -5,24 +5,23 @@ use Rattle.program_arguments.proofs.port.port_of.Goals as goal
 
 pub returns-then-value-gt-MAX_PORT : goal.returns-then-value-gt-MAX_PORT
 returns-then-value-gt-MAX_PORT c =
-    let l = c.loop-i in
-    stops c.args.word.now l.value l.i l.invariant.left c.next_value-value.result c.loop-i-test.true c.next_value-value.ensures c.if-value-gt-MAX_PORT.true
+    let l = c.loop-digit in
+    stops c.args.word.now l.value l.digit-index l.invariant.left c.next_value-value.result c.loop-digit-test.true c.next_value-value.ensures c.if-value-gt-MAX_PORT.true
 
-pub loop-i-preserved : goal.loop-i-preserved
-loop-i-preserved c =
-    let l = c.loop-i in
+pub loop-digit-preserved : goal.loop-digit-preserved
+loop-digit-preserved c =
+    let l = c.loop-digit in
     record {
-      within = omega arith;
       small = c.if-value-gt-MAX_PORT.false;
-      left = goes_on c.args.word.now l.value l.i l.invariant.left c.next_value-value.result c.loop-i-test.true c.next_value-value.ensures c.if-value-gt-MAX_PORT.false;
+      left = goes_on c.args.word.now l.value l.digit-index l.invariant.left c.next_value-value.result c.loop-digit-test.true c.next_value-value.ensures c.if-value-gt-MAX_PORT.false;
     }
 
 pub returns-then-value-eq0 : goal.returns-then-value-eq0
 returns-then-value-eq0 c =
-    let l = c.loop-i in
-    is_none c.args.word.now l.value l.i l.invariant.left (omega arith) c.if-value-eq0.true
+    let l = c.loop-digit in
+    is_none c.args.word.now l.value l.digit-index l.invariant.left (omega arith) c.if-value-eq0.true
 
 pub returns : goal.returns
 returns c =
-    let l = c.loop-i in
-    is_number c.args.word.now l.value l.i l.invariant.left (omega arith) c.if-value-eq0.false
+    let l = c.loop-digit in
+    is_number c.args.word.now l.value l.digit-index l.invariant.left (omega arith) c.if-value-eq0.false

@@ -14,7 +14,7 @@ pub returns-then-cells-outline : goal.returns-then-cells-outline
 returns-then-cells-outline c = let a = c.args in
     let e = ap read_of (into-short a.layout a.octets.now _ c.requires (length a.cells.now) c.if-cells-outline.true) in
     let p = refused-other a.layout a.octets.now a.cells.now _ e (λ (z : 14 ≡ 11). omega arith) in
-    record { value = p.0; cells_after = sym (refused-leaves a.layout a.octets.now a.cells.now _ e) ∙ p.1 }
+    record { value = c.refuse.ensures ∙ p.0; cells_after = sym (refused-leaves a.layout a.octets.now a.cells.now _ e) ∙ p.1 }
 
 pub returns : goal.returns
 returns c = let a = c.args in

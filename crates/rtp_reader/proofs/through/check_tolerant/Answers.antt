@@ -1,17 +1,18 @@
 -- `check_tolerant` tells what a packet says of which some records may be left out, or gives the refusal of its ANC data packets or 13.
 -- By what their run is.
-use mathlib.Core.Path.{◌≡◌, ap, ap₂, sym, ◌∙◌}
+use Rattle.wire_spec.specs.Result.{Ok}
+use mathlib.Core.Path.{refl, ◌≡◌, ap, ap₂, sym, ◌∙◌}
 use mathlib.Core.List.{List}
 use Prim.Native.Nat.{ℕ, ◌+◌, ◌-◌, ◌<◌, ◌≤◌}
 use native.Mathlib.Omega.{arith}
 use Rattle.wire_spec.specs.Packet.{header_size, length_field, anc_count, run_at, payload_at}
 use Rattle.wire_spec.proofs.BitLaws.{bits_at-lt}
 use Rattle.anc_tolerant_spec.specs.Tolerant.{tolerate_run}
-use Rattle.anc_tolerant_reader.specs.Answers.{tolerant_run_of, tolerant_refusal}
+use Rattle.anc_tolerant_reader.specs.Answers.{tolerant_run_of}
 use Rattle.rtp_reader.specs.Answers.{tolerant_of}
 use Rattle.rtp_reader.specs.declared.through.Region.{Region}
-use Rattle.rtp_reader.specs.declared.packet.TolerantRead.TheVariants as read
 use Rattle.rtp_reader.proofs.RegionLaws.{run, inside, region-cut, refused-run, omitted-few, refused-left, accepted-run}
+use Rattle.std.proofs.lemmas.Result.{err_from_is_err_and}
 use Rattle.rtp_reader.proofs.through.check_tolerant.Goals as goal
 
 pub region_of-region-requires : goal.region_of-region-requires
@@ -36,36 +37,37 @@ overflow_cast-count c = let count-is : c.region_of-region.result.count ≡ anc_c
     let count_small : anc_count c.args.octets.now < 256 = bits_at-lt c.args.octets.now (payload_at c.args.octets.now + 16 + 16) 8 in
     omega (arith, count-is, count_small)
 
-pub returns-in_default : goal.returns-in_default
-returns-in_default c = let at-is : c.region_of-region.result.at ≡ run_at c.args.layout c.args.octets.now = ap (λ (x : Region). x.at) c.region_of-region.ensures in
+pub returns-in_err-run : goal.returns-in_err-run
+returns-in_err-run c = let at-is : c.region_of-region.result.at ≡ run_at c.args.layout c.args.octets.now = ap (λ (x : Region). x.at) c.region_of-region.ensures in
     let end_is : c.region_of-region.result.end ≡ run_at c.args.layout c.args.octets.now + length_field c.args.octets.now = ap (λ (x : Region). x.end) c.region_of-region.ensures in
     let count-is : c.region_of-region.result.count ≡ anc_count c.args.octets.now = ap (λ (x : Region). x.count) c.region_of-region.ensures in
-    let ran : tolerant_run_of (run c.args.layout c.args.octets.now) ≡ c.check_run-run.result = let L = c.args.layout in
+    let ran : tolerant_run_of (run c.args.layout c.args.octets.now) ≡ c.check_run.result = let L = c.args.layout in
     let s = c.args.octets.now in
     ap₂ (λ (x : ℕ) (y : List ℕ). tolerant_run_of (tolerate_run L 0 x y)) (sym (count-is)) (sym (region-cut L s _ _ (at-is) (end_is)))
-    ∙ sym c.check_run-run.ensures in
-    rw (refused-run c.args.layout c.args.octets.now c.requires _ (ran ∙ c.in_default.is)) (ap read.Refused (c.refusal.ensures ∙ ap tolerant_refusal c.in_default.is))
+    ∙ sym c.check_run.ensures in
+    let p = err_from_is_err_and c.from_residual.result c.from_residual.ensures.1 in
+    rw (p.1, p.2, refused-run c.args.layout c.args.octets.now c.requires _ (ran ∙ c.in_err-run.was)) refl
 
-pub returns-then-left-ne0 : goal.returns-then-left-ne0
-returns-then-left-ne0 c = let at-is : c.region_of-region.result.at ≡ run_at c.args.layout c.args.octets.now = ap (λ (x : Region). x.at) c.region_of-region.ensures in
+pub returns-then-run-ne0 : goal.returns-then-run-ne0
+returns-then-run-ne0 c = let at-is : c.region_of-region.result.at ≡ run_at c.args.layout c.args.octets.now = ap (λ (x : Region). x.at) c.region_of-region.ensures in
     let end_is : c.region_of-region.result.end ≡ run_at c.args.layout c.args.octets.now + length_field c.args.octets.now = ap (λ (x : Region). x.end) c.region_of-region.ensures in
     let count-is : c.region_of-region.result.count ≡ anc_count c.args.octets.now = ap (λ (x : Region). x.count) c.region_of-region.ensures in
-    let ran : tolerant_run_of (run c.args.layout c.args.octets.now) ≡ c.check_run-run.result = let L = c.args.layout in
+    let ran : tolerant_run_of (run c.args.layout c.args.octets.now) ≡ c.check_run.result = let L = c.args.layout in
     let s = c.args.octets.now in
     ap₂ (λ (x : ℕ) (y : List ℕ). tolerant_run_of (tolerate_run L 0 x y)) (sym (count-is)) (sym (region-cut L s _ _ (at-is) (end_is)))
-    ∙ sym c.check_run-run.ensures in
-    sym (ap tolerant_of (refused-left c.args.layout c.args.octets.now c.requires _ _ (ran ∙ c.in-Accepted.is) c.if-left-ne0.true))
+    ∙ sym c.check_run.ensures in
+    c.refuse.ensures ∙ sym (ap tolerant_of (refused-left c.args.layout c.args.octets.now c.requires _ _ (ran ∙ c.in_ok-run.was) c.if-run-ne0.true))
 
 pub overflow_cast-omitted : goal.overflow_cast-omitted
 overflow_cast-omitted c = let at-is : c.region_of-region.result.at ≡ run_at c.args.layout c.args.octets.now = ap (λ (x : Region). x.at) c.region_of-region.ensures in
     let end_is : c.region_of-region.result.end ≡ run_at c.args.layout c.args.octets.now + length_field c.args.octets.now = ap (λ (x : Region). x.end) c.region_of-region.ensures in
     let count-is : c.region_of-region.result.count ≡ anc_count c.args.octets.now = ap (λ (x : Region). x.count) c.region_of-region.ensures in
     let count_small : anc_count c.args.octets.now < 256 = bits_at-lt c.args.octets.now (payload_at c.args.octets.now + 16 + 16) 8 in
-    let ran : tolerant_run_of (run c.args.layout c.args.octets.now) ≡ c.check_run-run.result = let L = c.args.layout in
+    let ran : tolerant_run_of (run c.args.layout c.args.octets.now) ≡ c.check_run.result = let L = c.args.layout in
     let s = c.args.octets.now in
     ap₂ (λ (x : ℕ) (y : List ℕ). tolerant_run_of (tolerate_run L 0 x y)) (sym (count-is)) (sym (region-cut L s _ _ (at-is) (end_is)))
-    ∙ sym c.check_run-run.ensures in
-    let few : c.in-Accepted.tally.omitted ≤ anc_count c.args.octets.now = omitted-few c.args.layout c.args.octets.now c.requires _ _ (ran ∙ c.in-Accepted.is) in
+    ∙ sym c.check_run.ensures in
+    let few : c.in_ok-run.run'.tally.omitted ≤ anc_count c.args.octets.now = omitted-few c.args.layout c.args.octets.now c.requires _ _ (ran ∙ c.in_ok-run.was) in
     omega (arith, few, count_small)
 
 pub head_at-head-requires : goal.head_at-head-requires
@@ -76,21 +78,21 @@ pub overflow_sub-summary : goal.overflow_sub-summary
 overflow_sub-summary c = let at-is : c.region_of-region.result.at ≡ run_at c.args.layout c.args.octets.now = ap (λ (x : Region). x.at) c.region_of-region.ensures in
     let end_is : c.region_of-region.result.end ≡ run_at c.args.layout c.args.octets.now + length_field c.args.octets.now = ap (λ (x : Region). x.end) c.region_of-region.ensures in
     let count-is : c.region_of-region.result.count ≡ anc_count c.args.octets.now = ap (λ (x : Region). x.count) c.region_of-region.ensures in
-    let ran : tolerant_run_of (run c.args.layout c.args.octets.now) ≡ c.check_run-run.result = let L = c.args.layout in
+    let ran : tolerant_run_of (run c.args.layout c.args.octets.now) ≡ c.check_run.result = let L = c.args.layout in
     let s = c.args.octets.now in
     ap₂ (λ (x : ℕ) (y : List ℕ). tolerant_run_of (tolerate_run L 0 x y)) (sym (count-is)) (sym (region-cut L s _ _ (at-is) (end_is)))
-    ∙ sym c.check_run-run.ensures in
-    let few : c.in-Accepted.tally.omitted ≤ anc_count c.args.octets.now = omitted-few c.args.layout c.args.octets.now c.requires _ _ (ran ∙ c.in-Accepted.is) in
+    ∙ sym c.check_run.ensures in
+    let few : c.in_ok-run.run'.tally.omitted ≤ anc_count c.args.octets.now = omitted-few c.args.layout c.args.octets.now c.requires _ _ (ran ∙ c.in_ok-run.was) in
     omega (arith, few, count-is)
 
 pub returns : goal.returns
 returns c = let at-is : c.region_of-region.result.at ≡ run_at c.args.layout c.args.octets.now = ap (λ (x : Region). x.at) c.region_of-region.ensures in
     let end_is : c.region_of-region.result.end ≡ run_at c.args.layout c.args.octets.now + length_field c.args.octets.now = ap (λ (x : Region). x.end) c.region_of-region.ensures in
     let count-is : c.region_of-region.result.count ≡ anc_count c.args.octets.now = ap (λ (x : Region). x.count) c.region_of-region.ensures in
-    let ran : tolerant_run_of (run c.args.layout c.args.octets.now) ≡ c.check_run-run.result = let L = c.args.layout in
+    let ran : tolerant_run_of (run c.args.layout c.args.octets.now) ≡ c.check_run.result = let L = c.args.layout in
     let s = c.args.octets.now in
     ap₂ (λ (x : ℕ) (y : List ℕ). tolerant_run_of (tolerate_run L 0 x y)) (sym (count-is)) (sym (region-cut L s _ _ (at-is) (end_is)))
-    ∙ sym c.check_run-run.ensures in
-    let t = c.in-Accepted.tally in
-    (λ i. read.Packet (record { head = c.head_at-head.ensures i; records = count-is i - t.omitted; cells = t.cells }) t.omitted)
-    ∙ sym (accepted-run c.args.layout c.args.octets.now c.requires _ _ (ran ∙ c.in-Accepted.is) c.if-left-ne0.false)
+    ∙ sym c.check_run.ensures in
+    let t = c.in_ok-run.run'.tally in
+    (λ i. Ok (record { summary = record { head = c.head_at-head.ensures i; records = count-is i - t.omitted; cells = t.cells }; omitted = t.omitted }))
+    ∙ sym (accepted-run c.args.layout c.args.octets.now c.requires _ _ (ran ∙ c.in_ok-run.was) c.if-run-ne0.false)

@@ -11,25 +11,26 @@ use Rattle.wire_spec.specs.Packet.{length_field, anc_count, run_at, payload_at}
 use Rattle.wire_spec.proofs.BitLaws.{bits_at-lt}
 use Rattle.anc_tolerant_spec.specs.Tolerant.{Taken, Tolerated, tolerate_run}
 use Rattle.anc_tolerant_reader.specs.Answers.{taken_cells}
-use Rattle.rtp_reader.specs.Answers.{tolerant_of, tolerant_refusal, through_after}
+use Rattle.rtp_reader.specs.Answers.{tolerant_of, through_after}
 use Rattle.rtp_reader.specs.declared.through.Region.{Region}
-use Rattle.rtp_reader.specs.declared.packet.TolerantRead.TheVariants as read
 use Rattle.rtp_reader.proofs.RegionLaws.{run, inside, region-cut, Outlined, outlined}
 use Rattle.rtp_reader.proofs.ReadLaws.{into-refused, into-short, into-fits}
+use Rattle.std.proofs.lemmas.Result.{err_from_is_err_and}
 use Rattle.rtp_reader.proofs.through.read_through.Goals as goal
 
-pub check_tolerant-checked-requires : goal.check_tolerant-checked-requires
-check_tolerant-checked-requires c = c.requires
+pub check_tolerant-requires : goal.check_tolerant-requires
+check_tolerant-requires c = c.requires
 
-pub returns-in_default : goal.returns-in_default
-returns-in_default c = let a = c.args in
-    let e = into-refused a.layout a.octets.now (length a.cells.now) _ (sym c.check_tolerant-checked.ensures ∙ c.in_default.is) in
-    record { value = ap read.Refused (c.refusal.ensures ∙ ap tolerant_refusal c.in_default.is) ∙ ap tolerant_of (sym e); cells_after = ap (λ (r : Result Tolerated). through_after r a.cells.now) (sym e) }
+pub returns-in_err-read : goal.returns-in_err-read
+returns-in_err-read c = let a = c.args in
+    let e = into-refused a.layout a.octets.now (length a.cells.now) _ (sym c.check_tolerant.ensures ∙ c.in_err-read.was) in
+    let p = err_from_is_err_and c.from_residual.result c.from_residual.ensures.1 in
+    record { value = rw (p.1, p.2) (ap tolerant_of (sym e)); cells_after = ap (λ (r : Result Tolerated). through_after r a.cells.now) (sym e) }
 
-pub returns-then-cells-summary : goal.returns-then-cells-summary
-returns-then-cells-summary c = let a = c.args in
-    let e = into-short a.layout a.octets.now (length a.cells.now) _ _ (sym c.check_tolerant-checked.ensures ∙ c.in-Packet.is) c.if-cells-summary.true in
-    record { value = ap tolerant_of (sym e); cells_after = ap (λ (r : Result Tolerated). through_after r a.cells.now) (sym e) }
+pub returns-then-cells-read : goal.returns-then-cells-read
+returns-then-cells-read c = let a = c.args in
+    let e = into-short a.layout a.octets.now (length a.cells.now) _ _ (sym c.check_tolerant.ensures ∙ c.in_ok-read.was) c.if-cells-read.true in
+    record { value = c.refuse.ensures ∙ ap tolerant_of (sym e); cells_after = ap (λ (r : Result Tolerated). through_after r a.cells.now) (sym e) }
 
 pub region_of-region-requires : goal.region_of-region-requires
 region_of-region-requires c = c.requires
@@ -57,18 +58,18 @@ read_run-requires c = let at-is : c.region_of-region.result.at ≡ run_at c.args
     let end_is : c.region_of-region.result.end ≡ run_at c.args.layout c.args.octets.now + length_field c.args.octets.now = ap (λ (x : Region). x.end) c.region_of-region.ensures in
     let count-is : c.region_of-region.result.count ≡ anc_count c.args.octets.now = ap (λ (x : Region). x.count) c.region_of-region.ensures in
     let same : tolerate_run c.args.layout 0 c.region_of-region.result.count (take (c.region_of-region.result.end - c.region_of-region.result.at) (drop c.region_of-region.result.at c.args.octets.now)) ≡ run c.args.layout c.args.octets.now = ap₂ (λ (x : ℕ) (y : List ℕ). tolerate_run c.args.layout 0 x y) (count-is) (region-cut c.args.layout c.args.octets.now _ _ (at-is) (end_is)) in
-    let found : Outlined c.args.layout c.args.octets.now c.requires c.in-Packet.summary c.in-Packet.omitted (sym c.check_tolerant-checked.ensures ∙ c.in-Packet.is) = outlined c.args.layout c.args.octets.now c.requires _ _ (sym c.check_tolerant-checked.ensures ∙ c.in-Packet.is) in
-    record { accepted = subst IsAccepted (sym (same)) (found).accepts; octets_in_bounds = omega (arith, ap (λ (r : Result Taken). length (taken_cells r)) (same), (found).size, c.if-cells-summary.false) }
+    let found : Outlined c.args.layout c.args.octets.now c.requires c.in_ok-read.read.summary c.in_ok-read.read.omitted (sym c.check_tolerant.ensures ∙ c.in_ok-read.was) = outlined c.args.layout c.args.octets.now c.requires _ _ (sym c.check_tolerant.ensures ∙ c.in_ok-read.was) in
+    record { accepted = subst IsAccepted (sym (same)) (found).accepts; octets_in_bounds = omega (arith, ap (λ (r : Result Taken). length (taken_cells r)) (same), (found).size, c.if-cells-read.false) }
 
 pub returns : goal.returns
 returns c = let at-is : c.region_of-region.result.at ≡ run_at c.args.layout c.args.octets.now = ap (λ (x : Region). x.at) c.region_of-region.ensures in
     let end_is : c.region_of-region.result.end ≡ run_at c.args.layout c.args.octets.now + length_field c.args.octets.now = ap (λ (x : Region). x.end) c.region_of-region.ensures in
     let count-is : c.region_of-region.result.count ≡ anc_count c.args.octets.now = ap (λ (x : Region). x.count) c.region_of-region.ensures in
     let same : tolerate_run c.args.layout 0 c.region_of-region.result.count (take (c.region_of-region.result.end - c.region_of-region.result.at) (drop c.region_of-region.result.at c.args.octets.now)) ≡ run c.args.layout c.args.octets.now = ap₂ (λ (x : ℕ) (y : List ℕ). tolerate_run c.args.layout 0 x y) (count-is) (region-cut c.args.layout c.args.octets.now _ _ (at-is) (end_is)) in
-    let found : Outlined c.args.layout c.args.octets.now c.requires c.in-Packet.summary c.in-Packet.omitted (sym c.check_tolerant-checked.ensures ∙ c.in-Packet.is) = outlined c.args.layout c.args.octets.now c.requires _ _ (sym c.check_tolerant-checked.ensures ∙ c.in-Packet.is) in
+    let found : Outlined c.args.layout c.args.octets.now c.requires c.in_ok-read.read.summary c.in_ok-read.read.omitted (sym c.check_tolerant.ensures ∙ c.in_ok-read.was) = outlined c.args.layout c.args.octets.now c.requires _ _ (sym c.check_tolerant.ensures ∙ c.in_ok-read.was) in
     let a = c.args in
-    let h = sym c.check_tolerant-checked.ensures ∙ c.in-Packet.is in
-    let e = into-fits a.layout a.octets.now (length a.cells.now) _ _ h c.if-cells-summary.false in record {
+    let h = sym c.check_tolerant.ensures ∙ c.in_ok-read.was in
+    let e = into-fits a.layout a.octets.now (length a.cells.now) _ _ h c.if-cells-read.false in record {
       value = sym h ∙ ap tolerant_of (sym e);
       cells_after = c.read_run.ensures
           ∙ ap (λ (r : Result Taken). overwrite (taken_cells r) a.cells.now) (same)

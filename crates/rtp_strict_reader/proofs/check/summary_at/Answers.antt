@@ -1,10 +1,10 @@
 -- `summary_at` tells what a packet says that was checked, with its counts.
 -- By what the check found: the six values stand where the header's size says.
+use Rattle.wire_spec.specs.Result.{Ok}
 use mathlib.Core.Path.{ap, sym, ◌∙◌}
 use native.Mathlib.Omega.{arith}
 use Rattle.wire_spec.proofs.Window.{below_all}
 use Rattle.rtp_strict_reader.specs.declared.packet.Head.{Head}
-use Rattle.rtp_strict_reader.specs.declared.packet.Read.TheVariants as read
 use Rattle.rtp_strict_reader.proofs.ReadLaws.{Outlined, outlined, says_there}
 use Rattle.rtp_strict_reader.proofs.check.summary_at.Goals as goal
 
@@ -19,4 +19,4 @@ overflow_cast-result c = let found : Outlined c.args.layout c.args.octets.now c.
 pub returns : goal.returns
 returns c = let a = c.args in
     says_there a.layout a.octets.now a.outline c.requires
-    ∙ ap (λ (x : Head). read.Packet (record { head = x; records = a.outline.records; cells = a.outline.cells })) (sym c.head_at.ensures)
+    ∙ ap (λ (x : Head). Ok (record { head = x; records = a.outline.records; cells = a.outline.cells })) (sym c.head_at.ensures)

@@ -1,5 +1,6 @@
 -- `check_header` gives 1, 2, 3 or 2, or the header's octets.
 -- Each return knows the tests before it, in the order of the definition.
+use Rattle.wire_spec.specs.Result.{Ok}
 use mathlib.Core.Path.{◌≡◌, ap, sym, subst, ◌∙◌}
 use Prim.Native.Nat.{ℕ, ◌/◌, ◌≤◌}
 use borrow.Author.Tests.{le-leb, lt-leb, eq-eqb, ne_eqb}
@@ -7,7 +8,6 @@ use lib.Dec.{eqb}
 use lib.ListN.{length}
 use Rattle.wire_spec.specs.Bits.{bits_at}
 use Rattle.wire_spec.specs.Packet.{max_packet, header_least, header_size, header_checks}
-use Rattle.wire_offsets.specs.declared.stage.Stage.TheVariants as stage
 use Rattle.rtp_strict_reader.proofs.HeaderFields.{version-at, size-over, size-within}
 use Rattle.rtp_strict_reader.proofs.stages.check_header.Goals as goal
 
@@ -52,4 +52,4 @@ returns c = let s = c.args.octets.now in
     let h3 = ap (λ (x : ℕ). eqb x 2) v ∙ eq-eqb _ 2 c.if-wide-ne2.false in
     let z = size-within s c.header_size-size.result.0 c.header_size-size.ensures c.if-octets-size.false in
     let h4 = le-leb (header_size s) (length s) (subst (λ (x : ℕ). x ≤ length s) z c.if-octets-size.false) in
-    rw (h1, h2, h3, h4) (ap (λ (x : ℕ). stage.Passed (record { 0 = x })) z)
+    rw (h1, h2, h3, h4) (ap (λ (x : ℕ). Ok (record { 0 = x })) z)

@@ -1,5 +1,6 @@
 -- `check_padding` gives 4 or 5, or the payload's octets.
 -- Each return knows the tests before it, in the order of the definition.
+use Rattle.wire_spec.specs.Result.{Ok}
 use mathlib.Core.Path.{◌≡◌, ap₂, subst₂, subst₃}
 use mathlib.Core.Bool.{true, false}
 use Prim.Native.Nat.{ℕ, ◌-◌, ◌<◌, ◌≤◌}
@@ -8,7 +9,6 @@ use lib.Dec.{leb}
 use lib.ListN.{length}
 use Rattle.wire_spec.specs.Layout.{payload_header_size}
 use Rattle.wire_spec.specs.Packet.{header_size, padding_flag, padding_count, payload_size, padding_checks}
-use Rattle.wire_offsets.specs.declared.stage.Stage.TheVariants as stage
 use Rattle.rtp_strict_reader.proofs.stages.check_padding.Goals as goal
 
 pub returns-then-padding-padding_flag : goal.returns-then-padding-padding_flag
@@ -50,4 +50,4 @@ returns c = let a = c.args in
     let h1 : leb (padding_flag s) (padding_count s) ≡ true = le-leb _ _ (subst₂ ◌≤◌ flag n c.if-padding-padding_flag.false) in
     let h2 : leb (padding_count s) (length s - header_size s) ≡ true = le-leb _ _ (subst₂ (λ (x y : ℕ). y ≤ length s - x) c.requires.0 n c.if-after-padding.false) in
     let h3 : leb (payload_header_size c.args.layout) (payload_size s) ≡ true = le-leb _ _ (subst₃ (λ (x y z : ℕ). z ≤ length s - x - y) c.requires.0 n c.payload_header_size.ensures c.if-after-padding-2.false) in
-    rw (h1, h2, h3) (ap₂ (λ (x y : ℕ). stage.Passed (record { 0 = length s - x - y })) c.requires.0 n)
+    rw (h1, h2, h3) (ap₂ (λ (x y : ℕ). Ok (record { 0 = length s - x - y })) c.requires.0 n)

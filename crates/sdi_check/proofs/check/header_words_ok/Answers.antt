@@ -5,21 +5,21 @@ use Rattle.sdi_spec.proofs.CodeLaws.{headers-test, passed, failed}
 use mathlib.Core.Path.{ap}
 use Rattle.sdi_check.proofs.check.header_words_ok.Goals as goal
 
-pub returns-then-not-is_header_word : goal.returns-then-not-is_header_word
-returns-then-not-is_header_word c = rw (headers-test c.args.words.now c.requires.1, failed _ _ c.is_header_word.ensures (ap not c.if-not-is_header_word.true))
+pub returns-then-not-has : goal.returns-then-not-has
+returns-then-not-has c = rw (headers-test c.args.words.now c.requires, failed _ _ c.has.ensures (ap not c.if-not-has.true))
 
-pub returns-then-not-is_header_word-2 : goal.returns-then-not-is_header_word-2
-returns-then-not-is_header_word-2 c = rw (
-  headers-test c.args.words.now c.requires.1,
-  passed _ _ c.is_header_word.ensures (ap not c.if-not-is_header_word.false),
-  failed _ _ c.is_header_word-2.ensures (ap not c.if-not-is_header_word-2.true),
+pub returns-then-not-has-2 : goal.returns-then-not-has-2
+returns-then-not-has-2 c = rw (
+  headers-test c.args.words.now c.requires,
+  passed _ _ c.has.ensures (ap not c.if-not-has.false),
+  failed _ _ c.has-2.ensures (ap not c.if-not-has-2.true),
 )
 
 pub returns : goal.returns
 returns c = rw (
-  headers-test c.args.words.now c.requires.1,
-  passed _ _ c.is_header_word.ensures (ap not c.if-not-is_header_word.false),
-  passed _ _ c.is_header_word-2.ensures (ap not c.if-not-is_header_word-2.false),
-  c.is_header_word-3.ensures,
+  headers-test c.args.words.now c.requires,
+  passed _ _ c.has.ensures (ap not c.if-not-has.false),
+  passed _ _ c.has-2.ensures (ap not c.if-not-has-2.false),
+  c.has-3.ensures,
   and-true _,
 )

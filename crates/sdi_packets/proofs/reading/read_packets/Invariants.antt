@@ -1,7 +1,6 @@
 -- `read_packets` writes the records of the packets to the first cells, and no other cell.
 -- Invariant: the records that are left, written behind those that are, make all of them written.
 use mathlib.Core.Path.{◌≡◌}
-use Prim.Native.Nat.{◌-◌}
 use lib.ListN.{length}
 use Rattle.wire_spec.specs.Bits.{overwrite}
 use Rattle.sdi_spec.specs.Packets.{packets_in}

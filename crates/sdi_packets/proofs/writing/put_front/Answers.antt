@@ -22,5 +22,5 @@ pub bounds-words-5 : goal.bounds-words-5
 bounds-words-5 c = simp length-set (omega arith)
 
 pub returns : goal.returns
-returns c = rw (c.requires.0.entry c.args.did c.requires.1, c.requires.0.entry c.args.sdid c.requires.2, c.requires.0.entry c.args.n c.requires.3)
+returns c = rw (c.of.ensures, c.of-2.ensures, c.of-3.ensures)
     (sets-eq (front_of c.args.did c.args.sdid c.args.n) c.args.words.now 0 (omega (arith, c.requires)))

@@ -30,7 +30,7 @@ pub write_packet-n-requires : goal.write_packet-n-requires
 write_packet-n-requires c = let here : let a = c.args in let l = c.loop-rest in WriteNext (overwrite (list_stretch (read_list a.cells.now)) a.words.now) l.words l.rest.now l.to = let l = c.loop-rest in write-next _ l.words l.rest.now l.to l.invariant.1 c.loop-rest-test.true in
     let n = here in
     let l = c.loop-rest in
-    record { header_table = (c.header_words-table.ensures, n.formed); cells_in_bounds = (n.inside, rw (part-all l.to l.words, length-drop l.to l.words) (omega (arith, n.room))) }
+    record { well_formed = n.formed; cells_in_bounds = (n.inside, rw (part-all l.to l.words, length-drop l.to l.words) (omega (arith, n.room))) }
 
 pub overflow_add-step : goal.overflow_add-step
 overflow_add-step c = let here : let a = c.args in let l = c.loop-rest in WriteNext (overwrite (list_stretch (read_list a.cells.now)) a.words.now) l.words l.rest.now l.to = let l = c.loop-rest in write-next _ l.words l.rest.now l.to l.invariant.1 c.loop-rest-test.true in

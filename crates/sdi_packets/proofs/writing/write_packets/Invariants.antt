@@ -1,10 +1,9 @@
 -- `write_packets` writes the packets of all records of the list to the first words, and no other word.
 -- Invariant: the packets that are left, written behind those that are, make all of them written.
 use mathlib.Core.Path.{◌≡◌}
-use Prim.Native.Nat.{◌-◌}
 use lib.ListN.{length}
 use Rattle.wire_spec.specs.Bits.{overwrite}
-use Rattle.wire_spec.specs.Cells.{rest, read_list}
+use Rattle.wire_spec.specs.Cells.{read_list}
 use Rattle.sdi_spec.specs.Passes.{list_stretch}
 use Rattle.sdi_spec.proofs.WalkLaws.{ToWrite}
 use Rattle.sdi_packets.proofs.writing.write_packets.Given as goal

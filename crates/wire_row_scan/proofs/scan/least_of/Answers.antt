@@ -1,21 +1,19 @@
-use Rattle.std.proofs.Common.{◌≡◌, ◌-◌, leb, length, get_or, refl, ◌∙◌, add-one, arith, drop-cons}
+use Rattle.std.proofs.Common.{◌≡◌, ◌∙◌, ℕ, ◌&&◌, Bool, leb, List, [], ◌∷◌, min, sym, ap, rules, tests}
 use mathlib.Core.Bool.{and_assoc, and-true}
-use lib.Seq.{drop-length}
+use Rattle.std.proofs.lemmas.Iterator.{YieldsList-from_slice}
+use Rattle.std.proofs.lemmas.Iterator.Consumers.{fold_from_yields_List}
+use Rattle.std.specs.List.{fold}
+use Rattle.wire_row_scan.specs.Clear.{all_high}
+use Rattle.wire_row_scan.proofs.ClearLaws.{high-min}
 use Rattle.wire_row_scan.proofs.scan.least_of.Goals as goal
 
-pub loop-j-init : goal.loop-j-init
-loop-j-init c = (omega arith, refl)
-
-pub loop-j-preserved : goal.loop-j-preserved
-loop-j-preserved c = let l = c.loop-j in
-    let w = c.args.lows.now in (
-      omega arith,
-      rw (c.lesser-low.ensures, add-one l.j)
-          (and_assoc (leb 8 l.low) (leb 8 (get_or w l.j 0)) _ ∙ (rw (drop-cons w l.j 0 (omega arith)) at l.invariant.1)),
-    )
+fold_high : (a : ℕ) (xs : List ℕ) → leb 8 (fold min a xs) ≡ leb 8 a && all_high xs
+fold_high a [] = sym (and-true (leb 8 a))
+fold_high a (x ∷ xs) = fold_high (min a x) xs ∙ ap (λ (t : Bool). t && all_high xs) (high-min a x) ∙ and_assoc (leb 8 a) (leb 8 x) (all_high xs)
 
 pub returns : goal.returns
-returns c = let l = c.loop-j in
+returns c =
     let w = c.args.lows.now in
-    let e : l.j ≡ length w = omega arith in
-    rw (e, drop-length w, and-true (leb 8 l.low)) at l.invariant.1
+    let least : c.fold.result ≡ fold min 1023 w =
+    fold_from_yields_List _ min 1023 _ c.fold.ensures.ran (YieldsList-from_slice w cc) (λ a x b q k. search (rules, tests)) in
+    ap (leb 8) least ∙ fold_high 1023 w

@@ -1,11 +1,10 @@
-use Rattle.std.proofs.Common.{◌≡◌, ℕ, ◌+◌, ◌-◌, ◌*◌, ◌%◌, length, sym, refl, ap, ◌∙◌, subst, add-zero, mul-zero, zero-add, arith}
+use Rattle.std.proofs.Common.{sum, ◌≡◌, ℕ, ◌+◌, ◌-◌, ◌*◌, ◌%◌, length, sym, refl, ap, ◌∙◌, subst, add-zero, mul-zero, zero-add, arith}
 use mathlib.Core.Bool.{and_assoc, and-true}
 use native.Mathlib.Nat.{sub-zero}
 use Rattle.wire_spec.specs.Bits.{Below, row_at}
 use Rattle.wire_spec.specs.Words.{word_bits}
 use Rattle.wire_spec.proofs.BitLaws.{length-row_at}
 use Rattle.wire_row_scan.specs.Clear.{all_high}
-use Rattle.wire_row_scan.specs.Total.{total}
 use Rattle.wire_row_scan.proofs.ClearLaws.{clear-rows, row_below}
 use Rattle.wire_row_scan.proofs.SumLaws.{sum_rows}
 use Rattle.wire_row_scan.proofs.scan.tally_eights.Goals as goal
@@ -56,7 +55,7 @@ loop-k-preserved c = let a = c.args in
       c.add_lanes.auto.sums ∙ l.invariant.1,
       c.test_lanes.auto.lows ∙ l.invariant.2,
       rw (c.step-one.ensures, b)
-          (more (total l.sums) _ _ _ _ (rw c.eight_at-words.ensures at c.add_lanes.ensures) (rw (n, sum_rows s p 8 (8 * (a.eights - (l.k + 1)))) at l.invariant.3)),
+          (more (sum l.sums) _ _ _ _ (rw c.eight_at-words.ensures at c.add_lanes.ensures) (rw (n, sum_rows s p 8 (8 * (a.eights - (l.k + 1)))) at l.invariant.3)),
       rw (c.step-one.ensures, b, c.test_lanes.ensures, c.eight_at-words.ensures)
           (and_assoc (all_high l.lows) _ _ ∙ (rw (n, clear-rows s p 8 (8 * (a.eights - (l.k + 1)))) at l.invariant.4)),
     )
@@ -73,6 +72,6 @@ returns c = let l = c.loop-k in
     let a = c.args in
     let e : 8 * (a.eights - l.k) ≡ 0 = omega arith in
     record {
-      sum_is = rw c.total_of.ensures (low (total l.sums) ∙ (rw (e, add-zero (total l.sums)) at l.invariant.3));
+      sum_is = rw c.total_of.ensures (low (sum l.sums) ∙ (rw (e, add-zero (sum l.sums)) at l.invariant.3));
       clear-is = c.least_of.ensures ∙ (rw (e, and-true (all_high l.lows)) at l.invariant.4);
     }

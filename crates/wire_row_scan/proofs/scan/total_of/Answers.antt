@@ -1,25 +1,16 @@
-use Rattle.std.proofs.Common.{◌≡◌, ℕ, ◌+◌, ◌-◌, ◌%◌, length, get_or, zero-add, add-one, arith, drop-cons}
-use lib.Seq.{drop-length}
-use Rattle.wire_row_scan.specs.Total.{total}
+use Rattle.std.proofs.Common.{sum, ◌≡◌, ℕ, ◌+◌, ◌%◌, ◌^◌, ◌<◌, List, [], ◌∷◌, ◌∙◌, zero-add, rules, tests, arith}
+use Rattle.std.proofs.lemmas.Iterator.{YieldsList-from_slice}
+use Rattle.std.proofs.lemmas.Iterator.Consumers.{fold_from_yields_List}
+use Rattle.std.specs.List.{fold}
+use Rattle.std.proofs.lemmas.List.Sums.{sum_by-cons}
 use Rattle.wire_row_scan.proofs.scan.total_of.Goals as goal
 
--- one number more
-step : (s w r t : ℕ) → (s + (w + r)) % 65536 ≡ t → ((s + w) % 65536 + r) % 65536 ≡ t
-step s w r t h = omega arith
-
-pub loop-j-init : goal.loop-j-init
-loop-j-init c = (omega arith, omega arith, rw (zero-add (total c.args.sums.now)))
-
-pub loop-j-preserved : goal.loop-j-preserved
-loop-j-preserved c = let l = c.loop-j in
-    let w = c.args.sums.now in (
-      omega arith,
-      omega (arith, c.wrapping_add_u16-sum.ensures.value),
-      rw (c.wrapping_add_u16-sum.ensures.value, add-one l.j) (step l.sum (get_or w l.j 0) _ _ (rw (drop-cons w l.j 0 (omega arith)) at l.invariant.2)),
-    )
+fold_total : (a : ℕ) (xs : List ℕ) → a < 2 ^ 16 → fold (λ s x. (s + x) % 2 ^ 16) a xs ≡ (a + sum xs) % 2 ^ 16
+fold_total a [] h = omega arith
+fold_total a (x ∷ xs) h = omega (arith, sum_by-cons (λ x. x) x xs, fold_total ((a + x) % 2 ^ 16) xs (omega arith))
 
 pub returns : goal.returns
-returns c = let l = c.loop-j in
+returns c =
     let w = c.args.sums.now in
-    let e : l.j ≡ length w = omega arith in
-    omega (arith, rw (e, drop-length w) at l.invariant.2)
+    fold_from_yields_List _ (λ s x. (s + x) % 2 ^ 16) 0 _ c.fold.ensures.ran (YieldsList-from_slice w cc) (λ a x b q k. search (rules, tests))
+    ∙ (rw (zero-add (sum w)) at (fold_total 0 w (omega arith)))

@@ -1,4 +1,4 @@
-use Rattle.std.proofs.Common.{◌≡◌, ℕ, ◌+◌, ◌-◌, ◌*◌, take, drop, refl, ap, ◌∙◌, arith}
+use Rattle.std.proofs.Common.{◌≡◌, ℕ, ◌+◌, ◌*◌, take, drop, refl, ap, ◌∙◌, arith}
 use Rattle.wire_spec.specs.Bits.{bits, field_bits, row, splice}
 use Rattle.wire_spec.specs.Words.{word_bits}
 use Rattle.wire_spec.proofs.BitLaws.{length-bits}

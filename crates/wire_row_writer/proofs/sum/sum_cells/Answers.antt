@@ -1,4 +1,4 @@
-use Rattle.std.proofs.Common.{◌≡◌, ℕ, ◌+◌, ◌-◌, ◌%◌, length, get_or, zero-add, add-one, arith, drop-cons}
+use Rattle.std.proofs.Common.{◌≡◌, ℕ, ◌+◌, ◌%◌, length, get_or, zero-add, add-one, arith, drop-cons}
 use lib.Seq.{drop-length}
 use Rattle.wire_spec.specs.Words.{sum_low}
 use Rattle.wire_row_writer.proofs.sum.sum_cells.Goals as goal
@@ -7,16 +7,15 @@ use Rattle.wire_row_writer.proofs.sum.sum_cells.Goals as goal
 step : (s w r t : ℕ) → (s + (w % 512 + r)) % 512 ≡ t → ((s + w) % 65536 + r) % 512 ≡ t
 step s w r t h = omega arith
 
-pub loop-k-init : goal.loop-k-init
-loop-k-init c = (omega arith, rw (zero-add (sum_low c.args.words.now)))
+pub loop-w-init : goal.loop-w-init
+loop-w-init c = rw (zero-add (sum_low c.args.words.now))
 
-pub loop-k-preserved : goal.loop-k-preserved
-loop-k-preserved c = let a = c.args in
-    let l = c.loop-k in
-    let w = a.words.now in
-    (omega arith, rw (c.wrapping_add_u16-sum.ensures.value, add-one l.k) (step l.sum (get_or w l.k 0) _ _ (rw (drop-cons w l.k 0 (omega arith)) at l.invariant.1)))
+pub loop-w-preserved : goal.loop-w-preserved
+loop-w-preserved c = let l = c.loop-w in
+    let w = c.args.words.now in
+    rw (add-one l.w-index) (step l.sum (get_or w l.w-index 0) _ _ (rw (drop-cons w l.w-index 0 (omega arith)) at l.invariant))
 
 pub returns : goal.returns
 returns c = let w = c.args.words.now in
-    let e : c.loop-k.k ≡ length w = omega arith in
-    omega (arith, rw (e, drop-length w) at c.loop-k.invariant.1)
+    let e : c.loop-w.w-index ≡ length w = omega arith in
+    omega (arith, rw (e, drop-length w) at c.loop-w.invariant)

@@ -1,11 +1,8 @@
 -- `sum_cells` is the sum of the low nine bits of the words, modulo 512.
 -- Invariant: what was summed, and the sum of what is left, make the whole sum, modulo 512.
-use Rattle.std.proofs.Common.{◌≡◌, ◌+◌, ◌-◌, ◌%◌, ◌≤◌, length, drop}
+use Rattle.std.proofs.Common.{◌≡◌, ◌+◌, ◌%◌, drop}
 use Rattle.wire_spec.specs.Words.{sum_low}
 use Rattle.wire_row_writer.proofs.sum.sum_cells.Given as goal
 
-abbrev pub invariant-loop-k : goal.invariant-loop-k
-invariant-loop-k l = (l.k ≤ length l.words) × ((l.sum + sum_low (drop l.k l.words)) % 512 ≡ sum_low l.words % 512)
-
-abbrev pub decreases-loop-k : goal.decreases-loop-k
-decreases-loop-k l = length l.words - l.k
+abbrev pub invariant-loop-w : goal.invariant-loop-w
+invariant-loop-w l = (l.sum + sum_low (drop l.w-index l.words)) % 512 ≡ sum_low l.words % 512

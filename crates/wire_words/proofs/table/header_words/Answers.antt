@@ -5,6 +5,6 @@ use Rattle.wire_spec.specs.Words.{header_word}
 use Rattle.wire_words.proofs.TableRule.{table-rule}
 use Rattle.wire_words.proofs.table.header_words.Goals as goal
 
-pub returns : goal.returns
+pub invariant_of-result : goal.invariant_of-result
 unfolding header_word
-returns c = table-rule _ refl refl
+invariant_of-result c = record { rule = table-rule _ refl refl }

@@ -2,7 +2,7 @@
 -- By what was found of the packet, stage by stage.
 use Rattle.std.proofs.Common.{◌≡◌, ℕ, ◌+◌, ◌-◌, ◌≤◌, Bool, true, false, cond, List, length, take, drop, sym, refl, ap, ◌∙◌, arith, length-drop, length-take}
 use Rattle.wire_spec.specs.Bits.{splice}
-use Rattle.wire_spec.specs.Result.{Result, accepted}
+use Rattle.wire_spec.specs.Result.{Result, Ok}
 use Rattle.wire_spec.specs.Cells.{list_in, list_of}
 use Rattle.wire_spec.specs.Packet.{Content, read_content}
 use Rattle.wire_spec.proofs.CellLaws.{length-in}
@@ -10,8 +10,6 @@ use Rattle.wire_spec.proofs.ListLaws.{part-written, length-splice}
 use Rattle.rtp_strict_reader.specs.Answers.{checked_of, cells_after_in, read_of, summary_of}
 use Rattle.rtp_strict_reader.specs.declared.packet.Outline.{Outline}
 use Rattle.rtp_strict_reader.specs.declared.packet.Summary.{Summary}
-use Rattle.rtp_strict_reader.specs.declared.packet.Checked.TheVariants as checked
-use Rattle.rtp_strict_reader.specs.declared.packet.Read.TheVariants as read
 use Rattle.rtp_strict_reader.proofs.ReadLaws.{Found, found, summary-is}
 use Rattle.depacketizer_spec.specs.declared.state.State.{State}
 use Rattle.depacketizer_sequence.specs.declared.place.Freshness.{Freshness}
@@ -30,14 +28,14 @@ kept : (b : Bool) (l : List ℕ) (at : ℕ) (x : List ℕ) → (b ≡ true → a
 kept true l at x h = length-splice l at x (h refl)
 kept false l at x h = refl
 
-pub returns-in_default : goal.returns-in_default
-returns-in_default c = let let-pass : let a = c.args in c.admit-admitted.result ≡ inspected_of a.layout a.octets.now (admission a.self.state a.layout (length a.store.now) a.octets.now) = let a = c.args in
-    c.admit-admitted.ensures
+pub returns-in-Err : goal.returns-in-Err
+returns-in-Err c = let let-pass : let a = c.args in c.admit.result ≡ inspected_of a.layout a.octets.now (admission a.self.state a.layout (length a.store.now) a.octets.now) = let a = c.args in
+    c.admit.ensures
     ∙ ap (admitted a.self.state (length a.store.now)) c.requires
     ∙ admits a.self.state a.layout (length a.store.now) a.octets.now in
     let a = c.args in
-    let e = refused-step a.self.state a.layout a.octets.now a.store.now _ (sym (let-pass) ∙ c.in_default.is) in
-    rw (c.refusal.ensures, c.in_default.is) (record { value = ap arrival_of (sym e); store_after = ap (λ (x : Step). x.store) (sym e) })
+    let e = refused-step a.self.state a.layout a.octets.now a.store.now _ (sym (let-pass) ∙ c.in-Err.is) in
+    (record { value = ap arrival_of (sym e); store_after = ap (λ (x : Step). x.store) (sym e) })
 
 -- one that is not fresh
 unfresh : (f : Freshness) → ((m : ℕ) (n : Bool) (x : State) → f ≡ freshness.Fresh m n x → ⊥) → is_fresh f ≡ false
@@ -45,23 +43,23 @@ unfresh freshness.Late h = refl
 unfresh freshness.Far h = refl
 unfresh (freshness.Fresh m n x) h = absurd (h m n x refl)
 
-pub returns-in_default-freshness : goal.returns-in_default-freshness
-returns-in_default-freshness c = let let-pass : let a = c.args in c.admit-admitted.result ≡ inspected_of a.layout a.octets.now (admission a.self.state a.layout (length a.store.now) a.octets.now) = let a = c.args in
-    c.admit-admitted.ensures
+pub returns-in_default : goal.returns-in_default
+returns-in_default c = let let-pass : let a = c.args in c.admit.result ≡ inspected_of a.layout a.octets.now (admission a.self.state a.layout (length a.store.now) a.octets.now) = let a = c.args in
+    c.admit.ensures
     ∙ ap (admitted a.self.state (length a.store.now)) c.requires
     ∙ admits a.self.state a.layout (length a.store.now) a.octets.now in
-    let given : let a = c.args in let r = admission a.self.state a.layout (length a.store.now) a.octets.now in (checked_of a.layout a.octets.now r ≡ checked.Packet c.in-Packet.outline) × (read_of r ≡ read.Packet c.in-Packet.summary) = let a = c.args in
+    let given : let a = c.args in let r = admission a.self.state a.layout (length a.store.now) a.octets.now in (checked_of a.layout a.octets.now r ≡ Ok c.in-Ok.packet.outline) × (read_of r ≡ Ok c.in-Ok.packet.summary) = let a = c.args in
     let r = admission a.self.state a.layout (length a.store.now) a.octets.now in
-    inspected-packet a.layout a.octets.now r _ _ (sym (let-pass) ∙ c.in-Packet.is) in
-    let says : let a = c.args in Found a.layout a.octets.now (admission a.self.state a.layout (length a.store.now) a.octets.now) c.in-Packet.outline = found _ _ _ _ (given).0 in
-    let said : summary_of (says).says ≡ c.in-Packet.summary = summary-is _ _ _ (says).reads (given).1 in
-    let number_is : c.in-Packet.summary.head.number.0 ≡ (says).says.number = ap (λ (y : Summary). y.head.number.0) (sym (said)) in
+    inspected-packet a.layout a.octets.now r _ _ (sym (let-pass) ∙ c.in-Ok.is) in
+    let says : let a = c.args in Found a.layout a.octets.now (admission a.self.state a.layout (length a.store.now) a.octets.now) c.in-Ok.packet.outline = found _ _ _ _ (given).0 in
+    let said : summary_of (says).says ≡ c.in-Ok.packet.summary = summary-is _ _ _ (says).reads (given).1 in
+    let number_is : c.in-Ok.packet.summary.head.number.0 ≡ (says).says.number = ap (λ (y : Summary). y.head.number.0) (sym (said)) in
     let a = c.args in
     let k = (says).says in
     let f = c.place-freshness.result in
     let q = c.place-freshness.ensures ∙ ap (λ (x : ℕ). freshness_of a.self.state.heard a.self.state x) (number_is) in
     let e = step-admitted a.self.state a.layout a.octets.now a.store.now k (says).reads in
-    let r = packet-refused a.self.state k a.store.now a.self.state.heard (ap is_fresh (sym q) ∙ unfresh f c.in_default-freshness.not-Fresh) in record {
+    let r = packet-refused a.self.state k a.store.now a.self.state.heard (ap is_fresh (sym q) ∙ unfresh f c.in_default.not-Fresh) in record {
       value = c.refuse.ensures
           ∙ (λ i. refused_of (q i) a.self.state (number_is i))
           ∙ sym r.0
@@ -70,16 +68,16 @@ returns-in_default-freshness c = let let-pass : let a = c.args in c.admit-admitt
     }
 
 pub decide-decision-requires : goal.decide-decision-requires
-decide-decision-requires c = let let-pass : let a = c.args in c.admit-admitted.result ≡ inspected_of a.layout a.octets.now (admission a.self.state a.layout (length a.store.now) a.octets.now) = let a = c.args in
-    c.admit-admitted.ensures
+decide-decision-requires c = let let-pass : let a = c.args in c.admit.result ≡ inspected_of a.layout a.octets.now (admission a.self.state a.layout (length a.store.now) a.octets.now) = let a = c.args in
+    c.admit.ensures
     ∙ ap (admitted a.self.state (length a.store.now)) c.requires
     ∙ admits a.self.state a.layout (length a.store.now) a.octets.now in
-    let given : let a = c.args in let r = admission a.self.state a.layout (length a.store.now) a.octets.now in (checked_of a.layout a.octets.now r ≡ checked.Packet c.in-Packet.outline) × (read_of r ≡ read.Packet c.in-Packet.summary) = let a = c.args in
+    let given : let a = c.args in let r = admission a.self.state a.layout (length a.store.now) a.octets.now in (checked_of a.layout a.octets.now r ≡ Ok c.in-Ok.packet.outline) × (read_of r ≡ Ok c.in-Ok.packet.summary) = let a = c.args in
     let r = admission a.self.state a.layout (length a.store.now) a.octets.now in
-    inspected-packet a.layout a.octets.now r _ _ (sym (let-pass) ∙ c.in-Packet.is) in
-    let says : let a = c.args in Found a.layout a.octets.now (admission a.self.state a.layout (length a.store.now) a.octets.now) c.in-Packet.outline = found _ _ _ _ (given).0 in
-    let said : summary_of (says).says ≡ c.in-Packet.summary = summary-is _ _ _ (says).reads (given).1 in
-    let number_is : c.in-Packet.summary.head.number.0 ≡ (says).says.number = ap (λ (y : Summary). y.head.number.0) (sym (said)) in
+    inspected-packet a.layout a.octets.now r _ _ (sym (let-pass) ∙ c.in-Ok.is) in
+    let says : let a = c.args in Found a.layout a.octets.now (admission a.self.state a.layout (length a.store.now) a.octets.now) c.in-Ok.packet.outline = found _ _ _ _ (given).0 in
+    let said : summary_of (says).says ≡ c.in-Ok.packet.summary = summary-is _ _ _ (says).reads (given).1 in
+    let number_is : c.in-Ok.packet.summary.head.number.0 ≡ (says).says.number = ap (λ (y : Summary). y.head.number.0) (sym (said)) in
     let from : State = c.in-Fresh.from in
     let placed : let a = c.args in freshness_of a.self.state.heard a.self.state (says).says.number ≡ freshness.Fresh c.in-Fresh.missing c.in-Fresh.next (from) = let a = c.args in
     ap (λ (x : ℕ). freshness_of a.self.state.heard a.self.state x) (sym (number_is))
@@ -91,16 +89,16 @@ decide-decision-requires c = let let-pass : let a = c.args in c.admit-admitted.r
     let s = is-sound in (s.fitting.records, s.fitting.cells, s.fitting.packets)
 
 pub overflow_cast-index : goal.overflow_cast-index
-overflow_cast-index c = let let-pass : let a = c.args in c.admit-admitted.result ≡ inspected_of a.layout a.octets.now (admission a.self.state a.layout (length a.store.now) a.octets.now) = let a = c.args in
-    c.admit-admitted.ensures
+overflow_cast-index c = let let-pass : let a = c.args in c.admit.result ≡ inspected_of a.layout a.octets.now (admission a.self.state a.layout (length a.store.now) a.octets.now) = let a = c.args in
+    c.admit.ensures
     ∙ ap (admitted a.self.state (length a.store.now)) c.requires
     ∙ admits a.self.state a.layout (length a.store.now) a.octets.now in
-    let given : let a = c.args in let r = admission a.self.state a.layout (length a.store.now) a.octets.now in (checked_of a.layout a.octets.now r ≡ checked.Packet c.in-Packet.outline) × (read_of r ≡ read.Packet c.in-Packet.summary) = let a = c.args in
+    let given : let a = c.args in let r = admission a.self.state a.layout (length a.store.now) a.octets.now in (checked_of a.layout a.octets.now r ≡ Ok c.in-Ok.packet.outline) × (read_of r ≡ Ok c.in-Ok.packet.summary) = let a = c.args in
     let r = admission a.self.state a.layout (length a.store.now) a.octets.now in
-    inspected-packet a.layout a.octets.now r _ _ (sym (let-pass) ∙ c.in-Packet.is) in
-    let says : let a = c.args in Found a.layout a.octets.now (admission a.self.state a.layout (length a.store.now) a.octets.now) c.in-Packet.outline = found _ _ _ _ (given).0 in
-    let said : summary_of (says).says ≡ c.in-Packet.summary = summary-is _ _ _ (says).reads (given).1 in
-    let number_is : c.in-Packet.summary.head.number.0 ≡ (says).says.number = ap (λ (y : Summary). y.head.number.0) (sym (said)) in
+    inspected-packet a.layout a.octets.now r _ _ (sym (let-pass) ∙ c.in-Ok.is) in
+    let says : let a = c.args in Found a.layout a.octets.now (admission a.self.state a.layout (length a.store.now) a.octets.now) c.in-Ok.packet.outline = found _ _ _ _ (given).0 in
+    let said : summary_of (says).says ≡ c.in-Ok.packet.summary = summary-is _ _ _ (says).reads (given).1 in
+    let number_is : c.in-Ok.packet.summary.head.number.0 ≡ (says).says.number = ap (λ (y : Summary). y.head.number.0) (sym (said)) in
     let from : State = c.in-Fresh.from in
     let placed : let a = c.args in freshness_of a.self.state.heard a.self.state (says).says.number ≡ freshness.Fresh c.in-Fresh.missing c.in-Fresh.next (from) = let a = c.args in
     ap (λ (x : ℕ). freshness_of a.self.state.heard a.self.state x) (sym (number_is))
@@ -112,16 +110,16 @@ overflow_cast-index c = let let-pass : let a = c.args in c.admit-admitted.result
     omega (arith, (is-sound).fitting.packets)
 
 pub offset_bounds-store-at : goal.offset_bounds-store-at
-offset_bounds-store-at c = let let-pass : let a = c.args in c.admit-admitted.result ≡ inspected_of a.layout a.octets.now (admission a.self.state a.layout (length a.store.now) a.octets.now) = let a = c.args in
-    c.admit-admitted.ensures
+offset_bounds-store-at c = let let-pass : let a = c.args in c.admit.result ≡ inspected_of a.layout a.octets.now (admission a.self.state a.layout (length a.store.now) a.octets.now) = let a = c.args in
+    c.admit.ensures
     ∙ ap (admitted a.self.state (length a.store.now)) c.requires
     ∙ admits a.self.state a.layout (length a.store.now) a.octets.now in
-    let given : let a = c.args in let r = admission a.self.state a.layout (length a.store.now) a.octets.now in (checked_of a.layout a.octets.now r ≡ checked.Packet c.in-Packet.outline) × (read_of r ≡ read.Packet c.in-Packet.summary) = let a = c.args in
+    let given : let a = c.args in let r = admission a.self.state a.layout (length a.store.now) a.octets.now in (checked_of a.layout a.octets.now r ≡ Ok c.in-Ok.packet.outline) × (read_of r ≡ Ok c.in-Ok.packet.summary) = let a = c.args in
     let r = admission a.self.state a.layout (length a.store.now) a.octets.now in
-    inspected-packet a.layout a.octets.now r _ _ (sym (let-pass) ∙ c.in-Packet.is) in
-    let says : let a = c.args in Found a.layout a.octets.now (admission a.self.state a.layout (length a.store.now) a.octets.now) c.in-Packet.outline = found _ _ _ _ (given).0 in
-    let said : summary_of (says).says ≡ c.in-Packet.summary = summary-is _ _ _ (says).reads (given).1 in
-    let number_is : c.in-Packet.summary.head.number.0 ≡ (says).says.number = ap (λ (y : Summary). y.head.number.0) (sym (said)) in
+    inspected-packet a.layout a.octets.now r _ _ (sym (let-pass) ∙ c.in-Ok.is) in
+    let says : let a = c.args in Found a.layout a.octets.now (admission a.self.state a.layout (length a.store.now) a.octets.now) c.in-Ok.packet.outline = found _ _ _ _ (given).0 in
+    let said : summary_of (says).says ≡ c.in-Ok.packet.summary = summary-is _ _ _ (says).reads (given).1 in
+    let number_is : c.in-Ok.packet.summary.head.number.0 ≡ (says).says.number = ap (λ (y : Summary). y.head.number.0) (sym (said)) in
     let from : State = c.in-Fresh.from in
     let placed : let a = c.args in freshness_of a.self.state.heard a.self.state (says).says.number ≡ freshness.Fresh c.in-Fresh.missing c.in-Fresh.next (from) = let a = c.args in
     ap (λ (x : ℕ). freshness_of a.self.state.heard a.self.state x) (sym (number_is))
@@ -133,16 +131,16 @@ offset_bounds-store-at c = let let-pass : let a = c.args in c.admit-admitted.res
     record { fits = omega (arith, (is-sound).fitting.cells) }
 
 pub slice_bounds-read_records-count : goal.slice_bounds-read_records-count
-slice_bounds-read_records-count c = let let-pass : let a = c.args in c.admit-admitted.result ≡ inspected_of a.layout a.octets.now (admission a.self.state a.layout (length a.store.now) a.octets.now) = let a = c.args in
-    c.admit-admitted.ensures
+slice_bounds-read_records-count c = let let-pass : let a = c.args in c.admit.result ≡ inspected_of a.layout a.octets.now (admission a.self.state a.layout (length a.store.now) a.octets.now) = let a = c.args in
+    c.admit.ensures
     ∙ ap (admitted a.self.state (length a.store.now)) c.requires
     ∙ admits a.self.state a.layout (length a.store.now) a.octets.now in
-    let given : let a = c.args in let r = admission a.self.state a.layout (length a.store.now) a.octets.now in (checked_of a.layout a.octets.now r ≡ checked.Packet c.in-Packet.outline) × (read_of r ≡ read.Packet c.in-Packet.summary) = let a = c.args in
+    let given : let a = c.args in let r = admission a.self.state a.layout (length a.store.now) a.octets.now in (checked_of a.layout a.octets.now r ≡ Ok c.in-Ok.packet.outline) × (read_of r ≡ Ok c.in-Ok.packet.summary) = let a = c.args in
     let r = admission a.self.state a.layout (length a.store.now) a.octets.now in
-    inspected-packet a.layout a.octets.now r _ _ (sym (let-pass) ∙ c.in-Packet.is) in
-    let says : let a = c.args in Found a.layout a.octets.now (admission a.self.state a.layout (length a.store.now) a.octets.now) c.in-Packet.outline = found _ _ _ _ (given).0 in
-    let said : summary_of (says).says ≡ c.in-Packet.summary = summary-is _ _ _ (says).reads (given).1 in
-    let number_is : c.in-Packet.summary.head.number.0 ≡ (says).says.number = ap (λ (y : Summary). y.head.number.0) (sym (said)) in
+    inspected-packet a.layout a.octets.now r _ _ (sym (let-pass) ∙ c.in-Ok.is) in
+    let says : let a = c.args in Found a.layout a.octets.now (admission a.self.state a.layout (length a.store.now) a.octets.now) c.in-Ok.packet.outline = found _ _ _ _ (given).0 in
+    let said : summary_of (says).says ≡ c.in-Ok.packet.summary = summary-is _ _ _ (says).reads (given).1 in
+    let number_is : c.in-Ok.packet.summary.head.number.0 ≡ (says).says.number = ap (λ (y : Summary). y.head.number.0) (sym (said)) in
     let from : State = c.in-Fresh.from in
     let placed : let a = c.args in freshness_of a.self.state.heard a.self.state (says).says.number ≡ freshness.Fresh c.in-Fresh.missing c.in-Fresh.next (from) = let a = c.args in
     ap (λ (x : ℕ). freshness_of a.self.state.heard a.self.state x) (sym (number_is))
@@ -154,16 +152,16 @@ slice_bounds-read_records-count c = let let-pass : let a = c.args in c.admit-adm
     (is-sound).fitting.enough
 
 pub slice_bounds-read_records-start : goal.slice_bounds-read_records-start
-slice_bounds-read_records-start c = let let-pass : let a = c.args in c.admit-admitted.result ≡ inspected_of a.layout a.octets.now (admission a.self.state a.layout (length a.store.now) a.octets.now) = let a = c.args in
-    c.admit-admitted.ensures
+slice_bounds-read_records-start c = let let-pass : let a = c.args in c.admit.result ≡ inspected_of a.layout a.octets.now (admission a.self.state a.layout (length a.store.now) a.octets.now) = let a = c.args in
+    c.admit.ensures
     ∙ ap (admitted a.self.state (length a.store.now)) c.requires
     ∙ admits a.self.state a.layout (length a.store.now) a.octets.now in
-    let given : let a = c.args in let r = admission a.self.state a.layout (length a.store.now) a.octets.now in (checked_of a.layout a.octets.now r ≡ checked.Packet c.in-Packet.outline) × (read_of r ≡ read.Packet c.in-Packet.summary) = let a = c.args in
+    let given : let a = c.args in let r = admission a.self.state a.layout (length a.store.now) a.octets.now in (checked_of a.layout a.octets.now r ≡ Ok c.in-Ok.packet.outline) × (read_of r ≡ Ok c.in-Ok.packet.summary) = let a = c.args in
     let r = admission a.self.state a.layout (length a.store.now) a.octets.now in
-    inspected-packet a.layout a.octets.now r _ _ (sym (let-pass) ∙ c.in-Packet.is) in
-    let says : let a = c.args in Found a.layout a.octets.now (admission a.self.state a.layout (length a.store.now) a.octets.now) c.in-Packet.outline = found _ _ _ _ (given).0 in
-    let said : summary_of (says).says ≡ c.in-Packet.summary = summary-is _ _ _ (says).reads (given).1 in
-    let number_is : c.in-Packet.summary.head.number.0 ≡ (says).says.number = ap (λ (y : Summary). y.head.number.0) (sym (said)) in
+    inspected-packet a.layout a.octets.now r _ _ (sym (let-pass) ∙ c.in-Ok.is) in
+    let says : let a = c.args in Found a.layout a.octets.now (admission a.self.state a.layout (length a.store.now) a.octets.now) c.in-Ok.packet.outline = found _ _ _ _ (given).0 in
+    let said : summary_of (says).says ≡ c.in-Ok.packet.summary = summary-is _ _ _ (says).reads (given).1 in
+    let number_is : c.in-Ok.packet.summary.head.number.0 ≡ (says).says.number = ap (λ (y : Summary). y.head.number.0) (sym (said)) in
     let from : State = c.in-Fresh.from in
     let placed : let a = c.args in freshness_of a.self.state.heard a.self.state (says).says.number ≡ freshness.Fresh c.in-Fresh.missing c.in-Fresh.next (from) = let a = c.args in
     ap (λ (x : ℕ). freshness_of a.self.state.heard a.self.state x) (sym (number_is))
@@ -175,17 +173,17 @@ slice_bounds-read_records-start c = let let-pass : let a = c.args in c.admit-adm
     omega (arith, (is-sound).fitting.enough)
 
 pub read_records-requires : goal.read_records-requires
-read_records-requires c = let let-pass : let a = c.args in c.admit-admitted.result ≡ inspected_of a.layout a.octets.now (admission a.self.state a.layout (length a.store.now) a.octets.now) = let a = c.args in
-    c.admit-admitted.ensures
+read_records-requires c = let let-pass : let a = c.args in c.admit.result ≡ inspected_of a.layout a.octets.now (admission a.self.state a.layout (length a.store.now) a.octets.now) = let a = c.args in
+    c.admit.ensures
     ∙ ap (admitted a.self.state (length a.store.now)) c.requires
     ∙ admits a.self.state a.layout (length a.store.now) a.octets.now in
-    let given : let a = c.args in let r = admission a.self.state a.layout (length a.store.now) a.octets.now in (checked_of a.layout a.octets.now r ≡ checked.Packet c.in-Packet.outline) × (read_of r ≡ read.Packet c.in-Packet.summary) = let a = c.args in
+    let given : let a = c.args in let r = admission a.self.state a.layout (length a.store.now) a.octets.now in (checked_of a.layout a.octets.now r ≡ Ok c.in-Ok.packet.outline) × (read_of r ≡ Ok c.in-Ok.packet.summary) = let a = c.args in
     let r = admission a.self.state a.layout (length a.store.now) a.octets.now in
-    inspected-packet a.layout a.octets.now r _ _ (sym (let-pass) ∙ c.in-Packet.is) in
-    let says : let a = c.args in Found a.layout a.octets.now (admission a.self.state a.layout (length a.store.now) a.octets.now) c.in-Packet.outline = found _ _ _ _ (given).0 in
-    let passes : let a = c.args in (sound a.self.state (length a.store.now) ≡ true) × (read_content a.layout a.octets.now ≡ accepted (says).says) = let a = c.args in passed a.self.state a.layout (length a.store.now) a.octets.now (says).says (says).reads in
-    let said : summary_of (says).says ≡ c.in-Packet.summary = summary-is _ _ _ (says).reads (given).1 in
-    let number_is : c.in-Packet.summary.head.number.0 ≡ (says).says.number = ap (λ (y : Summary). y.head.number.0) (sym (said)) in
+    inspected-packet a.layout a.octets.now r _ _ (sym (let-pass) ∙ c.in-Ok.is) in
+    let says : let a = c.args in Found a.layout a.octets.now (admission a.self.state a.layout (length a.store.now) a.octets.now) c.in-Ok.packet.outline = found _ _ _ _ (given).0 in
+    let passes : let a = c.args in (sound a.self.state (length a.store.now) ≡ true) × (read_content a.layout a.octets.now ≡ Ok (says).says) = let a = c.args in passed a.self.state a.layout (length a.store.now) a.octets.now (says).says (says).reads in
+    let said : summary_of (says).says ≡ c.in-Ok.packet.summary = summary-is _ _ _ (says).reads (given).1 in
+    let number_is : c.in-Ok.packet.summary.head.number.0 ≡ (says).says.number = ap (λ (y : Summary). y.head.number.0) (sym (said)) in
     let from : State = c.in-Fresh.from in
     let placed : let a = c.args in freshness_of a.self.state.heard a.self.state (says).says.number ≡ freshness.Fresh c.in-Fresh.missing c.in-Fresh.next (from) = let a = c.args in
     ap (λ (x : ℕ). freshness_of a.self.state.heard a.self.state x) (sym (number_is))
@@ -200,20 +198,20 @@ read_records-requires c = let let-pass : let a = c.args in c.admit-admitted.resu
     let a = c.args in
     let n = roomy c.if-decision.true in
     let e = ap (λ (y : Outline). y.cells) (says).outline in
-    record { octets_value = ap (checked_of a.layout a.octets.now) (passes).1 ∙ ap checked.Packet (says).outline; cells_in_bounds = simp (length-take, length-drop) (omega (arith, n, e)) }
+    record { octets_value = ap (checked_of a.layout a.octets.now) (passes).1 ∙ ap Ok (says).outline; cells_in_bounds = simp (length-take, length-drop) (omega (arith, n, e)) }
 
 pub shape_of-store : goal.shape_of-store
-shape_of-store c = let let-pass : let a = c.args in c.admit-admitted.result ≡ inspected_of a.layout a.octets.now (admission a.self.state a.layout (length a.store.now) a.octets.now) = let a = c.args in
-    c.admit-admitted.ensures
+shape_of-store c = let let-pass : let a = c.args in c.admit.result ≡ inspected_of a.layout a.octets.now (admission a.self.state a.layout (length a.store.now) a.octets.now) = let a = c.args in
+    c.admit.ensures
     ∙ ap (admitted a.self.state (length a.store.now)) c.requires
     ∙ admits a.self.state a.layout (length a.store.now) a.octets.now in
-    let given : let a = c.args in let r = admission a.self.state a.layout (length a.store.now) a.octets.now in (checked_of a.layout a.octets.now r ≡ checked.Packet c.in-Packet.outline) × (read_of r ≡ read.Packet c.in-Packet.summary) = let a = c.args in
+    let given : let a = c.args in let r = admission a.self.state a.layout (length a.store.now) a.octets.now in (checked_of a.layout a.octets.now r ≡ Ok c.in-Ok.packet.outline) × (read_of r ≡ Ok c.in-Ok.packet.summary) = let a = c.args in
     let r = admission a.self.state a.layout (length a.store.now) a.octets.now in
-    inspected-packet a.layout a.octets.now r _ _ (sym (let-pass) ∙ c.in-Packet.is) in
-    let says : let a = c.args in Found a.layout a.octets.now (admission a.self.state a.layout (length a.store.now) a.octets.now) c.in-Packet.outline = found _ _ _ _ (given).0 in
-    let passes : let a = c.args in (sound a.self.state (length a.store.now) ≡ true) × (read_content a.layout a.octets.now ≡ accepted (says).says) = let a = c.args in passed a.self.state a.layout (length a.store.now) a.octets.now (says).says (says).reads in
-    let said : summary_of (says).says ≡ c.in-Packet.summary = summary-is _ _ _ (says).reads (given).1 in
-    let number_is : c.in-Packet.summary.head.number.0 ≡ (says).says.number = ap (λ (y : Summary). y.head.number.0) (sym (said)) in
+    inspected-packet a.layout a.octets.now r _ _ (sym (let-pass) ∙ c.in-Ok.is) in
+    let says : let a = c.args in Found a.layout a.octets.now (admission a.self.state a.layout (length a.store.now) a.octets.now) c.in-Ok.packet.outline = found _ _ _ _ (given).0 in
+    let passes : let a = c.args in (sound a.self.state (length a.store.now) ≡ true) × (read_content a.layout a.octets.now ≡ Ok (says).says) = let a = c.args in passed a.self.state a.layout (length a.store.now) a.octets.now (says).says (says).reads in
+    let said : summary_of (says).says ≡ c.in-Ok.packet.summary = summary-is _ _ _ (says).reads (given).1 in
+    let number_is : c.in-Ok.packet.summary.head.number.0 ≡ (says).says.number = ap (λ (y : Summary). y.head.number.0) (sym (said)) in
     let from : State = c.in-Fresh.from in
     let placed : let a = c.args in freshness_of a.self.state.heard a.self.state (says).says.number ≡ freshness.Fresh c.in-Fresh.missing c.in-Fresh.next (from) = let a = c.args in
     ap (λ (x : ℕ). freshness_of a.self.state.heard a.self.state x) (sym (number_is))
@@ -239,17 +237,17 @@ shape_of-store c = let let-pass : let a = c.args in c.admit-admitted.result ≡ 
     same_size
 
 pub returns : goal.returns
-returns c = let let-pass : let a = c.args in c.admit-admitted.result ≡ inspected_of a.layout a.octets.now (admission a.self.state a.layout (length a.store.now) a.octets.now) = let a = c.args in
-    c.admit-admitted.ensures
+returns c = let let-pass : let a = c.args in c.admit.result ≡ inspected_of a.layout a.octets.now (admission a.self.state a.layout (length a.store.now) a.octets.now) = let a = c.args in
+    c.admit.ensures
     ∙ ap (admitted a.self.state (length a.store.now)) c.requires
     ∙ admits a.self.state a.layout (length a.store.now) a.octets.now in
-    let given : let a = c.args in let r = admission a.self.state a.layout (length a.store.now) a.octets.now in (checked_of a.layout a.octets.now r ≡ checked.Packet c.in-Packet.outline) × (read_of r ≡ read.Packet c.in-Packet.summary) = let a = c.args in
+    let given : let a = c.args in let r = admission a.self.state a.layout (length a.store.now) a.octets.now in (checked_of a.layout a.octets.now r ≡ Ok c.in-Ok.packet.outline) × (read_of r ≡ Ok c.in-Ok.packet.summary) = let a = c.args in
     let r = admission a.self.state a.layout (length a.store.now) a.octets.now in
-    inspected-packet a.layout a.octets.now r _ _ (sym (let-pass) ∙ c.in-Packet.is) in
-    let says : let a = c.args in Found a.layout a.octets.now (admission a.self.state a.layout (length a.store.now) a.octets.now) c.in-Packet.outline = found _ _ _ _ (given).0 in
-    let passes : let a = c.args in (sound a.self.state (length a.store.now) ≡ true) × (read_content a.layout a.octets.now ≡ accepted (says).says) = let a = c.args in passed a.self.state a.layout (length a.store.now) a.octets.now (says).says (says).reads in
-    let said : summary_of (says).says ≡ c.in-Packet.summary = summary-is _ _ _ (says).reads (given).1 in
-    let number_is : c.in-Packet.summary.head.number.0 ≡ (says).says.number = ap (λ (y : Summary). y.head.number.0) (sym (said)) in
+    inspected-packet a.layout a.octets.now r _ _ (sym (let-pass) ∙ c.in-Ok.is) in
+    let says : let a = c.args in Found a.layout a.octets.now (admission a.self.state a.layout (length a.store.now) a.octets.now) c.in-Ok.packet.outline = found _ _ _ _ (given).0 in
+    let passes : let a = c.args in (sound a.self.state (length a.store.now) ≡ true) × (read_content a.layout a.octets.now ≡ Ok (says).says) = let a = c.args in passed a.self.state a.layout (length a.store.now) a.octets.now (says).says (says).reads in
+    let said : summary_of (says).says ≡ c.in-Ok.packet.summary = summary-is _ _ _ (says).reads (given).1 in
+    let number_is : c.in-Ok.packet.summary.head.number.0 ≡ (says).says.number = ap (λ (y : Summary). y.head.number.0) (sym (said)) in
     let from : State = c.in-Fresh.from in
     let placed : let a = c.args in freshness_of a.self.state.heard a.self.state (says).says.number ≡ freshness.Fresh c.in-Fresh.missing c.in-Fresh.next (from) = let a = c.args in
     ap (λ (x : ℕ). freshness_of a.self.state.heard a.self.state x) (sym (number_is))

@@ -1,6 +1,0 @@
--- `Inspected::refusal` gives a packet's refusal.
--- By the variant that each arm is told.
-use Rattle.depacketizer.proofs.inspect.Inspected.refusal.Goals as goal
-
-pub returns-in-Packet : goal.returns-in-Packet
-returns-in-Packet c = rw c.in-Packet.is

@@ -1,8 +1,0 @@
--- `octet_at` gives the octet at an index, and 0 past the end.
--- By the test of the index.
-use mathlib.Core.Path.{sym}
-use lib.ListN.{get_or-eq_default}
-use Rattle.sdp_item.proofs.octet_at.Goals as goal
-
-pub returns-else-i-text : goal.returns-else-i-text
-returns-else-i-text c = sym (get_or-eq_default c.args.text.now 0 c.if-i-text.false)
