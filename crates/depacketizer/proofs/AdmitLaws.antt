@@ -1,7 +1,7 @@
 -- What lets an arrival pass, and where its packet is in the sequence, from what was found of it.
 -- By cases on the tests, in their order.
 use Rattle.wire_spec.proofs.ResultLaws.{accepted-inj}
-use Rattle.std.proofs.Common.{◌≡◌, ℕ, Bool, true, false, cond, eqb, List, [], ◌∷◌, sym, refl, ap, ◌∙◌, subst, true≢false, arith}
+use Rattle.std.proofs.Common.{◌≡◌, ℕ, Bool, true, false, cond, eqb, List, [], ◌∷◌, refl, ap, ◌∙◌, arith}
 use Rattle.wire_spec.specs.declared.refusal.Refusal.{Refusal}
 use Rattle.wire_spec.specs.Layout.{Layout}
 use Rattle.wire_spec.specs.Result.{Result, Err, Ok, Checks, judge, ◌then◌}
@@ -11,9 +11,10 @@ use Rattle.rtp_strict_reader.specs.declared.packet.Outline.{Outline}
 use Rattle.rtp_strict_reader.specs.declared.packet.Summary.{Summary}
 use Rattle.depacketizer.specs.declared.inspect.Inspected.{Inspected}
 use Rattle.depacketizer_spec.specs.declared.state.State.{State}
-use Rattle.depacketizer_sequence.specs.declared.place.Freshness.{Freshness}
-use Rattle.depacketizer_sequence.specs.declared.place.Freshness.TheVariants as freshness
-use Rattle.depacketizer_sequence.specs.Answers.{far_of, place_of, freshness_of}
+use Rattle.depacketizer_sequence.specs.declared.place.Fresh.{Fresh}
+use Rattle.depacketizer_sequence.specs.declared.place.NotFresh.{NotFresh}
+use Rattle.depacketizer_sequence.specs.Answers.{Placed, far_of, place_of, freshness_of}
+use Rattle.std.specs.Result.{MatchResult}
 use Rattle.depacketizer_spec.specs.Step.{Class, late, next, far, ahead, classify, distance, lost, gathered}
 use Rattle.depacketizer_spec.specs.Step.{sound, opened_checks, admission, open_state, is_remembered, packet_step}
 use Rattle.depacketizer_spec.specs.Step.{class_step, far_or_restart, fresh_step, Step}
@@ -69,71 +70,39 @@ module _ (L : Layout) (s : List ℕ) where
   inspected-refused (Err y) x h = let e : y ≡ x = cc in ap Err e
   inspected-refused (Ok k) x h = let z : ◌≡◌ {A = ℕ} 0 1 = cc in absurd (omega arith)
 
-  pub inspected-packet : (r : Result Content) (o : Outline) (m : Summary)
-      → inspected_of L s r ≡ Ok (record { outline = o; summary = m })
-      → (checked_of L s r ≡ Ok o) × (read_of r ≡ Ok m)
-  inspected-packet (Err y) o m h = let z : ◌≡◌ {A = ℕ} 0 1 = cc in absurd (omega arith)
-  inspected-packet (Ok k) o m h =
+  pub inspected-packet : (r : Result Content) (p : Inspected) → inspected_of L s r ≡ Ok p
+      → (checked_of L s r ≡ Ok p.outline) × (read_of r ≡ Ok p.summary)
+  inspected-packet (Err y) p h = let z : ◌≡◌ {A = ℕ} 0 1 = cc in absurd (omega arith)
+  inspected-packet (Ok k) p h =
       let q = accepted-inj h in
       (ap (λ (x : Inspected). Ok x.outline) q, ap (λ (x : Inspected). Ok x.summary) q)
 
--- a packet that is fresh
-abbrev pub is_fresh : Freshness → Bool
-is_fresh freshness.Late = false
-is_fresh freshness.Far = false
-is_fresh (freshness.Fresh m n from) = true
-
--- where a packet stands: late, far or fresh
+-- where a packet stands, and what its step is then
 module _ (st : State) (k : Content) (store : List ℕ) where
-  -- the step of one that is not fresh
-  abbrev Refused : Freshness → Step → Type 0
-  Refused f x = is_fresh f ≡ false → (arrival_of x ≡ refused_of f st k.number) × (x.store ≡ store)
+  -- the step of a fresh one; what holds of the state found and of one just opened holds of the one that it is fresh to
+  pub record Starts (P : State → Type 0) (f : Fresh) (x : Step) : Type 0 where
+    pub step : x ≡ fresh_step f.from (cond f.next (gathered f.from) lost) f.missing k store
+    pub holds : P f.from
 
-  far-refused : (b : Bool) → Refused (far_of b st) (far_or_restart b st k store)
-  far-refused true h = absurd (true≢false h)
-  far-refused false h = (refl, refl)
+  -- the step of one that is not
+  pub record Refuses (y : NotFresh) (x : Step) : Type 0 where
+    pub arrival : arrival_of x ≡ refused_of y st k.number
+    pub store_is : x.store ≡ store
 
-  class-refused : (c : Class) → Refused (place_of c st k.number) (class_step c st k store)
-  class-refused late h = (refl, refl)
-  class-refused next h = absurd (true≢false h)
-  class-refused far h = far-refused (is_remembered st k.number) h
-  class-refused (ahead n) h = absurd (true≢false h)
+  abbrev pub Stands : (State → Type 0) → Placed → Step → Type 0
+  Stands P r x = MatchResult r (λ f. Starts P f x) (λ y. Refuses y x)
 
-  pub packet-refused : (b : Bool) → Refused (freshness_of b st k.number) (packet_step b st k store)
-  packet-refused true h = class-refused (classify (distance st.last.0 k.number)) h
-  packet-refused false h = absurd (true≢false h)
+  module _ (P : State → Type 0) (found : P st) (opened : P (open_state st.source st.payload_type)) where
+    far-stands : (b : Bool) → Stands P (far_of b st) (far_or_restart b st k store)
+    far-stands true = record { step = refl; holds = opened }
+    far-stands false = record { arrival = refl; store_is = refl }
 
-  module _ (m : ℕ) (n : Bool) (from : State) where
-    -- the step of a fresh one, and what holds of a state just opened and of the one it finds holds of the one it is fresh to
-    pub record Starts (P : State → Type 0) (x : Step) : Type 0 where
-      pub step : x ≡ fresh_step from (cond n (gathered from) lost) m k store
-      pub holds : P from
+    class-stands : (c : Class) → Stands P (place_of c st k.number) (class_step c st k store)
+    class-stands late = record { arrival = refl; store_is = refl }
+    class-stands next = record { step = refl; holds = found }
+    class-stands far = far-stands (is_remembered st k.number)
+    class-stands (ahead n) = record { step = refl; holds = found }
 
-    module _ (P : State → Type 0) (found : P st) (opened : P (open_state st.source st.payload_type)) where
-      starts : (m' : ℕ) (n' : Bool) (from' : State) → P from' → freshness.Fresh m' n' from' ≡ freshness.Fresh m n from
-          → Starts P (fresh_step from' (cond n' (gathered from') lost) m' k store)
-      starts m' n' from' h e =
-          let a : m' ≡ m = cc in
-          let b : n' ≡ n = cc in
-          let c : from' ≡ from = cc in
-          record { step = rw (a, b, c); holds = subst P c h }
-
-      late-not : freshness.Late ≡ freshness.Fresh m n from → ⊥
-      late-not e = true≢false (ap is_fresh (sym e))
-
-      far-not : freshness.Far ≡ freshness.Fresh m n from → ⊥
-      far-not e = true≢false (ap is_fresh (sym e))
-
-      far-fresh : (b : Bool) → far_of b st ≡ freshness.Fresh m n from → Starts P (far_or_restart b st k store)
-      far-fresh true e = starts 0 false (open_state st.source st.payload_type) opened e
-      far-fresh false e = absurd (far-not e)
-
-      class-fresh : (c : Class) → place_of c st k.number ≡ freshness.Fresh m n from → Starts P (class_step c st k store)
-      class-fresh late e = absurd (late-not e)
-      class-fresh next e = starts 0 true st found e
-      class-fresh far e = far-fresh (is_remembered st k.number) e
-      class-fresh (ahead i) e = starts i false st found e
-
-      pub packet-fresh : (b : Bool) → freshness_of b st k.number ≡ freshness.Fresh m n from → Starts P (packet_step b st k store)
-      packet-fresh true e = class-fresh (classify (distance st.last.0 k.number)) e
-      packet-fresh false e = starts 0 false st found e
+    pub packet-stands : (b : Bool) → Stands P (freshness_of b st k.number) (packet_step b st k store)
+    packet-stands true = class-stands (classify (distance st.last.0 k.number))
+    packet-stands false = record { step = refl; holds = found }

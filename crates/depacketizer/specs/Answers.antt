@@ -5,7 +5,7 @@ use Rattle.std.specs.Prelude.{ℕ, cond, List, [], ◌∷◌}
 use Rattle.wire_spec.specs.declared.refusal.Refusal.{Refusal}
 use Rattle.wire_spec.specs.Layout.{Layout}
 use Rattle.wire_spec.specs.Packet.{Content}
-use Rattle.wire_spec.specs.Result.{Result, Err, Ok, no_refusal, Checks}
+use Rattle.wire_spec.specs.Result.{Result, Err, Ok, Checks}
 use Rattle.rtp_strict_reader.specs.Answers.{checked_of, summary_of}
 use Rattle.rtp_strict_reader.specs.declared.packet.Summary.{Summary}
 use Rattle.depacketizer_spec.specs.declared.state.State.{State}
@@ -13,8 +13,8 @@ use Rattle.depacketizer_spec.specs.declared.state.Answer.TheVariants as answer
 use Rattle.depacketizer_spec.specs.Step.{Carried, Gather, Step, after_with, f_of, gathered_cells, gathered_packets}
 use Rattle.depacketizer_spec.specs.Step.{gathered_records, later, number_after, opened_checks, phase_of, remembering}
 use Rattle.depacketizer_spec.specs.Step.{sound, timestamp_of}
-use Rattle.depacketizer_sequence.specs.declared.place.Freshness.{Freshness}
-use Rattle.depacketizer_sequence.specs.declared.place.Freshness.TheVariants as freshness
+use Rattle.depacketizer_sequence.specs.declared.place.NotFresh.{NotFresh}
+use Rattle.depacketizer_sequence.specs.declared.place.NotFresh.TheVariants as not_fresh
 use Rattle.depacketizer.specs.declared.decide.Decision.{Decision}
 use Rattle.depacketizer.specs.declared.inspect.Inspected.{Inspected}
 use Rattle.depacketizer.specs.declared.state.Arrival.{Arrival}
@@ -85,13 +85,12 @@ after_of st number d missing = after_with st number d.phase d.timestamp.0 d.f d.
 abbrev pub arrival_of : Step → Arrival
 arrival_of x = record { state = record { state = x.state }; answer = x.answer }
 
--- 32 or 36: what an arrival does that is not fresh; a fresh one is not refused
-abbrev pub refused_of : Freshness → State → (number : ℕ) → Arrival
-refused_of freshness.Late st n =
+-- 32 or 36: what an arrival does that is not fresh
+abbrev pub refused_of : NotFresh → State → (number : ℕ) → Arrival
+refused_of not_fresh.Late st n =
     record { state = record { state = later st }; answer = answer.Refused (record { number = 32; index = 0 }) }
-refused_of freshness.Far st n =
+refused_of not_fresh.Far st n =
     record { state = record { state = remembering st (number_after n) }; answer = answer.Refused (record { number = 36; index = 0 }) }
-refused_of (freshness.Fresh m x from) st n = record { state = record { state = st }; answer = answer.Refused no_refusal }
 
 -- what `open` returns of a state just opened, or of the refusal
 abbrev pub opened_of : Result State → Result Depacketizer

@@ -8,7 +8,7 @@ use crate::admit::admit;
 use crate::count::increased;
 use crate::decide::{Decision, decide};
 use crate::inspect::{Inspected, inspect};
-use depacketizer_sequence::place::{Freshness, opened, place};
+use depacketizer_sequence::place::{Fresh, NotFresh, opened, place};
 use depacketizer_spec::state::{Answer, State};
 use rtp_strict_reader::check::read_records;
 use wire_spec::layout::Layout;
@@ -51,39 +51,16 @@ fn remembering(state: State, number: PacketNumber) -> State
 }
 
 // 32 or 36: what an arrival does that is not fresh.
-fn refuse(state: State, number: PacketNumber, freshness: Freshness) -> Arrival
-    ensures { result ≡ refused_of freshness state number.0 }
+fn refuse(state: State, number: PacketNumber, why: NotFresh) -> Arrival
+    ensures { result ≡ refused_of why state number.0 }
 {
-    match freshness {
-        Freshness::Late => Arrival {
-            state: Depacketizer {
-                state: later(state),
-            },
-            answer: Answer::Refused(Refusal {
-                number: Refusal::LATE,
-                index: 0,
-            }),
-        },
-        Freshness::Far => Arrival {
-            state: Depacketizer {
-                state: remembering(state, number),
-            },
-            answer: Answer::Refused(Refusal {
-                number: Refusal::FAR,
-                index: 0,
-            }),
-        },
-        Freshness::Fresh {
-            missing,
-            next,
-            from,
-        } => Arrival {
-            state: Depacketizer { state },
-            answer: Answer::Refused(Refusal {
-                number: 0,
-                index: 0,
-            }),
-        },
+    let (state, number) = match why {
+        NotFresh::Late => (later(state), Refusal::LATE),
+        NotFresh::Far => (remembering(state, number), Refusal::FAR),
+    };
+    Arrival {
+        state: Depacketizer { state },
+        answer: Answer::Refused(Refusal { number, index: 0 }),
     }
 }
 
@@ -157,16 +134,12 @@ impl Depacketizer {
             }
         };
         let head = packet.summary.head;
-        let freshness = place(state, head.number);
-        let Freshness::Fresh {
-            missing,
-            next,
-            from,
-        } = freshness
-        else {
-            return refuse(state, head.number, freshness);
+        let fresh = match place(state, head.number) {
+            Ok(fresh) => fresh,
+            Err(why) => return refuse(state, head.number, why),
         };
-        let decision = decide(from, next, packet.summary, store.len());
+        let from = fresh.from;
+        let decision = decide(from, fresh.next, packet.summary, store.len());
         if decision.append {
             let at = from.cells;
             let index = from.packets as u16;
@@ -175,7 +148,7 @@ impl Depacketizer {
         let answer = decision.answer;
         Arrival {
             state: Depacketizer {
-                state: after(from, head.number, decision, missing),
+                state: after(from, head.number, decision, fresh.missing),
             },
             answer,
         }

@@ -7,17 +7,20 @@ use crate::distance::{Class, classify, distance};
 use depacketizer_spec::state::{Phase, State};
 use wire_spec::number::{PacketNumber, Timestamp};
 
-// Late, far, or fresh with so many missing before it; `next` where it follows the last fresh one. It is fresh to the state `from`: the
-// one that it found, or one just opened where it restarts.
+// A fresh packet, with so many missing before it; `next` where it follows the last fresh one. It is fresh to the state `from`: the one
+// that it found, or one just opened where it restarts.
 #[derive(Clone, Copy)]
-pub enum Freshness {
+pub struct Fresh {
+    pub missing: u64,
+    pub next: bool,
+    pub from: State,
+}
+
+// Why a packet is not fresh.
+#[derive(Clone, Copy)]
+pub enum NotFresh {
     Late,
     Far,
-    Fresh {
-        missing: u64,
-        next: bool,
-        from: State,
-    },
 }
 
 // Lost, with no last fresh number and no remembered one, the counts 0.
@@ -44,44 +47,43 @@ pub fn opened(source: u32, payload_type: u8) -> State
 }
 
 // A far packet restarts where its number is the remembered one.
-fn far_or_restart(state: State, number: PacketNumber) -> Freshness
+fn far_or_restart(state: State, number: PacketNumber) -> Result<Fresh, NotFresh>
     ensures { result ≡ far_of (step.is_remembered state number.0) state }
 {
     let remembered = state.remembered;
     if state.remembers & (remembered.0 == number.0) {
-        return Freshness::Fresh {
+        return Ok(Fresh {
             missing: 0,
             next: false,
             from: opened(state.source, state.payload_type),
-        };
+        });
     }
-    Freshness::Far
+    Err(NotFresh::Far)
 }
 
 // The first is always fresh; any other stands as its distance says.
-pub fn place(state: State, number: PacketNumber) -> Freshness
+pub fn place(state: State, number: PacketNumber) -> Result<Fresh, NotFresh>
     ensures { result ≡ freshness_of state.heard state number.0 }
 {
     if !state.heard {
-        return Freshness::Fresh {
+        return Ok(Fresh {
             missing: 0,
             next: false,
             from: state,
-        };
+        });
     }
-    let class = classify(distance(state.last, number));
-    match class {
-        Class::Late => Freshness::Late,
-        Class::Next => Freshness::Fresh {
+    match classify(distance(state.last, number)) {
+        Class::Late => Err(NotFresh::Late),
+        Class::Next => Ok(Fresh {
             missing: 0,
             next: true,
             from: state,
-        },
+        }),
         Class::Far => far_or_restart(state, number),
-        Class::Ahead(missing) => Freshness::Fresh {
+        Class::Ahead(missing) => Ok(Fresh {
             missing,
             next: false,
             from: state,
-        },
+        }),
     }
 }

@@ -11,24 +11,20 @@ use anc_record::location::{Line, Location, Offset};
 use streamcheck_spec::place::{Place, Scan};
 
 // The line, then the offset: these belong before a known place.
-fn is_lower(line: u16, offset: u16, place: Place) -> bool
+fn is_lower(line: u16, offset: u16, place: Option<Place>) -> bool
     ensures { result ≡ is_lower line offset place }
 {
-    place.known & ((line < place.line) | ((line == place.line) & (offset < place.offset)))
+    place.is_some_and(|last| {
+        (line < last.line) | ((line == last.line) & (offset < last.offset))
+    })
 }
 
 fn past_plain(scan: Scan, line: u16, offset: u16) -> Scan
     ensures { result ≡ code.past_plain scan line offset }
 {
-    let last = scan.place;
-    let place = Place {
-        known: true,
-        line,
-        offset,
-    };
     Scan {
-        descends: scan.descends | is_lower(line, offset, last),
-        place,
+        descends: scan.descends | is_lower(line, offset, scan.place),
+        place: Some(Place { line, offset }),
     }
 }
 

@@ -7,9 +7,10 @@ use mathlib.Core.Logic.{◌⊎◌, inl, inr, ⊎_elim, ◌↔◌}
 use Prim.Native.Nat.{ℕ}
 use lib.Dec.{eqb}
 use borrow.Author.Tests.{eqb-false, ne_eqb, not-true}
+use Rattle.std.specs.Prelude.{Option, Some, None}
 use Rattle.wire_spec.specs.Layout.{Layout}
 use Rattle.wire_spec.specs.Packet.{Packet}
-use Rattle.streamcheck_spec.specs.declared.checker.Checker.{Checker}
+use Rattle.rtp_strict_reader.specs.declared.packet.Head.{Head}
 use Rattle.streamcheck_spec.specs.Rules.{number_of, following, Sound, Previous, Pair, NumberNotNext, ChangedBeforeMark, ReservedBitsSet}
 use Rattle.streamcheck_spec.specs.Check.{is_gap, is_change, is_reserved}
 use Rattle.streamcheck_spec.proofs.RuleLaws.{less-or-equal-or-more, sound-one}
@@ -46,51 +47,51 @@ module _ (L : Layout) (ps : List (List ℕ)) where
       (λ c. absurd (b.greatest g c a.before k a.sound)))
       (less-or-equal-or-more g h)
 
-  module _ (st : Checker) (i : ℕ) (k : Packet) (s : Sound L ps i k) where
+  module _ (i : ℕ) (k : Packet) (s : Sound L ps i k) where
     -- what is compared is this packet and the one that the state has
     same_here : (l m : Packet) → Pair L ps i l m → k ≡ l
     same_here l m p = sound-one L ps i k l s p.sound
 
-    same-last : (n : Follows L ps st i) (l m : Packet) → Pair L ps i l m → n.last ≡ m
-    same-last n l m p = previous-one i n.h p.h n.last m n.previous p.previous
+    same-last : (st : Head) (n : Follows L ps st i) (l m : Packet) → Pair L ps i l m → n.last ≡ m
+    same-last st n l m p = previous-one i n.h p.h n.last m n.previous p.previous
 
-    pair : (n : Follows L ps st i) → Pair L ps i k n.last
-    pair n = record { sound = s; h = n.h; previous = n.previous }
+    pair : (st : Head) (n : Follows L ps st i) → Pair L ps i k n.last
+    pair st n = record { sound = s; h = n.h; previous = n.previous }
 
-    gap-shows : (b : Bool) → KnownBefore L ps b st i → b && not (eqb (number_of k) (following st.number.0)) ≡ true → NumberNotNext L ps i
-    gap-shows false n e = absurd (true≢false (sym e))
-    gap-shows true n e =
+    gap-shows : (last : Option Head) → KnownBefore L ps last i → is_gap last k ≡ true → NumberNotNext L ps i
+    unfolding is_gap
+    gap-shows None n e = absurd (true≢false (sym e))
+    gap-shows (Some st) n e =
         record {
           here = k;
           last = n.last;
-          pair = pair n;
+          pair = pair st n;
           number = λ z. not_eqb (number_of k) (following st.number.0) e (z ∙ ap following (sym n.number));
         }
 
-    gap-found : (b : Bool) → KnownBefore L ps b st i → NumberNotNext L ps i → b && not (eqb (number_of k) (following st.number.0)) ≡ true
-    gap-found false n g =
+    gap-found : (last : Option Head) → KnownBefore L ps last i → NumberNotNext L ps i → is_gap last k ≡ true
+    unfolding is_gap
+    gap-found None n g =
         absurd (n g.pair.h g.pair.previous.before g.last g.pair.previous.sound.compared.accepts)
-    gap-found true n g =
+    gap-found (Some st) n g =
         eqb-not (number_of k) (following st.number.0)
         (λ z. g.number
         (ap number_of (sym (same_here g.here g.last g.pair))
         ∙ z
-        ∙ ap following (n.number ∙ ap number_of (same-last n g.here g.last g.pair))))
+        ∙ ap following (n.number ∙ ap number_of (same-last st n g.here g.last g.pair))))
 
-    pub gap-iff : KnownBefore L ps st.known st i → (is_gap st k ≡ true) ↔ NumberNotNext L ps i
-    unfolding is_gap
-    gap-iff n = (gap-shows st.known n, gap-found st.known n)
+    pub gap-iff : (last : Option Head) → KnownBefore L ps last i → (is_gap last k ≡ true) ↔ NumberNotNext L ps i
+    gap-iff last n = (gap-shows last n, gap-found last n)
 
-    change-shows : (b : Bool) → KnownBefore L ps b st i
-        → b && (not st.marked && (not (eqb k.timestamp st.timestamp.0) || not (eqb k.f st.f))) ≡ true
-        → ChangedBeforeMark L ps i
-    change-shows false n e = absurd (true≢false (sym e))
-    change-shows true n e =
-        let c = and_split (not st.marked) _ e in
+    change-shows : (last : Option Head) → KnownBefore L ps last i → is_change last k ≡ true → ChangedBeforeMark L ps i
+    unfolding is_change
+    change-shows None n e = absurd (true≢false (sym e))
+    change-shows (Some st) n e =
+        let c = and_split (not st.marker) _ e in
         record {
           here = k;
           last = n.last;
-          pair = pair n;
+          pair = pair st n;
           unmarked = λ z. not_eqb n.last.marker 1 (ap not (sym n.marked) ∙ c.0) z;
           differs =
               ⊎_elim
@@ -99,14 +100,14 @@ module _ (L : Layout) (ps : List (List ℕ)) where
               (or_split (not (eqb k.timestamp st.timestamp.0)) (not (eqb k.f st.f)) c.1);
         }
 
-    change-found : (b : Bool) → KnownBefore L ps b st i → ChangedBeforeMark L ps i
-        → b && (not st.marked && (not (eqb k.timestamp st.timestamp.0) || not (eqb k.f st.f))) ≡ true
-    change-found false n g =
+    change-found : (last : Option Head) → KnownBefore L ps last i → ChangedBeforeMark L ps i → is_change last k ≡ true
+    unfolding is_change
+    change-found None n g =
         absurd (n g.pair.h g.pair.previous.before g.last g.pair.previous.sound.compared.accepts)
-    change-found true n g =
+    change-found (Some st) n g =
         let here = same_here g.here g.last g.pair in
-        let last = same-last n g.here g.last g.pair in
-        let u : not st.marked ≡ true =
+        let last = same-last st n g.here g.last g.pair in
+        let u : not st.marker ≡ true =
         ap not n.marked ∙ eqb-not n.last.marker 1 (λ z. g.unmarked (ap (λ (y : Packet). y.marker) (sym last) ∙ z)) in
         let d : not (eqb k.timestamp st.timestamp.0) || not (eqb k.f st.f) ≡ true =
         ⊎_elim
@@ -118,9 +119,8 @@ module _ (L : Layout) (ps : List (List ℕ)) where
         g.differs in
         rw (u, d)
 
-    pub change-iff : KnownBefore L ps st.known st i → (is_change st k ≡ true) ↔ ChangedBeforeMark L ps i
-    unfolding is_change
-    change-iff n = (change-shows st.known n, change-found st.known n)
+    pub change-iff : (last : Option Head) → KnownBefore L ps last i → (is_change last k ≡ true) ↔ ChangedBeforeMark L ps i
+    change-iff last n = (change-shows last n, change-found last n)
 
     pub reserved-iff : (is_reserved k ≡ true) ↔ ReservedBitsSet L ps i
     unfolding is_reserved

@@ -1,17 +1,19 @@
 -- What the checker carries: the first accepted packet's source and type, and what the last packet not refused says.
 -- By induction from packet to packet; a packet is admitted exactly where the rules do not refuse it.
 use mathlib.Core.Path.{◌≡◌, refl, sym, ◌∙◌, subst}
-use mathlib.Core.Bool.{Bool, true, false, not, ◌||◌}
+use mathlib.Core.Bool.{Bool, true, false}
 use mathlib.Core.List.{List, [], ◌∷◌}
 use mathlib.Core.Logic.{◌⊎◌, inl, inr, ⊎_elim}
 use Prim.Native.Nat.{ℕ, suc, ◌<◌}
 use native.Mathlib.Omega.{arith}
 use lib.Dec.{eqb}
 use borrow.Author.Tests.{eqb-true, eqb-false}
+use Rattle.std.specs.Prelude.{Option, Some, None}
 use Rattle.wire_spec.specs.declared.refusal.Refusal.{Refusal}
 use Rattle.wire_spec.specs.Layout.{Layout}
 use Rattle.wire_spec.specs.Result.{Result, Err, Ok, judge, ◌then◌}
 use Rattle.wire_spec.specs.Packet.{Packet, read_packet}
+use Rattle.rtp_strict_reader.specs.declared.packet.Head.{Head}
 use Rattle.streamcheck_spec.specs.declared.checker.Checker.{Checker}
 use Rattle.streamcheck_spec.specs.Rules.{At, number_of, Reads, First, Compared, Refuses, Sound, Previous}
 use Rattle.streamcheck_spec.specs.Check.{opened, origin_checks, admitted, carried}
@@ -23,7 +25,7 @@ module _ (L : Layout) (ps : List (List ℕ)) where
   NoneAccepted i = (h : ℕ) → h < i → (k : Packet) → Reads L ps h (Ok k) → ⊥
 
   -- the state is that of the last packet not refused before `i`
-  pub record Follows (st : Checker) (i : ℕ) : Type 0 where
+  pub record Follows (st : Head) (i : ℕ) : Type 0 where
     pub origin : ℕ
     pub opening : Packet
     pub first : First L ps origin opening
@@ -35,11 +37,11 @@ module _ (L : Layout) (ps : List (List ℕ)) where
     pub number : st.number.0 ≡ number_of last
     pub timestamp : st.timestamp.0 ≡ last.timestamp
     pub f : st.f ≡ last.f
-    pub marked : st.marked ≡ eqb last.marker 1
+    pub marked : st.marker ≡ eqb last.marker 1
 
-  abbrev pub KnownBefore : Bool → Checker → ℕ → Type 0
-  KnownBefore false st i = NoneAccepted i
-  KnownBefore true st i = Follows st i
+  abbrev pub KnownBefore : Option Head → ℕ → Type 0
+  KnownBefore None i = NoneAccepted i
+  KnownBefore (Some st) i = Follows st i
 
   -- what an answer of the checker has to say of packet `i`
   abbrev pub Verdict : ℕ → Result Packet → Type 0
@@ -57,10 +59,10 @@ module _ (L : Layout) (ps : List (List ℕ)) where
       }
 
   -- 30 and 31
-  origin-verdict : (st : Checker) (i : ℕ) (k : Packet) (b : Bool) → KnownBefore b st i → Reads L ps i (Ok k)
-      → Verdict i (judge 0 ((not b || eqb k.source st.source, 30) ∷ (not b || eqb k.type st.payload_type, 31) ∷ []) (Ok k))
-  origin-verdict st i k false n a = first-sound i k n a
-  origin-verdict st i k true n a = go (eqb k.source st.source) refl (eqb k.type st.payload_type) refl
+  origin-verdict : (last : Option Head) (i : ℕ) (k : Packet) → KnownBefore last i → Reads L ps i (Ok k)
+      → Verdict i (judge 0 (origin_checks last k) (Ok k))
+  origin-verdict None i k n a = first-sound i k n a
+  origin-verdict (Some st) i k n a = go (eqb k.source st.source) refl (eqb k.type st.payload_type) refl
     where
       compared : Compared L ps i k n.opening
       compared = record { accepts = a; origin = n.origin; first = n.first }
@@ -99,16 +101,16 @@ module _ (L : Layout) (ps : List (List ℕ)) where
           ))
 
   -- the checker admits a packet exactly where the rules do not refuse it
-  pub verdict : (st : Checker) (i : ℕ) (p : List ℕ) → At ps i p → KnownBefore st.known st i → Verdict i (admitted L st p)
+  pub verdict : (st : Checker) (i : ℕ) (p : List ℕ) → At ps i p → KnownBefore st.last i → Verdict i (admitted L st p)
   unfolding admitted
   verdict st i p a n = go (read_packet L p) refl
     where
-      go : (q : Result Packet) → read_packet L p ≡ q → Verdict i (q then λ k. judge 0 (origin_checks st k) (Ok k))
+      go : (q : Result Packet) → read_packet L p ≡ q → Verdict i (q then λ k. judge 0 (origin_checks st.last k) (Ok k))
       go (Err x) e = inl (record { octets = p; at = a; reading = e })
-      go (Ok k) e = origin-verdict st i k st.known n (record { octets = p; at = a; reading = e })
+      go (Ok k) e = origin-verdict st.last i k n (record { octets = p; at = a; reading = e })
 
   -- before the first packet nothing is known
-  pub known-at-start : KnownBefore opened.known opened 0
+  pub known-at-start : KnownBefore opened.last 0
   known-at-start h b k a = omega arith
 
   -- an index before the next is before this one, or is this one
@@ -117,12 +119,12 @@ module _ (L : Layout) (ps : List (List ℕ)) where
       ⊎_elim (λ h. inl h) (⊎_elim (λ e. inr e) (λ h. inl (omega arith))) (less-or-equal-or-more m i)
 
   -- a refused packet leaves what was known
-  refused-known : (st : Checker) (i : ℕ) (x : Refusal) (b : Bool) → KnownBefore b st i → Refuses L ps i x → KnownBefore b st (suc i)
-  refused-known st i x false n v = λ h b k a.
+  refused-known : (last : Option Head) (i : ℕ) (x : Refusal) → KnownBefore last i → Refuses L ps i x → KnownBefore last (suc i)
+  refused-known None i x n v = λ h b k a.
       ⊎_elim (λ c. n h c k a)
       (λ e. refused-excludes L ps i x k v (first-sound i k n (subst (λ (z : ℕ). Reads L ps z (Ok k)) e a)))
       (before-next h i b)
-  refused-known st i x true n v =
+  refused-known (Some st) i x n v =
       record {
         origin = n.origin;
         opening = n.opening;
@@ -146,9 +148,8 @@ module _ (L : Layout) (ps : List (List ℕ)) where
       }
 
   -- after packet `i` the state is that of the last packet not refused
-  pub known-after : (st : Checker) (i : ℕ) (q : Result Packet) → KnownBefore st.known st i → Verdict i q
-      → KnownBefore (carried st q).known (carried st q) (suc i)
-  known-after st i (Err x) n v = refused-known st i x st.known n v
+  pub known-after : (st : Checker) (i : ℕ) (q : Result Packet) → KnownBefore st.last i → Verdict i q → KnownBefore (carried st q).last (suc i)
+  known-after st i (Err x) n v = refused-known st.last i x n v
   known-after st i (Ok k) n v =
       record {
         origin = v.compared.origin;

@@ -1,11 +1,11 @@
 -- The plain record before a place of the stream: there is none, or one, and which it is from one record and one packet to the next.
 -- By the order of packets and records.
 use mathlib.Core.Path.{◌≡◌, refl, sym, subst}
-use mathlib.Core.Bool.{Bool, true, false}
 use mathlib.Core.List.{List}
 use mathlib.Core.Logic.{◌⊎◌, inl, inr, ⊎_elim}
 use Prim.Native.Nat.{ℕ, suc, ◌<◌}
 use native.Mathlib.Omega.{arith}
+use Rattle.std.specs.Prelude.{Option, Some, None}
 use Rattle.wire_spec.specs.Layout.{Layout}
 use Rattle.wire_spec.specs.Anc.{Record}
 use Rattle.wire_spec.specs.Packet.{Packet}
@@ -67,17 +67,17 @@ module _ (L : Layout) (ps : List (List ℕ)) where
     pub line : q.line ≡ r.line
     pub offset : q.offset ≡ r.offset
 
-  abbrev pub PlaceBefore : Bool → Place → (i b : ℕ) → Type 0
-  PlaceBefore false q i b = NonePlain i b
-  PlaceBefore true q i b = PlainPlace q i b
+  abbrev pub PlaceBefore : Option Place → (i b : ℕ) → Type 0
+  PlaceBefore None i b = NonePlain i b
+  PlaceBefore (Some q) i b = PlainPlace q i b
 
   -- past a record that is not plain
-  pub past-special : (i b : ℕ) (f : Bool) (q : Place) → ((r : Record) → PlainAt L ps i b r → ⊥) → PlaceBefore f q i b → PlaceBefore f q i (suc b)
-  past-special i b false q n v = λ h a r x d p.
+  pub past-special : (i b : ℕ) (q : Option Place) → ((r : Record) → PlainAt L ps i b r → ⊥) → PlaceBefore q i b → PlaceBefore q i (suc b)
+  past-special i b None n v = λ h a r x d p.
       ⊎_elim (λ y. v h a r y d p)
       (λ e. n r (subst (λ (z : ℕ). PlainAt L ps i z r) e.1 (subst (λ (z : ℕ). PlainAt L ps z a r) e.0 p)))
       (before-next-record h a i b x)
-  past-special i b true q n v =
+  past-special i b (Some q) n v =
       record {
         h = v.h;
         a = v.a;
@@ -97,7 +97,7 @@ module _ (L : Layout) (ps : List (List ℕ)) where
       }
 
   -- past a plain record
-  pub past-plain : (i b : ℕ) (r : Record) → PlainAt L ps i b r → PlaceBefore true (place_of r) i (suc b)
+  pub past-plain : (i b : ℕ) (r : Record) → PlainAt L ps i b r → PlaceBefore (place_of r) i (suc b)
   past-plain i b r p =
       record {
         h = i;
@@ -122,11 +122,11 @@ module _ (L : Layout) (ps : List (List ℕ)) where
   before-next-packet i b m c r n p (inr x) = let y = x.1 in absurd (omega arith)
 
   -- to the next packet: no plain record at `b` or behind it, and no mark
-  pub past-packet : (i b : ℕ) (f : Bool) (q : Place) → ((a : ℕ) (r : Record) → PlainAt L ps i a r → a < b)
-      → ((k : Packet) → Sound L ps i k → Marked k → ⊥) → PlaceBefore f q i b → PlaceBefore f q (suc i) 0
-  past-packet i b false q n u v = λ h a r x d p.
+  pub past-packet : (i b : ℕ) (q : Option Place) → ((a : ℕ) (r : Record) → PlainAt L ps i a r → a < b)
+      → ((k : Packet) → Sound L ps i k → Marked k → ⊥) → PlaceBefore q i b → PlaceBefore q (suc i) 0
+  past-packet i b None n u v = λ h a r x d p.
       v h a r (before-next-packet i b h a r n p x) (λ m y z. d m y (omega arith)) p
-  past-packet i b true q n u v =
+  past-packet i b (Some q) n u v =
       record {
         h = v.h;
         a = v.a;

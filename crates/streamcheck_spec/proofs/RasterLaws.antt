@@ -6,6 +6,7 @@ use mathlib.Core.List.{List, [], ◌∷◌}
 use mathlib.Core.Logic.{◌⊎◌, inl, inr, ⊎_elim, ◌↔◌}
 use Prim.Native.Nat.{ℕ, suc, ◌<◌, ◌≤◌}
 use native.Mathlib.Omega.{arith}
+use Rattle.std.specs.Prelude.{Option, Some, None}
 use lib.Dec.{eqb, ltb}
 use lib.ListN.{drop}
 use borrow.Author.Tests.{eqb-true, eqb-false, eq-eqb, ltb-true, lt-ltb}
@@ -25,7 +26,7 @@ use Rattle.streamcheck_spec.specs.Check.{is_line, is_offset, is_plain, is_lower,
 use Rattle.streamcheck_spec.proofs.RuleLaws.{less-or-equal-or-more, at_one, at-within, at_next, at_none, sound-one, refused-excludes}
 use Rattle.streamcheck_spec.proofs.FindingLaws.{and_split, or_split, or_left, or_right}
 use Rattle.streamcheck_spec.proofs.KnownLaws.{Verdict}
-use Rattle.streamcheck_spec.proofs.PlaceLaws.{plain-at-one, plain-before-one, PlaceBefore, past-special, past-plain, past-packet, past-mark}
+use Rattle.streamcheck_spec.proofs.PlaceLaws.{plain-at-one, plain-before-one, PlainPlace, PlaceBefore, past-special, past-plain, past-packet, past-mark}
 
 line-is : (l : Line) → is_line l ≡ true → (x : ℕ) × (l ≡ line.Number x)
 line-is (line.Number x) e = (x, refl)
@@ -81,10 +82,9 @@ module _ (L : Layout) (ps : List (List ℕ)) where
         true≢false (sym (ap (λ (z : Record). is_plain z.line z.offset) (sym d) ∙ is-plain q p.plain) ∙ e)
 
     -- a plain record is out of order exactly where it belongs before the known place
-    order-shows : (b : ℕ) (r : Record) (q : Place) (f : Bool) → PlaceBefore L ps f q i b → PlainAt L ps i b r
-        → f && (ltb r.line q.line || (eqb r.line q.line && ltb r.offset q.offset)) ≡ true → OutOfOrderAt L ps i b
-    order-shows b r q false v p e = absurd (true≢false (sym e))
-    order-shows b r q true v p e =
+    order-shows : (b : ℕ) (r : Record) (q : Place) → PlainPlace L ps q i b → PlainAt L ps i b r
+        → ltb r.line q.line || (eqb r.line q.line && ltb r.offset q.offset) ≡ true → OutOfOrderAt L ps i b
+    order-shows b r q v p e =
         record {
           r = r;
           here = p;
@@ -98,10 +98,9 @@ module _ (L : Layout) (ps : List (List ℕ)) where
               (lower-is r.line r.offset q.line q.offset e));
         }
 
-    order-found : (b : ℕ) (r : Record) (q : Place) (f : Bool) → PlaceBefore L ps f q i b → PlainAt L ps i b r → OutOfOrderAt L ps i b
-        → f && (ltb r.line q.line || (eqb r.line q.line && ltb r.offset q.offset)) ≡ true
-    order-found b r q false v p g = absurd (v g.h g.a g.q g.last.before g.last.field g.last.plain)
-    order-found b r q true v p g =
+    order-found : (b : ℕ) (r : Record) (q : Place) → PlainPlace L ps q i b → PlainAt L ps i b r → OutOfOrderAt L ps i b
+        → ltb r.line q.line || (eqb r.line q.line && ltb r.offset q.offset) ≡ true
+    order-found b r q v p g =
         let x : g.r ≡ r = plain-at-one L ps i b g.r r g.here p in
         let y : g.q ≡ v.r = plain-before-one L ps g.h g.a v.h v.a i b g.q v.r g.last v.last in
         let w : Lower r v.r = subst (λ (z : Record). Lower r z) y (subst (λ (z : Record). Lower z g.q) x g.lower) in
@@ -109,9 +108,10 @@ module _ (L : Layout) (ps : List (List ℕ)) where
         (subst (λ (z : ℕ). (r.line < z) ⊎ ((r.line ≡ z) × (r.offset < q.offset))) (sym v.line)
         (subst (λ (z : ℕ). (r.line < v.r.line) ⊎ ((r.line ≡ v.r.line) × (r.offset < z))) (sym v.offset) w))
 
-    lower-iff : (b : ℕ) (r : Record) (q : Place) → PlaceBefore L ps q.known q i b → PlainAt L ps i b r → (is_lower r.line r.offset q ≡ true) ↔ OutOfOrderAt L ps i b
+    lower-iff : (b : ℕ) (r : Record) (q : Option Place) → PlaceBefore L ps q i b → PlainAt L ps i b r → (is_lower r.line r.offset q ≡ true) ↔ OutOfOrderAt L ps i b
     unfolding is_lower
-    lower-iff b r q v p = (order-shows b r q q.known v p, order-found b r q q.known v p)
+    lower-iff b r None v p = (λ e. absurd (true≢false (sym e)), λ g. absurd (v g.h g.a g.q g.last.before g.last.field g.last.plain))
+    lower-iff b r (Some q) v p = (order-shows b r q v p, order-found b r q v p)
 
     -- some record from `b` on is out of order
     abbrev From : ℕ → Type 0
@@ -127,7 +127,7 @@ module _ (L : Layout) (ps : List (List ℕ)) where
         (⊎_elim (λ e. inl (subst (λ (z : ℕ). OutOfOrderAt L ps i z) (sym e) x.2)) (λ h. let y = x.1 in absurd (omega arith)))
         (less-or-equal-or-more b x.0)
 
-    descends-iff : (rs : List Record) (q : Place) (b : ℕ) → drop b k.records ≡ rs → PlaceBefore L ps q.known q i b
+    descends-iff : (rs : List Record) (q : Option Place) (b : ℕ) → drop b k.records ≡ rs → PlaceBefore L ps q i b
         → (descends q rs ≡ true) ↔ From b
     unfolding descends
     descends-iff [] q b e v = (
@@ -138,12 +138,12 @@ module _ (L : Layout) (ps : List (List ℕ)) where
           let w = x.1 in
           absurd (omega arith),
     )
-    descends-iff (r ∷ rs) q b e v = go (λ (z : Place). descends-iff rs z (suc b) (at_next k.records b r rs e)) (is_plain r.line r.offset) refl
+    descends-iff (r ∷ rs) q b e v = go (λ (z : Option Place). descends-iff rs z (suc b) (at_next k.records b r rs e)) (is_plain r.line r.offset) refl
       where
         a : At k.records b r
         a = (rs, e)
 
-        go : ((z : Place) → PlaceBefore L ps z.known z i (suc b) → (descends z rs ≡ true) ↔ From (suc b)) → (t : Bool) → is_plain r.line r.offset ≡ t
+        go : ((z : Option Place) → PlaceBefore L ps z i (suc b) → (descends z rs ≡ true) ↔ From (suc b)) → (t : Bool) → is_plain r.line r.offset ≡ t
             → (cond t (is_lower r.line r.offset q || descends (place_of r) rs) (descends q rs) ≡ true) ↔ From b
         go below true d =
             let p = plain_here b r a d in
@@ -155,49 +155,49 @@ module _ (L : Layout) (ps : List (List ℕ)) where
             )
         go below false d =
             let n = special-here b r a d in
-            let rest = below q (past-special L ps i b q.known q n v) in (
+            let rest = below q (past-special L ps i b q n v) in (
               λ x. later b (rest.0 x),
               λ x. ⊎_elim (λ y. absurd (n y.r y.here)) (λ y. rest.1 y) (here-or-later b x),
             )
 
     -- "records .. out of raster order within a field"
-    pub raster-iff : (q : Place) → PlaceBefore L ps q.known q i 0 → (descends q k.records ≡ true) ↔ OutOfRasterOrder L ps i
+    pub raster-iff : (q : Option Place) → PlaceBefore L ps q i 0 → (descends q k.records ≡ true) ↔ OutOfRasterOrder L ps i
     raster-iff q v =
         let x = descends-iff k.records q 0 refl v in
         (λ e. let y = x.0 e in (y.0, y.2), λ g. x.1 (g.0, omega arith, g.1))
 
     -- the last plain place after the records that are left
-    place-behind : (rs : List Record) (q : Place) (b : ℕ) → drop b k.records ≡ rs → PlaceBefore L ps q.known q i b → (Marked k → ⊥)
-        → PlaceBefore L ps (place_after q rs).known (place_after q rs) (suc i) 0
+    place-behind : (rs : List Record) (q : Option Place) (b : ℕ) → drop b k.records ≡ rs → PlaceBefore L ps q i b → (Marked k → ⊥)
+        → PlaceBefore L ps (place_after q rs) (suc i) 0
     unfolding place_after
     place-behind [] q b e v u =
-        past-packet L ps i b q.known q
+        past-packet L ps i b q
         (λ a r p.
         let y = at_none k.records b e in
         let z = at-within k.records a r (at_here a r p) in
         omega arith)
         (λ l t d. u (ap (λ (z : Packet). z.marker) (sound-one L ps i k l s t) ∙ d)) v
-    place-behind (r ∷ rs) q b e v u = go (λ (z : Place) (w : PlaceBefore L ps z.known z i (suc b)). place-behind rs z (suc b) (at_next k.records b r rs e) w u) (is_plain r.line r.offset) refl
+    place-behind (r ∷ rs) q b e v u = go (λ (z : Option Place) (w : PlaceBefore L ps z i (suc b)). place-behind rs z (suc b) (at_next k.records b r rs e) w u) (is_plain r.line r.offset) refl
       where
         a : At k.records b r
         a = (rs, e)
 
-        go : ((z : Place) → PlaceBefore L ps z.known z i (suc b) → PlaceBefore L ps (place_after z rs).known (place_after z rs) (suc i) 0)
+        go : ((z : Option Place) → PlaceBefore L ps z i (suc b) → PlaceBefore L ps (place_after z rs) (suc i) 0)
             → (t : Bool) → is_plain r.line r.offset ≡ t
-            → PlaceBefore L ps (cond t (place_after (place_of r) rs) (place_after q rs)).known (cond t (place_after (place_of r) rs) (place_after q rs)) (suc i) 0
+            → PlaceBefore L ps (cond t (place_after (place_of r) rs) (place_after q rs)) (suc i) 0
         go below true d = below (place_of r) (past-plain L ps i b r (plain_here b r a d))
-        go below false d = below q (past-special L ps i b q.known q (special-here b r a d) v)
+        go below false d = below q (past-special L ps i b q (special-here b r a d) v)
 
     -- "a field ends at a mark"
-    place-within : (t : Bool) → eqb k.marker 1 ≡ t → (q : Place) → PlaceBefore L ps q.known q i 0
-        → PlaceBefore L ps (place_within t (place_after q k.records)).known (place_within t (place_after q k.records)) (suc i) 0
+    place-within : (t : Bool) → eqb k.marker 1 ≡ t → (q : Option Place) → PlaceBefore L ps q i 0
+        → PlaceBefore L ps (place_within t (place_after q k.records)) (suc i) 0
     place-within true e q v = past-mark L ps i k s (eqb-true k.marker 1 e)
     place-within false e q v = place-behind k.records q 0 refl v (eqb-false k.marker 1 e)
 
   -- after packet `i` the place is that of the last plain record within the field
-  pub place_after_lem : (st : Checker) (i : ℕ) (answer : Result Packet) → PlaceBefore L ps st.place.known st.place i 0 → Verdict L ps i answer
-      → PlaceBefore L ps (carried st answer).place.known (carried st answer).place (suc i) 0
+  pub place_after_lem : (st : Checker) (i : ℕ) (answer : Result Packet) → PlaceBefore L ps st.place i 0 → Verdict L ps i answer
+      → PlaceBefore L ps (carried st answer).place (suc i) 0
   place_after_lem st i (Err x) v t =
-      past-packet L ps i 0 st.place.known st.place (λ a r p. absurd (refused-excludes L ps i x p.packet t p.sound))
+      past-packet L ps i 0 st.place (λ a r p. absurd (refused-excludes L ps i x p.packet t p.sound))
       (λ k s d. refused-excludes L ps i x k t s) v
   place_after_lem st i (Ok k) v t = place-within i k t (eqb k.marker 1) refl st.place v

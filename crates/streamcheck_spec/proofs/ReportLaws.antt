@@ -116,19 +116,19 @@ module _ (L : Layout) (broken : Bool) (ps : List (List ℕ)) where
   within i finding.Raster h = inl (sound-within i h.1.here.packet h.1.here.sound)
 
   -- one packet: its findings are the rules that it breaks
-  module _ (st : Checker) (i : ℕ) (b : i < length ps) (n : KnownBefore L ps st.known st i)
-      (v : PlaceBefore L ps st.place.known st.place i 0) where
+  module _ (st : Checker) (i : ℕ) (b : i < length ps) (n : KnownBefore L ps st.last i)
+      (v : PlaceBefore L ps st.place i 0) where
     found-broken : (answer : Result Packet) → Verdict L ps i answer → (x : Finding) → Memᴰ x (findings_of st answer) → Breaks L ps broken i x
     found-broken (Err y) t x m =
         subst (Breaks L ps broken i) (sym (Memᴰ.eq_of_singleton m)) t
-    found-broken (Ok k) t x m = go x (chosen_is (is_gap st k) (is_change st k) (is_reserved k) (descends st.place k.records) x m)
+    found-broken (Ok k) t x m = go x (chosen_is (is_gap st.last k) (is_change st.last k) (is_reserved k) (descends st.place k.records) x m)
       where
-        go : (x : Finding) → Chosen (is_gap st k) (is_change st k) (is_reserved k) (descends st.place k.records) x → Breaks L ps broken i x
+        go : (x : Finding) → Chosen (is_gap st.last k) (is_change st.last k) (is_reserved k) (descends st.place k.records) x → Breaks L ps broken i x
         go (finding.Refused y) h = absurd h
         go finding.Cut h = absurd h
-        go finding.Number h = (gap-iff L ps st i k t n).0 h
-        go finding.Change h = (change-iff L ps st i k t n).0 h
-        go finding.Reserved h = (reserved-iff L ps st i k t).0 h
+        go finding.Number h = (gap-iff L ps i k t st.last n).0 h
+        go finding.Change h = (change-iff L ps i k t st.last n).0 h
+        go finding.Reserved h = (reserved-iff L ps i k t).0 h
         go finding.Raster h = (raster-iff L ps i k t st.place v).0 h
 
     broken-found : (answer : Result Packet) → Verdict L ps i answer → (x : Finding) → Breaks L ps broken i x → Memᴰ x (findings_of st answer)
@@ -138,14 +138,14 @@ module _ (L : Layout) (broken : Bool) (ps : List (List ℕ)) where
     broken-found (Err y) t finding.Change h = absurd (refused-excludes L ps i y h.here t h.pair.sound)
     broken-found (Err y) t finding.Reserved h = absurd (refused-excludes L ps i y h.here t h.sound)
     broken-found (Err y) t finding.Raster h = absurd (refused-excludes L ps i y h.1.here.packet t h.1.here.sound)
-    broken-found (Ok k) t x h = is-chosen (is_gap st k) (is_change st k) (is_reserved k) (descends st.place k.records) x (go x h)
+    broken-found (Ok k) t x h = is-chosen (is_gap st.last k) (is_change st.last k) (is_reserved k) (descends st.place k.records) x (go x h)
       where
-        go : (x : Finding) → Breaks L ps broken i x → Chosen (is_gap st k) (is_change st k) (is_reserved k) (descends st.place k.records) x
+        go : (x : Finding) → Breaks L ps broken i x → Chosen (is_gap st.last k) (is_change st.last k) (is_reserved k) (descends st.place k.records) x
         go (finding.Refused y) h = absurd (refused-excludes L ps i y k h t)
         go finding.Cut h = let e = h.1 in absurd (omega arith)
-        go finding.Number h = (gap-iff L ps st i k t n).1 h
-        go finding.Change h = (change-iff L ps st i k t n).1 h
-        go finding.Reserved h = (reserved-iff L ps st i k t).1 h
+        go finding.Number h = (gap-iff L ps i k t st.last n).1 h
+        go finding.Change h = (change-iff L ps i k t st.last n).1 h
+        go finding.Reserved h = (reserved-iff L ps i k t).1 h
         go finding.Raster h = (raster-iff L ps i k t st.place v).1 h
 
   -- the end: a frame that is cut
@@ -165,8 +165,8 @@ module _ (L : Layout) (broken : Bool) (ps : List (List ℕ)) where
   )
 
   -- the packets that are left
-  from-iff : (rest : List (List ℕ)) (i : ℕ) (st : Checker) → i ≤ length ps → drop i ps ≡ rest → KnownBefore L ps st.known st i
-      → PlaceBefore L ps st.place.known st.place i 0 → (j : ℕ) (x : Finding)
+  from-iff : (rest : List (List ℕ)) (i : ℕ) (st : Checker) → i ≤ length ps → drop i ps ≡ rest → KnownBefore L ps st.last i
+      → PlaceBefore L ps st.place i 0 → (j : ℕ) (x : Finding)
       → Memᴰ (j, x) (report_from L broken i st rest) ↔ ((i ≤ j) × Breaks L ps broken j x)
   unfolding report_from
   from-iff [] i st b e n v j x = let a = at_none ps i e in end-iff broken refl i (omega arith) j x
@@ -218,8 +218,8 @@ packet-increases : (i : ℕ) (st : Checker) (answer : Result Packet) → Increas
 packet-increases i st (Err x) = entries-increase i 0 (finding.Refused x ∷ []) (omega arith, tt)
 packet-increases i st (Ok k) =
     entries-increase i 0 (findings_of st (Ok k))
-    (ranks-only (is_gap st k) finding.Number _ 0 (omega arith)
-    (ranks-only (is_change st k) finding.Change _ 2 (omega arith)
+    (ranks-only (is_gap st.last k) finding.Number _ 0 (omega arith)
+    (ranks-only (is_change st.last k) finding.Change _ 2 (omega arith)
     (ranks-only (is_reserved k) finding.Reserved _ 3 (omega arith)
     (last (descends st.place k.records)))))
   where

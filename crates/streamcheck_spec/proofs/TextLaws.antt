@@ -9,7 +9,6 @@ use native.Mathlib.Omega.{arith}
 use lib.Dec.{eqb}
 use lib.ListN.{get_or, drop}
 use Rattle.wire_spec.specs.declared.refusal.Refusal.{Refusal}
-use Rattle.wire_spec.specs.Anc.{Each}
 use Rattle.text.specs.Text.{ascii, decimal}
 use Rattle.text_laws.specs.Lines.{Ended}
 use Rattle.text_laws.proofs.DecimalLaws.{Fits, number-apart}

@@ -1,6 +1,6 @@
 -- The checker as the code has it: a packet's records one by one, and then the packet.
 use Rattle.streamcheck_spec.specs.declared.checker.Findings.{Findings}
-use Rattle.std.specs.Prelude.{Bool, true, false, cond, not, ◌&&◌, ◌||◌, List, [], ◌∷◌, ◌++◌, ℕ, eqb}
+use Rattle.std.specs.Prelude.{Bool, true, false, cond, not, ◌&&◌, ◌||◌, List, [], ◌∷◌, ◌++◌, ℕ, eqb, Option, Some, None}
 use Rattle.wire_spec.specs.Layout.{Layout}
 use Rattle.wire_spec.specs.Result.{Result, Err, Ok}
 use Rattle.wire_spec.specs.Anc.{Record}
@@ -23,7 +23,7 @@ use Rattle.streamcheck_spec.specs.Rules.{following}
 use Rattle.streamcheck_spec.specs.Check.{is_lower, is_reserved, place_at, place_within, only_if}
 
 -- before a packet's records
-abbrev pub scan_of : Place → Scan
+abbrev pub scan_of : Option Place → Scan
 scan_of q = record { descends = false; place = q }
 
 -- past a record at a plain place
@@ -59,19 +59,23 @@ past_list s (Err x) = s
 past_list s (Ok rs) = past_all s rs
 
 -- "number not the next"
-abbrev pub gap_in : Checker → (number : ℕ) → Bool
-gap_in st number = st.known && not (eqb number (following st.number.0))
+abbrev pub gap_in : Option Head → (number : ℕ) → Bool
+gap_in None number = false
+gap_in (Some h) number = not (eqb number (following h.number.0))
 
 -- "timestamp or F changed before a mark"
-abbrev pub change_in : Checker → (timestamp f : ℕ) → Bool
-change_in st timestamp f = st.known && (not st.marked && (not (eqb timestamp st.timestamp.0) || not (eqb f st.f)))
+abbrev pub change_in : Option Head → (timestamp f : ℕ) → Bool
+change_in None timestamp f = false
+change_in (Some h) timestamp f = not h.marker && (not (eqb timestamp h.timestamp.0) || not (eqb f h.f))
 
 -- 30 and 31: the source and the type are those of the first accepted packet, where one is known
-abbrev pub source_in : Checker → (source : ℕ) → Bool
-source_in st source = not st.known || eqb source st.source
+abbrev pub source_in : Option Head → (source : ℕ) → Bool
+source_in None source = true
+source_in (Some h) source = eqb source h.source
 
-abbrev pub type_in : Checker → (type : ℕ) → Bool
-type_in st type = not st.known || eqb type st.payload_type
+abbrev pub type_in : Option Head → (type : ℕ) → Bool
+type_in None type = true
+type_in (Some h) type = eqb type h.payload_type
 
 abbrev pub refused_step : Checker → ℕ → Step
 refused_step st number = record { checker = st; outcome = Err (record { number = number; index = 0 }) }
@@ -80,22 +84,12 @@ refused_step st number = record { checker = st; outcome = Err (record { number =
 unfoldable pub sound_step : Checker → Head → (reserved : Bool) → Scan → Step
 sound_step st h reserved s =
     record {
-      checker =
-          record {
-            known = true;
-            source = h.source;
-            payload_type = h.payload_type;
-            number = h.number;
-            timestamp = h.timestamp;
-            f = h.f;
-            marked = h.marker;
-            place = place_within h.marker s.place;
-          };
+      checker = record { last = Some h; place = place_within h.marker s.place };
       outcome =
           Ok
           (record {
-            number = gap_in st h.number.0;
-            change = change_in st h.timestamp.0 h.f;
+            number = gap_in st.last h.number.0;
+            change = change_in st.last h.timestamp.0 h.f;
             reserved = reserved;
             raster = s.descends;
           });
@@ -104,7 +98,7 @@ sound_step st h reserved s =
 -- an accepted packet
 unfoldable pub step_of : Checker → Head → (reserved : Bool) → Scan → Step
 step_of st h reserved s =
-    cond (source_in st h.source) (cond (type_in st h.payload_type) (sound_step st h reserved s) (refused_step st 31)) (refused_step st 30)
+    cond (source_in st.last h.source) (cond (type_in st.last h.payload_type) (sound_step st h reserved s) (refused_step st 31)) (refused_step st 30)
 
 -- the findings that an outcome stands for
 abbrev pub findings_in : Result Findings → List Finding

@@ -1,19 +1,14 @@
 // What is carried from packet to packet, and what a packet shows.
 use crate::place::Place;
-use wire_spec::number::{PacketNumber, Timestamp};
+use rtp_strict_reader::packet::Head;
 use wire_spec::refusal::Refusal;
 
-// The last packet that was not refused. Its source and payload type are those of the first accepted. None known, the numbers are 0.
+// The last packet that was not refused, if there is one: its source and payload type are those of the first accepted. And the last plain place
+// within the field.
 #[derive(Clone, Copy)]
 pub struct Checker {
-    pub known: bool,
-    pub source: u32,
-    pub payload_type: u8,
-    pub number: PacketNumber,
-    pub timestamp: Timestamp,
-    pub f: u8,
-    pub marked: bool,
-    pub place: Place,
+    pub last: Option<Head>,
+    pub place: Option<Place>,
 }
 
 // What a packet that is not refused breaks.
