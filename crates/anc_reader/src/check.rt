@@ -19,7 +19,7 @@ use wire_spec::layout::{
 use wire_spec::refusal::{Refusal, refuse_at};
 use wire_words::checksum::checksum_word;
 use wire_words::octet::quad_at;
-use wire_words::table::{HeaderWords, header_words};
+use wire_words::table::HeaderWords;
 use wire_words::word::fetch;
 
 // What a run of packets is: the octets that it takes, and the cells that its records take.
@@ -148,7 +148,7 @@ fn check_packet(
 pub fn check_run(layout: Layout, octets: &[u8], count: usize) -> Result<Run, Refusal>
     ensures { result ≡ run_of layout (read_run layout 0 count octets.now) }
 {
-    let table = header_words();
+    let table = HeaderWords::new();
     let mut rest = octets;
     let mut used = OctetCount(0);
     let mut cells: usize = 0;

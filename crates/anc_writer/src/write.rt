@@ -18,7 +18,7 @@ use wire_row_writer::sum::sum_cells;
 use wire_spec::count::WordCount;
 use wire_spec::layout::{DRAFT_WORDS_AT, Layout, WORD_BITS, WORDS_AT};
 use wire_words::checksum::checksum_word;
-use wire_words::table::{HeaderWords, header_words};
+use wire_words::table::HeaderWords;
 use wire_words::word::store;
 
 // Clears the last four octets of a packet, where its alignment bits stand.
@@ -85,7 +85,7 @@ pub fn write_run(layout: Layout, cells: &[u16], octets: &mut [u8])
     requires { IsAccepted (read_list cells.now) × (length (list_octets layout (read_list cells.now)) ≤ length octets.old) }
     ensures { octets.new ≡ overwrite (list_octets layout (read_list cells.now)) octets.old }
 {
-    let table = header_words();
+    let table = HeaderWords::new();
     let mut rest = cells;
     let mut to: usize = 0;
     // Kept as a while: how many cells a turn takes is read from them.

@@ -15,7 +15,7 @@ use wire_spec::layout::{
 };
 use wire_spec::refusal::{Refusal, refuse_at};
 use wire_words::checksum::checksum_word;
-use wire_words::table::{HeaderWords, header_words};
+use wire_words::table::HeaderWords;
 
 // Words of the flag, those that a packet has behind it beside its user data words, and both.
 pub const FLAG_WORDS: usize = 3;
@@ -101,7 +101,7 @@ fn check_packet(words: &[u16], index: usize, table: &HeaderWords) -> Result<usiz
 pub fn check_packets(words: &[u16]) -> Result<Found, Refusal>
     ensures { (P : Position) → result ≡ found_of (packets_in P words.now) }
 {
-    let table = header_words();
+    let table = HeaderWords::new();
     let mut rest = words;
     let mut count: usize = 0;
     let mut used: usize = 0;

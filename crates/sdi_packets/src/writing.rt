@@ -13,7 +13,7 @@ use anc_record::header::Header;
 use sdi_check::check::PACKET_WORDS;
 use wire_row_writer::sum::sum_cells;
 use wire_words::checksum::checksum_word;
-use wire_words::table::{HeaderWords, header_words};
+use wire_words::table::HeaderWords;
 
 // Writes the flag, DID, SDID and Data_Count.
 fn put_front(did: u8, sdid: u8, n: u8, words: &mut [u16], table: &HeaderWords)
@@ -57,7 +57,7 @@ pub fn write_packets(cells: &[u16], words: &mut [u16])
     requires { IsAccepted (read_list cells.now) × (length (list_stretch (read_list cells.now)) ≤ length words.old) }
     ensures { words.new ≡ overwrite (list_stretch (read_list cells.now)) words.old }
 {
-    let table = header_words();
+    let table = HeaderWords::new();
     let mut rest = cells;
     let mut to: usize = 0;
     // Kept as a while: how many cells a turn takes is read from them.

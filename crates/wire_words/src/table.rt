@@ -28,22 +28,28 @@ const HEADER_WORDS: [u16; 256] = [
     0x1F7, 0x1F8, 0x2F9, 0x2FA, 0x1FB, 0x2FC, 0x1FD, 0x1FE, 0x2FF,
 ];
 
+pub fn header_words() -> [u16; 256]
+    ensures { HeaderTable result }
+{
+    HEADER_WORDS
+}
+
 // The table, for a caller to lend down: each function that reads a constant array copies it.
-#[derive(Drop)]
+#[derive(Clone, Copy)]
 pub struct HeaderWords {
     words: [u16; 256],
     ghost rule: { HeaderTable words },
 }
 
-pub fn header_words() -> HeaderWords
-    ensures { HeaderTable result.words }
-{
-    HeaderWords {
-        words: HEADER_WORDS,
-    }
-}
-
 impl HeaderWords {
+    pub fn new() -> HeaderWords
+        ensures { HeaderTable result.words }
+    {
+        HeaderWords {
+            words: header_words(),
+        }
+    }
+
     // The word that carries a number.
     pub fn of(&self, x: u8) -> u16
         ensures { result ≡ header_word x }

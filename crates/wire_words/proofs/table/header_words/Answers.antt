@@ -5,6 +5,6 @@ use Rattle.wire_spec.specs.Words.{header_word}
 use Rattle.wire_words.proofs.TableRule.{table-rule}
 use Rattle.wire_words.proofs.table.header_words.Goals as goal
 
-pub invariant_of-result : goal.invariant_of-result
+pub returns : goal.returns
 unfolding header_word
-invariant_of-result c = record { rule = table-rule _ refl refl }
+returns c = table-rule _ refl refl
