@@ -29,6 +29,16 @@ fn put_head(words: &[u16], position: Position, cells: &mut [u16])
     cells[Header::INDEX_CELL] = READ_INDEX;
 }
 
+// Makes `to` the same as `from`. By word: `copy_from_slice` would want `memmove` of whoever links the C library.
+pub(crate) fn copy(from: &[u16], to: &mut [u16])
+    requires { length from.now ≡ length to.old }
+    ensures { to.new ≡ from.now }
+{
+    for (k, word) in from.iter().enumerate() {
+        to[k] = *word;
+    }
+}
+
 // Writes the record of the packet whose words behind the flag stand at the front; its Data_Count.
 fn read_packet(words: &[u16], position: Position, cells: &mut [u16]) -> usize
     requires { (4 + line_count words.now ≤ length words.now) × (head_cells + line_count words.now ≤ length cells.old) }
@@ -37,7 +47,10 @@ fn read_packet(words: &[u16], position: Position, cells: &mut [u16]) -> usize
 {
     let n = data_count(words);
     put_head(words, position, cells);
-    cells[Header::CELLS..Header::CELLS + n].copy_from_slice(&words[3..3 + n]);
+    copy(
+        &words[3..3 + n],
+        &mut cells[Header::CELLS..Header::CELLS + n],
+    );
     n
 }
 

@@ -9,6 +9,7 @@ ghost use Rattle.wire_spec.specs.Words.{header_numbers};
 ghost use Rattle.sdi_spec.specs.Passes.{front_of, list_stretch, summed_at};
 ghost use Rattle.sdi_spec.specs.Packets.{packet_words};
 
+use crate::reading::copy;
 use anc_record::header::Header;
 use sdi_check::check::PACKET_WORDS;
 use wire_row_writer::sum::sum_cells;
@@ -47,7 +48,10 @@ fn write_packet(cells: &[u16], words: &mut [u16], table: &HeaderWords) -> usize
 {
     let n = cells[Header::COUNT_CELL] as usize;
     put_front(cells[5] as u8, cells[6] as u8, n as u8, words, table);
-    words[6..6 + n].copy_from_slice(&cells[Header::CELLS..Header::CELLS + n]);
+    copy(
+        &cells[Header::CELLS..Header::CELLS + n],
+        &mut words[6..6 + n],
+    );
     put_checksum(n, words);
     n
 }

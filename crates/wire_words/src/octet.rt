@@ -60,10 +60,12 @@ pub fn quad_at(octets: &[u8], at: usize) -> u32
     reversed(back_at(octets, at))
 }
 
-// Writes all of `from` to the first octets of `to`.
+// Writes all of `from` to the first octets of `to`. By octet: `copy_from_slice` would want `memmove` of whoever links the C library.
 pub fn copy(from: &[u8], to: &mut [u8])
     requires { length from.now ≤ length to.old }
     ensures { to.new ≡ overwrite from.now to.old }
 {
-    to[..from.len()].copy_from_slice(from);
+    for (k, octet) in from.iter().enumerate() {
+        to[k] = *octet;
+    }
 }

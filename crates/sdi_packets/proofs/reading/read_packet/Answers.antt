@@ -14,8 +14,8 @@ returns-clause-cells_after c = let t = c.args.words.now in
     let old = c.args.cells.now in
     let n = c.data_count-n.result in
     let head = c.put_head.new.cells in
-    let words : c.copy_from_slice.new.self ≡ user_words t =
-    c.copy_from_slice.ensures.after ∙ ap (λ (m : ℕ). take m (drop 3 t)) (let k : 3 + n - 3 ≡ n = omega arith in k ∙ c.data_count-n.ensures) in
+    let words : c.copy.new.to ≡ user_words t =
+    c.copy.ensures ∙ ap (λ (m : ℕ). take m (drop 3 t)) (let k : 3 + n - 3 ≡ n = omega arith in k ∙ c.data_count-n.ensures) in
     let long : 9 + n - 9 ≡ n = omega arith in
     (λ i. put_mid 9 (long i) head (words i))
     ∙ two-parts old head (head_of c.args.position t) (user_words t) head_cells n refl (length-user t c.requires.0 ∙ sym c.data_count-n.ensures) c.put_head.ensures

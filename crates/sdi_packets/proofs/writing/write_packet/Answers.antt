@@ -32,10 +32,10 @@ returns-clause-words_after c = let l = c.args.cells.now in
     let old = c.args.words.now in
     let front = c.put_front.new.words in
     let r = cell_record l in
-    let user : c.copy_from_slice.new.self ≡ r.words =
-    c.copy_from_slice.ensures.after ∙ ap (λ (m : ℕ). take m (drop head_cells l)) (let k : head_cells + n - head_cells ≡ n = omega arith in k) ∙ sym g.words in
+    let user : c.copy.new.to ≡ r.words =
+    c.copy.ensures ∙ ap (λ (m : ℕ). take m (drop head_cells l)) (let k : head_cells + n - head_cells ≡ n = omega arith in k) ∙ sym g.words in
     let long : 6 + n - 6 ≡ n = omega arith in
     let start : front ≡ overwrite (front_of r.did r.sdid (length r.words)) old = c.put_front.ensures ∙ ap (λ (x : List ℕ). overwrite x old) g.front in
     let both = (λ i. put_mid 6 (long i) front (user i)) ∙ two-parts old front (front_of r.did r.sdid (length r.words)) r.words 6 n refl g.long start in
-    packet-written r old (put_mid 6 (6 + n - 6) front c.copy_from_slice.new.self) c.put_checksum.new.words both
-    (c.put_checksum.ensures ∙ ap (λ (m : ℕ). summed_at m (put_mid 6 (6 + n - 6) front c.copy_from_slice.new.self)) (sym g.long))
+    packet-written r old (put_mid 6 (6 + n - 6) front c.copy.new.to) c.put_checksum.new.words both
+    (c.put_checksum.ensures ∙ ap (λ (m : ℕ). summed_at m (put_mid 6 (6 + n - 6) front c.copy.new.to)) (sym g.long))
