@@ -13,7 +13,7 @@ use fielddiff_turn::{
 };
 use program::progress::{is_watched, show};
 use program::streams::{Sink, Source};
-use program_arguments::failures::{fail_to_read, fail_to_write};
+use program_arguments::failures::{fail_to_read, fail_to_write, told_reason};
 use std::io::Stderr;
 use wire_spec::limit::MAX_FIELD_CELLS;
 
@@ -81,11 +81,8 @@ pub fn turn(
 
 // `failed` lasts for one turn, so that a read that failed is reported once.
 fn report_read(err: Stderr, side: Side, name: &[u8], from: &Source) {
-    if !side.failed {
-        return;
-    }
-    if let Some(reason) = from.reason() {
-        fail_to_read(err, b"fielddiff", name, reason);
+    if side.failed {
+        fail_to_read(err, b"fielddiff", name, told_reason(from.reason()));
     }
 }
 
@@ -199,10 +196,7 @@ pub fn compare(
         &mut rstore,
         &mut out,
     );
-    if after.filled == 0 {
-        return;
-    }
-    if let Some(reason) = to.reason() {
-        fail_to_write(rt.stderr(), b"fielddiff", b"", reason);
+    if after.filled > 0 {
+        fail_to_write(rt.stderr(), b"fielddiff", b"", told_reason(to.reason()));
     }
 }

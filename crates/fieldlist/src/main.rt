@@ -91,13 +91,12 @@ fn main(rt: HostRuntime) {
     let mut to = Sink::standard(rt.stdout());
     let mut name = [0u8; WORD_ROOM];
     let length = word_at(rt, at, &mut name);
-    if let Some(failure) = list_file(rt, layout, &mut from, &mut to) {
-        let ends = Ends {
-            source: &from,
-            input: &name[..length],
-            sink: &to,
-            output: b"",
-        };
-        report_failure(rt.stderr(), b"fieldlist", failure, ends);
-    }
+    let failure = list_file(rt, layout, &mut from, &mut to);
+    let ends = Ends {
+        source: &from,
+        input: &name[..length],
+        sink: &to,
+        output: b"",
+    };
+    report_failure(rt.stderr(), b"fieldlist", failure, ends);
 }

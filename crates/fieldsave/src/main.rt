@@ -109,15 +109,14 @@ fn save(rt: HostRuntime, layout: Layout, mut from: Source, mut to: Sink) {
     let length = word_at(rt, at, &mut name);
     let mut new_name = [0u8; WORD_ROOM];
     let new_length = word_at(rt, at + 1, &mut new_name);
-    if let Some(failure) = file_frames(rt, layout, &mut from, &mut to) {
-        let ends = Ends {
-            source: &from,
-            input: &name[..length],
-            sink: &to,
-            output: &new_name[..new_length],
-        };
-        report_failure(rt.stderr(), b"fieldsave", failure, ends);
-    }
+    let failure = file_frames(rt, layout, &mut from, &mut to);
+    let ends = Ends {
+        source: &from,
+        input: &name[..length],
+        sink: &to,
+        output: &new_name[..new_length],
+    };
+    report_failure(rt.stderr(), b"fieldsave", failure, ends);
     close_file(rt.stderr(), &mut to, &new_name[..new_length]);
 }
 

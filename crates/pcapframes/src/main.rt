@@ -97,15 +97,14 @@ fn run(rt: HostRuntime, port: u16) {
     let outcome = extract_frames(rt, port, &mut from, &mut to);
     let session = outcome.session;
     let buffers = outcome.buffers;
-    if let Some(failure) = failure_of(buffers) {
-        let ends = Ends {
-            source: &from,
-            input: &name[..length],
-            sink: &to,
-            output: b"",
-        };
-        report_failure(rt.stderr(), b"pcapframes", failure, ends);
-    }
+    let failure = failure_of(buffers);
+    let ends = Ends {
+        source: &from,
+        input: &name[..length],
+        sink: &to,
+        output: b"",
+    };
+    report_failure(rt.stderr(), b"pcapframes", failure, ends);
     if is_done(buffers) {
         tell(rt.stderr(), session);
     }

@@ -129,10 +129,16 @@ impl Sink {
     }
 
     // Waits until a file's octets are stored: some file systems report only here that a write has failed.
-    pub fn store(&mut self) -> io::Result<()> {
-        match &mut self.writer {
+    pub fn store(&mut self) -> io::Result<()>
+        ensures kept { IfErr result (λ e. self.new.reason ≡ Some e) }
+    {
+        let stored = match &mut self.writer {
             Writer::Standard(_) => Ok(()),
             Writer::Named(file) => file.sync_data(),
+        };
+        if let Err(reason) = stored {
+            self.reason = Some(reason);
         }
+        stored
     }
 }

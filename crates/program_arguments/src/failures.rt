@@ -1,9 +1,15 @@
 // The messages on standard error for a file that cannot be opened, read or written: the program, the file and
 // the reason, in the C library's words.
+ghost use Rattle.std.specs.Prelude.{◌≡◌, IfNone, IfSome, Some, pos};
+ghost use Rattle.std.specs.IoError.{raw_os_error};
+
 use program::streams::{Sink, Source};
 use program_spec::buffers::Failure;
 use std::io;
 use std::io::{Cursor, Print, Stderr, Write};
+
+// The number of no error: the C library calls it "Success".
+const NO_ERROR: i32 = 0;
 
 // More octets than the text of any reason has.
 const REASON_ROOM: usize = 256;
@@ -61,6 +67,14 @@ pub fn fail_to_write(err: Stderr, program: &[u8], file: &[u8], reason: io::Error
     fail(err, program, file, reason);
 }
 
+// The reason that is told of a call that failed: the one that was kept. If none was, that is told too, so that no failure is left out.
+pub fn told_reason(kept: Option<io::Error>) -> io::Error
+    ensures kept { IfSome kept (λ e. result ≡ e) }
+    ensures none { IfNone kept (raw_os_error result ≡ Some (pos 0)) }
+{
+    kept.unwrap_or(io::Error::from_raw_os_error(NO_ERROR))
+}
+
 // What a run reads from and writes to, and the names of both.
 #[derive(Clone, Copy)]
 pub struct Ends<'a> {
@@ -70,18 +84,17 @@ pub struct Ends<'a> {
     pub output: &'a [u8],
 }
 
-// A call of a run failed: a read of what it reads from, or a write to what it writes to.
-pub fn report_failure(err: Stderr, program: &[u8], failure: Failure, ends: Ends) {
+// How a run ended: a read of what it reads from, or a write to what it writes to, failed, or neither.
+pub fn report_failure(err: Stderr, program: &[u8], failure: Option<Failure>, ends: Ends) {
     match failure {
-        Failure::Read => {
-            if let Some(reason) = ends.source.reason() {
-                fail_to_read(err, program, ends.input, reason);
-            }
+        None => {}
+        Some(Failure::Read) => {
+            let reason = told_reason(ends.source.reason());
+            fail_to_read(err, program, ends.input, reason);
         }
-        Failure::Write => {
-            if let Some(reason) = ends.sink.reason() {
-                fail_to_write(err, program, ends.output, reason);
-            }
+        Some(Failure::Write) => {
+            let reason = told_reason(ends.sink.reason());
+            fail_to_write(err, program, ends.output, reason);
         }
     }
 }

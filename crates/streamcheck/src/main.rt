@@ -102,13 +102,12 @@ fn main(rt: HostRuntime) {
     let mut to = Sink::standard(rt.stdout());
     let mut name = [0u8; WORD_ROOM];
     let length = word_at(rt, at, &mut name);
-    if let Some(failure) = check_file(rt, layout, &mut from, &mut to) {
-        let ends = Ends {
-            source: &from,
-            input: &name[..length],
-            sink: &to,
-            output: b"",
-        };
-        report_failure(rt.stderr(), b"streamcheck", failure, ends);
-    }
+    let failure = check_file(rt, layout, &mut from, &mut to);
+    let ends = Ends {
+        source: &from,
+        input: &name[..length],
+        sink: &to,
+        output: b"",
+    };
+    report_failure(rt.stderr(), b"streamcheck", failure, ends);
 }
