@@ -9,9 +9,9 @@ ghost use Rattle.fieldlist_turns.specs.Turns.{Closes, Started, octets_of, progra
 
 use fieldlist_session::session::{Session, begin, finish, list_frame};
 use program::buffers::{flush, is_done};
-use program::run::{Reply, Run, TakesItems};
+use program::run::{Run, TakesItems};
 use program::streams::Sink;
-use program_spec::buffers::Buffers;
+use program_spec::buffers::{Buffers, Step};
 use wire_spec::layout::Layout;
 use wire_spec::refusal::Refusal;
 
@@ -30,18 +30,10 @@ impl TakesItems for Listing {
 
     ghost can_take = { λ it session cells. Unit {0} };
 
-    fn take(
-        self,
-        session: Session,
-        octets: &[u8],
-        store: &mut [u16],
-        out: &mut [u8],
-    ) -> Reply<Session> {
-        let listed = list_frame(session, octets, store, out);
-        Reply {
-            session: listed.session,
-            step: listed.step,
-        }
+    fn take(self, session: &mut Session, octets: &[u8], store: &mut [u16], out: &mut [u8]) -> Step {
+        let listed = list_frame(*session, octets, store, out);
+        *session = listed.session;
+        listed.step
     }
 }
 

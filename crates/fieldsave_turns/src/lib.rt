@@ -9,7 +9,8 @@ ghost use Rattle.fieldsave_turns.specs.Turns.{Started, program};
 use fieldfile_writer::begin;
 use fieldlist_session::session::Session;
 use fieldsave_session::{file_frame, octets_of};
-use program::run::{Reply, Run, TakesItems};
+use program::run::{Run, TakesItems};
+use program_spec::buffers::Step;
 use wire_spec::layout::Layout;
 
 // `fieldsave`, which takes frames, and carries the cells of a field in the store.
@@ -27,18 +28,10 @@ impl TakesItems for Filing {
 
     ghost can_take = { λ it session cells. Unit {0} };
 
-    fn take(
-        self,
-        session: Session,
-        octets: &[u8],
-        store: &mut [u16],
-        out: &mut [u8],
-    ) -> Reply<Session> {
-        let filed = file_frame(session, octets, store, out);
-        Reply {
-            session: filed.session,
-            step: filed.step,
-        }
+    fn take(self, session: &mut Session, octets: &[u8], store: &mut [u16], out: &mut [u8]) -> Step {
+        let filed = file_frame(*session, octets, store, out);
+        *session = filed.session;
+        filed.step
     }
 }
 

@@ -8,7 +8,8 @@ ghost use Rattle.pcapframes_turns.specs.Turns.{started};
 
 use pcapframes_session::{begin, take_item};
 use pcapframes_spec::session::Session;
-use program::run::{Reply, Run, TakesItems};
+use program::run::{Run, TakesItems};
+use program_spec::buffers::Step;
 
 // `pcapframes` for this port, which takes the items of a capture, and needs no store.
 #[derive(Clone, Copy)]
@@ -29,16 +30,14 @@ impl TakesItems for Extract {
 
     fn take(
         self,
-        session: Session,
+        session: &mut Session,
         octets: &[u8],
         _store: &mut [u16],
         out: &mut [u8],
-    ) -> Reply<Session> {
-        let reply = take_item(self.port, session, octets, out);
-        Reply {
-            session: reply.session,
-            step: reply.step,
-        }
+    ) -> Step {
+        let reply = take_item(self.port, *session, octets, out);
+        *session = reply.session;
+        reply.step
     }
 }
 

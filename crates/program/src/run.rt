@@ -18,13 +18,6 @@ pub struct Run<S> {
     pub buffers: Buffers,
 }
 
-// What is answered for the item at the front, and what is then carried.
-#[derive(Clone, Copy)]
-pub struct Reply<S> {
-    pub session: S,
-    pub step: Step,
-}
-
 // A program that takes item after item from the front of its input. A store of cells is lent to it, which it
 // may carry from item to item.
 pub trait TakesItems: Copy {
@@ -42,13 +35,13 @@ pub trait TakesItems: Copy {
     // The item at the front of the octets: its text goes to the first octets of `out`.
     fn take(
         self,
-        session: Self::Session,
+        session: &mut Self::Session,
         octets: &[u8],
         store: &mut [u16],
         out: &mut [u8],
-    ) -> Reply<Self::Session>
-        requires { can_take self session store.old }
-        ensures { Answers (program self) (most self) (carried self session store.old) octets.now out.old result.step (carried self result.session store.new) out.new };
+    ) -> Step
+        requires { can_take self session.old store.old }
+        ensures { Answers (program self) (most self) (carried self session.old store.old) octets.now out.old result (carried self session.new store.new) out.new };
 }
 
 // Kept as parameters side by side: a struct of the lent parts needs a clause for each that it still lends the same octets.
@@ -58,25 +51,22 @@ pub fn turn<P: TakesItems>(
     it: P,
     from: &mut Source,
     to: &mut Sink,
-    run: Run<P::Session>,
+    run: &mut Run<P::Session>,
     input: &mut [u8],
     store: &mut [u16],
     out: &mut [u8],
-) -> Run<P::Session>
-    requires in_bounds { InBounds run.buffers (length input.old) (length out.old) }
-    requires holds { Holds (P.program it) (P.most it) (P.carried it run.session store.old) (length input.old) (length out.old) }
-    requires can_take { P.can_take it run.session store.old }
-    ensures { Turned (P.program it) (at (P.carried it run.session store.old) run.buffers input.old out.old) (at (P.carried it result.session store.new) result.buffers input.new out.new) }
+)
+    requires in_bounds { InBounds run.old.buffers (length input.old) (length out.old) }
+    requires holds { Holds (P.program it) (P.most it) (P.carried it run.old.session store.old) (length input.old) (length out.old) }
+    requires can_take { P.can_take it run.old.session store.old }
+    ensures { Turned (P.program it) (at (P.carried it run.old.session store.old) run.old.buffers input.old out.old) (at (P.carried it run.new.session store.new) run.new.buffers input.new out.new) }
 {
     let buffers = run.buffers;
     let at = buffers.at;
     let end = buffers.end;
     let filled = buffers.filled;
-    let reply = it.take(run.session, &input[at..end], store, &mut out[filled..]);
-    Run {
-        session: reply.session,
-        buffers: after_step(from, to, buffers, reply.step, input, out),
-    }
+    let step = it.take(&mut run.session, &input[at..end], store, &mut out[filled..]);
+    run.buffers = after_step(from, to, buffers, step, input, out);
 }
 
 // Turn after turn, until the input ends, nothing more is taken, a read or a write fails, or so many turns are made: a proved loop ends, and
@@ -99,7 +89,7 @@ pub fn run_on<P: TakesItems>(
 {
     let mut run = started;
     for made in 0..turns {
-        run = turn(it, from, to, run, input, store, out);
+        turn(it, from, to, &mut run, input, store, out);
         let goes_on = run.buffers.open;
         show(made + 1, goes_on, watched);
         if !goes_on {

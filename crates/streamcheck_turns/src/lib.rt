@@ -10,9 +10,9 @@ ghost use Rattle.streamcheck_lines.specs.Lines.{lines_room};
 ghost use Rattle.streamcheck_turns.specs.Turns.{octets_of, program, started};
 
 use program::buffers::{flush, is_done};
-use program::run::{Reply, Run, TakesItems};
+use program::run::{Run, TakesItems};
 use program::streams::Sink;
-use program_spec::buffers::Buffers;
+use program_spec::buffers::{Buffers, Step};
 use streamcheck_session::session::{Session, begin, check_frame, finish};
 use wire_spec::layout::Layout;
 use wire_spec::refusal::Refusal;
@@ -32,18 +32,10 @@ impl TakesItems for Check {
 
     ghost can_take = { λ it session cells. max_packet ≤ length cells };
 
-    fn take(
-        self,
-        session: Session,
-        octets: &[u8],
-        store: &mut [u16],
-        out: &mut [u8],
-    ) -> Reply<Session> {
-        let reported = check_frame(session, octets, store, out);
-        Reply {
-            session: reported.session,
-            step: reported.step,
-        }
+    fn take(self, session: &mut Session, octets: &[u8], store: &mut [u16], out: &mut [u8]) -> Step {
+        let reported = check_frame(*session, octets, store, out);
+        *session = reported.session;
+        reported.step
     }
 }
 

@@ -8,4 +8,4 @@ pub returns : goal.returns
 returns g c =
     let a = c.args in
     let t = g.P.TakesItems in
-    turned_by (t.program a.it) (at (t.carried a.it a.run.session a.store.now) a.run.buffers a.input.now a.out.now) c.requires.in_bounds (search rules) c.take-reply.ensures c.requires.holds.text c.after_step.ensures
+    turned_by (t.program a.it) (at (t.carried a.it a.run.now.session a.store.now) a.run.now.buffers a.input.now a.out.now) c.requires.in_bounds (search rules) c.take-step.ensures c.requires.holds.text c.after_step-run.ensures
