@@ -5,16 +5,19 @@ use mathlib.Core.Bool.{Bool, true, false, cond, ◌&&◌, true≢false}
 use mathlib.Core.List.{List, [], ◌∷◌, ◌++◌}
 use Prim.Native.Nat.{ℕ, zero, suc, ◌+◌, ◌<◌, ◌≤◌}
 use native.Mathlib.Omega.{arith}
-use lib.Dec.{ltb, eqb}
+use lib.Dec.{leb, ltb, eqb}
 use lib.ListN.{length, take, drop, get_or, length-drop}
 use lib.Seq.{drop-drop, get_or-drop}
-use borrow.Author.Tests.{ltb-true, lt-ltb, le-ltb, eqb-true, eqb-false, eq-eqb, ne_eqb}
+use borrow.Author.Tests.{leb-true, ltb-true, lt-ltb, le-ltb, eqb-true, eqb-false, eq-eqb, ne_eqb}
 use Rattle.std.specs.List.{list_all, prefix_len}
 use Rattle.std.specs.Cmp.Lexicographic.{pointwise}
 use Rattle.wire_spec.specs.Anc.{Each}
 use Rattle.wire_spec.proofs.ResultLaws.{and-true}
-use Rattle.sdp_spec.specs.Text.{is_name, is_value, digit_value, number, no_digit, hex_base, hex_most}
+use Rattle.sdp_spec.specs.Text.{within, is_name, is_value, digit_value, number, no_digit, hex_base, hex_most}
 use Rattle.sdp_spec.specs.Reading.{starts_with, digits, hex_behind, name_length, are_value}
+
+pub within-true : (a b o : ℕ) → within a b o ≡ true → (a ≤ o) × (o ≤ b)
+within-true a b o e = let p = and-true (leb a o) (leb o b) e in (leb-true a o p.0, leb-true o b p.1)
 
 -- WORDS
 same : (a b : ℕ) → eqb a b ≡ eqb b a
