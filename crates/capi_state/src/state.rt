@@ -13,7 +13,6 @@ const MAX_32: u64 = 0xffff_ffff;
 
 const MAX_8: u64 = 0xff;
 
-// What stands in a row: a state, or numbers that no state has.
 // Lost 0, ready 1, filling 2.
 fn phase_number(phase: Phase) -> u64
     ensures { result ≡ phase_number phase }

@@ -71,7 +71,7 @@ pub fn check(layout: Layout, octets: &[u8]) -> Result<Outline, Refusal>
     check_packets(layout, octets, header, length)
 }
 
-// Writes the cells of a packet that `check` Ok to the first cells; `index` is that of the packet within its field.
+// Writes the cells of a packet that `check` accepted to the first cells; `index` is that of the packet within its field.
 pub fn read_records(layout: Layout, octets: &[u8], outline: Outline, index: u16, cells: &mut [u16])
     requires octets_value { checked_of layout octets.now (read_content layout octets.now) ≡ Ok outline }
     requires cells_in_bounds { outline.cells ≤ length cells.old }
